@@ -1,0 +1,157 @@
+-- "Hand-worked networks": the starred rows, as one table, and the lone theorem that the definitions yield every row of it. Each is
+-- asked through the definitions that the public contracts cite, from the bytes of its network's file.
+-- Assumes nothing.
+use Prim.Native.Nat.{ℕ, zero, suc, _+_, _^_, _≤_}
+use mathlib.Core.Path.{_≡_, refl, ap, _∙_}
+use mathlib.Core.Option.{none, some}
+use mathlib.Core.List.{List, [], _∷_, _++_}
+use borrow.Author.Tests.{le-ltb}
+use native.Mathlib.Omega.{arith}
+use Rattle.lfa.specs.Lists.{countUp, below, select, anyOf, everyBelow, memberOf, flat, count, firstFailing, unless, table, cell}
+use Rattle.lfa.specs.Network.{Network, Link, link, Target, at, router, arcs, arcsFrom}
+use Rattle.lfa.specs.File.{byteAt, wordAt, partOf, allZero, blocksIn, blockOf, sumWords, checkOf, routersOf, linksOf, prefixesOf, ceil, linkBlocks, prefixBlocks, blocksNeeded, linkEntry, linkIn, prefixEntry, attachments, slotRouter, slot, prefixIn, linkOf, prefixOf, networkOf, lengthGood, checkGood, headGood, blockCountGood, laterGood, entriesIn, soundBlock, blockGood, soundLink, linkGood, joinSame, linkNew, slotGood, soundPrefix, prefixGood, slotNew, routersNew}
+use Rattle.lfa.specs.FileOf.{fileOf, blocksOf, prefixBlock, linkBlock, entriesBlock, prefixBytes, slotBytes, linkBytes, headBlock, blockBytes, pad, wordBytes}
+use Rattle.lfa.specs.Distance.{least, costOver, towards, hopCost, direct, through, stage, distances, distanceIn}
+use Rattle.lfa.specs.Walk.{isStep, leads, takers, over, overFrom, avoids, crosses}
+use Rattle.lfa.specs.Space.{Space, pSpace, extendedP, qSpace, protectedBy, protected, isFirst, firstOver, firstHops, hopRouter, inSpace, setOf, spaceOf}
+use Rattle.lfa.specs.Repair.{isEndpoint, withEndpoint, pairsOf, pairs, serves, mayCross, orElse, classOf, tunnelCost, keysOf, key, noLater, earlier, choose, pairKey, firstPair, outcomeOf, linkOutcome, prefixOutcome}
+use Rattle.lfa.specs.Route.{isStepTo, nextRouters, attachedAt, delivers, movesOf, options, choiceAt, optionTaken, playTo, playOn, routeOf}
+use Rattle.lfa.specs.Laws.Rows.{NoneApply, nothing, also, passed-over, loaded-rows}
+use Rattle.lfa.specs.Laws.Asked.{area-enough, buffer-enough}
+use Rattle.lfa.specs.Refusal.{Row, noPair, noSuchLink, noSuchPrefix, shortArea, shortBuffer, Question, Answer, refused, accepted, set, repair, played, untouched, answerTo, routePlayed, loading, askSpace, askLink, askPrefix, askRoute, networkAsked, linkAsked, prefixAsked, withDistances, linkFound, prefixFound, searched, ifNone, returned, leavesAll, entryOf, fileRows, questionRows, rowsTried, firstRow, refusalOf, refusal, routeFor, repairAnswer, routeAnswer, computed}
+
+-- ---- the networks
+
+-- the links of a ring from router i on: n of them, the last one back to router 0, all costs 1
+unfoldable pub ringFrom : ℕ → ℕ → List Link
+ringFrom i zero = []
+ringFrom i (suc zero) = link i 0 1 1 ∷ []
+ringFrom i (suc (suc n)) = link i (suc i) 1 1 ∷ ringFrom (suc i) (suc n)
+
+-- "Ring k: routers 0 to k−1, link i joins i and i+1, the last joins k−1 and 0, all costs 1."
+unfoldable pub ring : ℕ → List Target → Network
+ring k prefixes = record { routers = k; links = ringFrom 0 k; prefixes = prefixes }
+
+-- ring 4, "prefix at 1 and 2, cost 0 each"
+unfoldable pub ring4prefix : Network
+ring4prefix = ring 4 ((at 1 0 ∷ at 2 0 ∷ []) ∷ [])
+
+-- ring 5, "Prefix at 1, cost 0"
+unfoldable pub ring5prefix : Network
+ring5prefix = ring 5 ((at 1 0 ∷ []) ∷ [])
+
+-- ring 3, "With cost 2 from 2 to 1"
+unfoldable pub ring3cost2 : Network
+ring3cost2 = record { routers = 3; links = link 0 1 1 1 ∷ link 1 2 1 2 ∷ link 2 0 1 1 ∷ []; prefixes = [] }
+
+-- "Ring 4 with link 2 costing 10 both ways"
+unfoldable pub ring4cost10 : Network
+ring4cost10 = record { routers = 4; links = link 0 1 1 1 ∷ link 1 2 1 1 ∷ link 2 3 10 10 ∷ link 3 0 1 1 ∷ []; prefixes = [] }
+
+-- "Two routers, one link"
+unfoldable pub twoRouters : Network
+twoRouters = record { routers = 2; links = link 0 1 1 1 ∷ []; prefixes = [] }
+
+-- "One router alone"
+unfoldable pub oneRouter : Network
+oneRouter = record { routers = 1; links = []; prefixes = [] }
+
+-- ---- the table
+
+-- the set of some routers
+unfoldable pub members : List ℕ → ℕ
+members [] = 0
+members (r ∷ rs) = 2 ^ r + members rs
+
+-- a question about the file of a network, and the answer that document 01 works out; of a route also its routers
+pub data Worked : Type 0 where
+  asked : (question : Question) (answer : Answer) → Worked
+  route : (question : Question) (answer : Answer) (routers : List ℕ) → Worked
+
+-- the work area has 64 × 64 cells, the route buffer 128 bytes, and there are no choice bytes
+unfoldable pub starred : List Worked
+starred =
+    asked (askSpace pSpace (fileOf (ring 4 [])) 4096 0 0) (set (members (0 ∷ 3 ∷ [])))
+    ∷ asked (askSpace extendedP (fileOf (ring 4 [])) 4096 0 0) (set (members (0 ∷ 2 ∷ 3 ∷ [])))
+    ∷ asked (askSpace qSpace (fileOf (ring 4 [])) 4096 0 0) (set (members (1 ∷ 2 ∷ [])))
+    ∷ asked (askLink (fileOf (ring 4 [])) 4096 0 0) (repair 3 2 3 2)
+    ∷ asked (askPrefix (fileOf ring4prefix) 4096 0 0 0) (repair 3 3 1 1)
+    ∷ route (askRoute (fileOf ring4prefix) 4096 128 0 0 0 []) (played 3) (0 ∷ 3 ∷ 2 ∷ [])
+    ∷ asked (askPrefix (fileOf ring4prefix) 4096 1 1 0) untouched
+    ∷ asked (askLink (fileOf (ring 5 [])) 4096 0 0) (repair 4 2 3 3)
+    ∷ route (askRoute (fileOf ring5prefix) 4096 128 0 0 0 []) (played 5) (0 ∷ 4 ∷ 3 ∷ 2 ∷ 1 ∷ [])
+    ∷ asked (askLink (fileOf (ring 3 [])) 4096 0 0) (repair 2 2 1 1)
+    ∷ asked (askLink (fileOf ring3cost2) 4096 0 0) (refused 14 0)
+    ∷ asked (askLink (fileOf ring4cost10) 4096 0 0) (refused 14 0)
+    ∷ asked (askLink (fileOf twoRouters) 4096 0 0) (refused 14 0)
+    ∷ asked (loading (fileOf oneRouter)) accepted
+    ∷ []
+
+-- what the definitions answer to the question of a row, in the row's form
+unfoldable pub yielded : Worked → Worked
+yielded (asked q a) = asked q (answerTo q)
+yielded (route q a rs) = route q (answerTo q) (routePlayed q)
+
+unfoldable pub yieldedAll : List Worked → List Worked
+yieldedAll [] = []
+yieldedAll (w ∷ ws) = yielded w ∷ yieldedAll ws
+
+-- to unfold this is to unfold every definition that an answer rests on
+unfoldable opened : Unit {0}
+unfolding countUp below select anyOf everyBelow memberOf flat count firstFailing unless table cell router arcs arcsFrom byteAt wordAt partOf allZero blocksIn blockOf sumWords checkOf routersOf linksOf prefixesOf ceil linkBlocks prefixBlocks blocksNeeded linkEntry linkIn prefixEntry attachments slotRouter slot prefixIn linkOf prefixOf networkOf lengthGood checkGood headGood blockCountGood laterGood entriesIn soundBlock blockGood soundLink linkGood joinSame linkNew slotGood soundPrefix prefixGood slotNew routersNew fileOf blocksOf prefixBlock linkBlock entriesBlock prefixBytes slotBytes linkBytes headBlock blockBytes pad wordBytes least costOver towards hopCost direct through stage distances distanceIn isStep leads takers over overFrom avoids crosses protectedBy protected isFirst firstOver firstHops hopRouter inSpace setOf spaceOf isEndpoint withEndpoint pairsOf pairs serves mayCross orElse classOf tunnelCost keysOf key noLater earlier choose pairKey firstPair outcomeOf linkOutcome prefixOutcome isStepTo nextRouters attachedAt delivers movesOf options choiceAt optionTaken playTo playOn routeOf answerTo routePlayed loading askSpace askLink askPrefix askRoute networkAsked linkAsked prefixAsked withDistances linkFound prefixFound searched ifNone returned leavesAll entryOf fileRows questionRows rowsTried firstRow refusalOf refusal routeFor repairAnswer routeAnswer computed
+opened = tt
+
+-- every row but the last
+rows-yielded : yieldedAll starred ≡ starred
+unfolding opened ringFrom ring ring4prefix ring5prefix ring3cost2 ring4cost10 twoRouters oneRouter members starred yielded yieldedAll
+rows-yielded = refl
+
+-- ---- "One router alone: accepted; any link question 12, value 0."
+
+lone-loaded : refusalOf (loading (fileOf oneRouter)) ≡ none
+unfolding opened oneRouter
+lone-loaded = refl
+
+lone-counts : (routersOf (fileOf oneRouter) ≡ 1) × (linksOf (fileOf oneRouter) ≡ 0)
+unfolding opened oneRouter
+lone-counts = (refl, refl)
+
+-- a question about the lone router: where the rows before row 12 do not apply, row 12 does
+module _ (q : Question) (about : q .file ≡ fileOf oneRouter) where
+  area-passes : 1 ≤ q .area → returned q shortArea ≡ none
+  area-passes h = area-enough q (rw (ap routersOf about ∙ lone-counts .0) (omega arith))
+
+  buffer-passes : 2 ≤ q .buffer → returned q shortBuffer ≡ none
+  buffer-passes h = buffer-enough q (rw (ap routersOf about ∙ lone-counts .0) (omega arith))
+
+  no-link : returned q noSuchLink ≡ some 0
+  unfolding returned unless
+  no-link = rw (ap linksOf about ∙ lone-counts .1) (rw (le-ltb (q .link) 0 (omega arith)))
+
+  lone-refused : {before : List Row} (after : List Row) → NoneApply (returned q) before → questionRows (q .call) ≡ before ++ noSuchLink ∷ after → answerTo q ≡ refused 12 0
+  unfolding answerTo refusal entryOf leavesAll firstRow
+  lone-refused after passed e =
+      rw (loaded-rows q (rw about lone-loaded), answerTo) (rw (e, passed-over (returned q) (noSuchLink ∷ after) passed) (rw (no-link, firstRow)))
+
+-- ---- the lone theorem
+
+-- The definitions yield every starred row: those of the table by computing them, and those of the lone router for every link, end,
+-- prefix and call, since row 12 is the first that applies where there is no link.
+pub record Yielded : Type 0 where
+  pub rows : yieldedAll starred ≡ starred
+  pub lone-space : (s : Space) (area l e : ℕ) → 1 ≤ area → answerTo (askSpace s (fileOf oneRouter) area l e) ≡ refused 12 0
+  pub lone-link : (area l e : ℕ) → 1 ≤ area → answerTo (askLink (fileOf oneRouter) area l e) ≡ refused 12 0
+  pub lone-prefix : (area l e p : ℕ) → 1 ≤ area → answerTo (askPrefix (fileOf oneRouter) area l e p) ≡ refused 12 0
+  pub lone-route : (area buffer l e p : ℕ) (choices : List ℕ) → 1 ≤ area → 2 ≤ buffer → answerTo (askRoute (fileOf oneRouter) area buffer l e p choices) ≡ refused 12 0
+
+pub hand-worked : Yielded
+unfolding askSpace askLink askPrefix askRoute questionRows
+hand-worked = record {
+  rows = rows-yielded;
+  lone-space = λ s area l e h. let q = askSpace s (fileOf oneRouter) area l e in lone-refused q refl [] (also (area-passes q refl h) nothing) refl;
+  lone-link = λ area l e h. let q = askLink (fileOf oneRouter) area l e in lone-refused q refl (noPair ∷ []) (also (area-passes q refl h) nothing) refl;
+  lone-prefix = λ area l e p h. let q = askPrefix (fileOf oneRouter) area l e p in lone-refused q refl (noSuchPrefix ∷ noPair ∷ []) (also (area-passes q refl h) nothing) refl;
+  lone-route = λ area buffer l e p choices h k.
+      let q = askRoute (fileOf oneRouter) area buffer l e p choices in
+      lone-refused q refl (noSuchPrefix ∷ noPair ∷ []) (also (area-passes q refl h) (also (buffer-passes q refl k) nothing)) refl;
+}

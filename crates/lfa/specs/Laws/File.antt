@@ -1,0 +1,13 @@
+pub mod Passes
+pub mod RowFacts
+pub mod Parts
+pub mod Within
+pub mod Blocks
+pub mod ReadBack
+pub mod Bytes
+pub mod WrittenBlock
+pub mod WrittenEntry
+pub mod WrittenBlocks
+pub mod WrittenFile
+pub mod WrittenRows
+pub mod Written

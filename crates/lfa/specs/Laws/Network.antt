@@ -1,0 +1,104 @@
+-- The arcs of a network within the limits are sound, its distances are least path costs, and the arcs over a link are its two
+-- directions. Nothing here uses that two links may not join the same routers.
+-- Assumes nothing.
+use Prim.Native.Nat.{ℕ, zero, suc, _+_, _≤_, _<_}
+use mathlib.Core.Path.{_≡_, refl, ap, _∙_, subst}
+use mathlib.Core.Logic.{_⊎_, inl, inr, ⊎-swap}
+use mathlib.Core.List.{List, [], _∷_, List·Memᴰ, List·Memᴰ·head, List·Memᴰ·tail, List·Memᴰ·cases-cons, List·Memᴰ·not-nil, Memᴰ·cast}
+use native.Mathlib.Omega.{arith}
+use native.Mathlib.Nat.{zero-add, add-zero, le-of-suc-le-suc, not-suc-le-zero}
+use lib.ListN.{getD, length}
+use Rattle.lfa.specs.Network.{Link, link, arc, Network, arcsFrom, arcs}
+use Rattle.lfa.specs.FileOf.{WithinLimits}
+use Rattle.lfa.specs.Distance.{LeastCosts, distances, distanceIn, towards}
+use Rattle.lfa.specs.Space.{protectedBy, protected}
+use Rattle.lfa.specs.Laws.Arrive.{distance-falls}
+use Rattle.lfa.specs.Laws.Bound.{Sound}
+use Rattle.lfa.specs.Laws.Avoid.{Named}
+use Rattle.lfa.specs.Laws.Distance.{distances-least}
+
+-- an arc is one direction of a link
+abbrev pub Direction : Link → ℕ → ℕ → ℕ → Type 0
+Direction (link a b ab ba) u v c = ((u ≡ a) × (v ≡ b) × (c ≡ ab)) ⊎ ((u ≡ b) × (v ≡ a) × (c ≡ ba))
+
+-- an arc over link k is a direction of the link number k
+pub arcs-give : (i : ℕ) (links : List Link) {u v c k : ℕ} → List·Memᴰ (arc u v c k) (arcsFrom i links) →
+    (j : ℕ) × (k ≡ i + j) × (j < length links) × List·Memᴰ (getD links j (link 0 0 0 0)) links × Direction (getD links j (link 0 0 0 0)) u v c
+unfolding arcsFrom
+arcs-give i [] m = absurd (List·Memᴰ·not-nil m)
+arcs-give i (link a b ab ba ∷ links) {u} {v} {c} {k} m = go (arcs-give (suc i) links) (List·Memᴰ·cases-cons m)
+  where
+    Found : ℕ → List Link → Type 0
+    Found i links = (j : ℕ) × (k ≡ i + j) × (j < length links) × List·Memᴰ (getD links j (link 0 0 0 0)) links × Direction (getD links j (link 0 0 0 0)) u v c
+
+    next : (List·Memᴰ (arc u v c k) (arcsFrom (suc i) links) → Found (suc i) links) → (arc u v c k ≡ arc b a ba i) ⊎ List·Memᴰ (arc u v c k) (arcsFrom (suc i) links) → Found i (link a b ab ba ∷ links)
+    next below (inl e) = let e₁ : k ≡ i = cc in (0, omega arith, omega arith, List·Memᴰ·head refl, inr ((cc), (cc), (cc)))
+    next below (inr m) = let r = below m in (suc (r .0), omega (arith, r .1), omega (arith, r .2), List·Memᴰ·tail (r .3), r .4)
+
+    go : (List·Memᴰ (arc u v c k) (arcsFrom (suc i) links) → Found (suc i) links) → (arc u v c k ≡ arc a b ab i) ⊎ List·Memᴰ (arc u v c k) (arc b a ba i ∷ arcsFrom (suc i) links) → Found i (link a b ab ba ∷ links)
+    go below (inl e) = let e₁ : k ≡ i = cc in (0, omega arith, omega arith, List·Memᴰ·head refl, inl ((cc), (cc), (cc)))
+    go below (inr m) = next below (List·Memᴰ·cases-cons m)
+
+-- both directions of link number j are arcs over it
+pub arcs-have : (i : ℕ) (links : List Link) (j a b ab ba : ℕ) → j < length links → getD links j (link 0 0 0 0) ≡ link a b ab ba →
+    List·Memᴰ (arc a b ab (i + j)) (arcsFrom i links) × List·Memᴰ (arc b a ba (i + j)) (arcsFrom i links)
+unfolding arcsFrom
+arcs-have i [] j a b ab ba h e = absurd (not-suc-le-zero h)
+arcs-have i (link a′ b′ ab′ ba′ ∷ links) zero a b ab ba h e =
+    let z : i + 0 ≡ i = add-zero i in
+    (List·Memᴰ·head {x = arc a′ b′ ab′ i} (cc), List·Memᴰ·tail (List·Memᴰ·head {x = arc b′ a′ ba′ i} (cc)))
+arcs-have i (link a′ b′ ab′ ba′ ∷ links) (suc j) a b ab ba h e =
+    let r = arcs-have (suc i) links j a b ab ba (le-of-suc-le-suc h) e in
+    let s : i + suc j ≡ suc i + j = omega arith in
+    (List·Memᴰ·tail (List·Memᴰ·tail (Memᴰ·cast (ap (arc a b ab) s) (r .0))), List·Memᴰ·tail (List·Memᴰ·tail (Memᴰ·cast (ap (arc b a ba) s) (r .1))))
+
+-- a protected link keeps its number
+pub protected-number : (net : Network) (l e : ℕ) → protected net l e .number ≡ l
+unfolding protected protectedBy
+protected-number net l e = go e (getD (net .links) l (link 0 0 0 0))
+  where
+    go : (e : ℕ) (k : Link) → protectedBy l e k .number ≡ l
+    go zero (link a b ab ba) = refl
+    go (suc e) (link a b ab ba) = refl
+
+module _ (net : Network) (limits : WithinLimits net) where
+  -- what is known of an arc
+  sound-arc : {u v c k : ℕ} → List·Memᴰ (arc u v c k) (arcs net) → (u < net .routers) × (v < net .routers) × (0 < c) × (c ≤ 65535)
+  unfolding arcs
+  sound-arc {u} {v} {c} {k} m = let r = arcs-give 0 (net .links) m in go (getD (net .links) (r .0) (link 0 0 0 0)) (r .3) (r .4)
+    where
+      go : (lk : Link) → List·Memᴰ lk (net .links) → Direction lk u v c → (u < net .routers) × (v < net .routers) × (0 < c) × (c ≤ 65535)
+      go (link a b ab ba) j (inl e) = let s = limits .link-within j in omega (arith, s, e)
+      go (link a b ab ba) j (inr e) = let s = limits .link-within j in omega (arith, s, e)
+
+  pub limits-sound : Sound (net .routers) (arcs net)
+  limits-sound = record {
+    few = limits .few-routers;
+    within = record { from = λ m. sound-arc m .0; to = λ m. sound-arc m .1 };
+    falls = λ d to. (towards d to, distance-falls (arcs net) d to (record { cost = λ m. sound-arc m .2 }));
+    capped = λ m. sound-arc m .3;
+  }
+
+  -- the table that the planner fills holds the least costs of paths
+  pub limits-distances : LeastCosts (arcs net) (distanceIn (distances net))
+  unfolding distances
+  limits-distances = distances-least (net .routers) (arcs net) (limits-sound .within)
+
+  -- a link below L, seen from either end
+  pub limits-named : (l e : ℕ) → l < length (net .links) → Named (arcs net) (protected net l e)
+  unfolding arcs protected protectedBy
+  limits-named l e h = go e (getD (net .links) l (link 0 0 0 0)) refl
+    where
+      only : (lk : Link) → getD (net .links) l (link 0 0 0 0) ≡ lk → (u v c : ℕ) → List·Memᴰ (arc u v c l) (arcsFrom 0 (net .links)) → Direction lk u v c
+      only lk p u v c m =
+          let r = arcs-give 0 (net .links) m in
+          let j : r .0 ≡ l = omega (arith, r .1) in
+          subst (λ k. Direction k u v c) (ap (λ i. getD (net .links) i (link 0 0 0 0)) j ∙ p) (r .4)
+
+      go : (e : ℕ) (lk : Link) → getD (net .links) l (link 0 0 0 0) ≡ lk → Named (arcsFrom 0 (net .links)) (protectedBy l e lk)
+      go zero (link a b ab ba) p =
+          let r = arcs-have 0 (net .links) l a b ab ba h p in
+          record { outward = rw zero-add at (r .0); backward = rw zero-add at (r .1); out-some = sound-arc (rw zero-add at (r .0)) .2; back-some = sound-arc (rw zero-add at (r .1)) .2; only = λ {u} {v} {c} m. only (link a b ab ba) p u v c m }
+      go (suc e) (link a b ab ba) p =
+          let r = arcs-have 0 (net .links) l a b ab ba h p in
+          record { outward = rw zero-add at (r .1); backward = rw zero-add at (r .0); out-some = sound-arc (rw zero-add at (r .1)) .2; back-some = sound-arc (rw zero-add at (r .0)) .2; only = λ {u} {v} {c} m. ⊎-swap (only (link a b ab ba) p u v c m) }

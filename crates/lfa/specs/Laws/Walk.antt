@@ -1,0 +1,94 @@
+-- Laws of walks, over any distances d that are the least costs of paths: how d is computed does not matter here.
+-- Assumes nothing.
+use Prim.Native.Nat.{ℕ, suc, _+_, _≤_, _<_}
+use mathlib.Core.Path.{_≡_, sym}
+use mathlib.Core.Logic.{_⊎_, inl, inr}
+use mathlib.Core.List.{List, List·Memᴰ}
+use native.Mathlib.Omega.{arith}
+use mathlib.Core.Bool.{true, false}
+use lib.Dec.{ltb}
+use borrow.Author.Tests.{ltb-true, ltb-false}
+use Rattle.lfa.specs.Laws.Test.{decide}
+use Rattle.lfa.specs.Network.{Arc, arc, at, Target}
+use Rattle.lfa.specs.Distance.{unreachable, RouterPath, stay, via, LeastCosts, towards}
+use Rattle.lfa.specs.Walk.{Step, Delivers, Walk, here, hop, Crosses}
+use Rattle.lfa.specs.Laws.Target.{towards-most, towards-least, towards-over, hop-bound, route-bound}
+
+-- every hop costs something
+pub record Positive (hops : List Arc) : Type 0 where
+  pub cost : {x z c l : ℕ} → List·Memᴰ (arc x z c l) hops → 0 < c
+
+module _ {hops : List Arc} {d : ℕ → ℕ → ℕ} {to : Target} where
+  -- a step lowers the distance
+  pub step-lowers : {x z l : ℕ} → Positive hops → Step hops d to x z l → towards d to z < towards d to x
+  step-lowers p s = omega (arith, p .cost (s .joined))
+
+  -- the cost of a walk is what the distance falls by
+  pub walk-cost : {x u n : ℕ} → Walk hops d to x u n → (k : ℕ) × RouterPath hops x u k × (towards d to x ≡ k + towards d to u)
+  walk-cost here = (0, stay, omega arith)
+  walk-cost (hop s w) = let r = walk-cost w in (s .cost + r .0, via (s .joined) (r .1), omega (arith, s .tight, r .2))
+
+  -- a walk keeps to finite distances
+  pub walk-finite : {x u n : ℕ} → Walk hops d to x u n → towards d to x < unreachable → towards d to u < unreachable
+  walk-finite w f = omega (arith, walk-cost w .2)
+
+  -- and starts from one
+  pub walk-starts : {x u n : ℕ} → Walk hops d to x u n → towards d to u < unreachable → towards d to x < unreachable
+  walk-starts here f = f
+  walk-starts (hop s w) f = s .finite
+
+module _ (hops : List Arc) (d : ℕ → ℕ → ℕ) (to : Target) (dist : LeastCosts hops d) where
+  -- a path along which the distance falls by its whole cost is a walk
+  pub tight-walk : {x u k : ℕ} → RouterPath hops x u k → towards d to x ≡ k + towards d to u → towards d to x < unreachable → (n : ℕ) × Walk hops d to x u n
+  tight-walk stay e f = (0, here)
+  tight-walk (via {c} m r) e f =
+      let w = tight-walk r (omega (arith, hop-bound hops d to dist m, route-bound hops d to dist r)) (omega (arith, hop-bound hops d to dist m, route-bound hops d to dist r)) in
+      (suc (w .0), hop (record { cost = c; joined = m; tight = omega (arith, hop-bound hops d to dist m, route-bound hops d to dist r); finite = f }) (w .1))
+
+  -- Some walk from x crosses the arc from u to v exactly when D(x,u) + cost + D(v,t) equals finite D(x,t). A walk's cost is what the
+  -- distance falls by, so that the walk up to u costs D(x,u) and the arc is tight; the other way, a path of cost D(x,u) along which the
+  -- distance falls by its whole cost is a walk, and the arc is a step after it.
+  pub crossing-equation : {x l u v : ℕ} (r : Crosses hops d to x l u v) → (d x u + r .step .cost + towards d to v ≡ towards d to x) × (towards d to x < unreachable)
+  crossing-equation {x} {u} r =
+      let w = walk-cost (r .walk) in
+      let f : towards d to x < unreachable = walk-starts (r .walk) (r .step .finite) in
+      let low : d x u ≤ w .0 = dist .least (w .1) in
+      let high : towards d to x ≤ d x u + towards d to u = route-bound hops d to dist (dist .path x u (omega (arith, w .2))) in
+      (omega (arith, w .2, r .step .tight), f)
+
+  pub equation-crossing : {x l u v c : ℕ} → List·Memᴰ (arc u v c l) hops → d x u + c + towards d to v ≡ towards d to x → towards d to x < unreachable → Crosses hops d to x l u v
+  equation-crossing {x} {u} {v} {c} m e f =
+      let r = dist .path x u (omega arith) in
+      let b = hop-bound hops d to dist m in
+      let b′ = route-bound hops d to dist r in
+      let w = tight-walk r (omega arith) f in
+      record { count = w .0; walk = w .1; step = record { cost = c; joined = m; tight = omega arith; finite = omega arith } }
+
+  -- D(x,t) is at most D(x,u) + cost + D(v,t) over any arc from u to v
+  pub over-bound : {u v c l : ℕ} (x : ℕ) → List·Memᴰ (arc u v c l) hops → towards d to x ≤ d x u + c + towards d to v
+  over-bound {u} {v} {c} x m = go (decide (ltb (d x u) unreachable))
+    where
+      go : (ltb (d x u) unreachable ≡ true) ⊎ (ltb (d x u) unreachable ≡ false) → towards d to x ≤ d x u + c + towards d to v
+      go (inl e) = omega (arith, hop-bound hops d to dist m, route-bound hops d to dist (dist .path x u (ltb-true _ _ e)))
+      go (inr e) = omega (arith, ltb-false, towards-most d to x)
+
+  -- from every finite distance a walk can deliver or step
+  pub onward : (x : ℕ) → towards d to x < unreachable → Delivers d to x ⊎ ((z : ℕ) × (l : ℕ) × Step hops d to x z l)
+  onward x f = let r = towards-over d to x f in go (r .1) (r .2) (dist .path x (r .0) (omega (arith, r .3))) (r .3)
+    where
+      go : {a k : ℕ} (c : ℕ) → List·Memᴰ (at a c) to → RouterPath hops x a k → k + c ≡ towards d to x → Delivers d to x ⊎ ((z : ℕ) × (l : ℕ) × Step hops d to x z l)
+      go c m stay e = inl (record { own = c; attached = m; tight = omega (arith, e); finite = f })
+      go c m (via {z} {c = b} {l} j r) e =
+          inr (z, l, record { cost = b; joined = j; tight = omega (arith, hop-bound hops d to dist j, towards-least d z m, dist .least r); finite = f })
+
+  -- Some walk from x visits v exactly when D(x,v) + D(v,t) equals finite D(x,t): the walk up to v costs no less than D(x,v), and a
+  -- path of cost D(x,v) along which the distance falls by its whole cost is a walk.
+  pub visit-equation : {x u k : ℕ} → towards d to x < unreachable → Walk hops d to x u k → d x u + towards d to u ≡ towards d to x
+  visit-equation {x} {u} f w =
+      let r = walk-cost w in
+      let low : d x u ≤ r .0 = dist .least (r .1) in
+      let high = route-bound hops d to dist (dist .path x u (omega (arith, r .2))) in
+      omega (arith, r .2)
+
+  pub equation-visit : {x u : ℕ} → d x u + towards d to u ≡ towards d to x → towards d to x < unreachable → (k : ℕ) × Walk hops d to x u k
+  equation-visit {x} {u} e f = tight-walk (dist .path x u (omega arith)) (sym e) f

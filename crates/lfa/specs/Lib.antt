@@ -1,0 +1,13 @@
+pub mod Lists
+pub mod Network
+pub mod File
+pub mod FileOf
+pub mod Distance
+pub mod Walk
+pub mod Space
+pub mod Repair
+pub mod Route
+pub mod Refusal
+pub mod HandWorked
+pub mod Demands
+pub mod Laws

@@ -1,0 +1,79 @@
+-- "Spaces": P, extended P and Q, each as one 64-bit set.
+-- Assumes nothing.
+use Prim.Native.Nat.{ℕ, zero, suc, _+_, _*_, _/_, _%_, _^_}
+use mathlib.Core.Bool.{Bool, not, _&&_}
+use mathlib.Core.List.{List, map}
+use lib.Dec.{eqb}
+use lib.ListN.{getD}
+use Rattle.lfa.specs.Lists.{anyOf, one, count, select}
+use Rattle.lfa.specs.Network.{Link, link, Arc, arc, Network, router}
+use Rattle.lfa.specs.Walk.{avoids}
+
+-- ---- the question
+
+-- the protected link, seen from the end that the question names: its number, the repairing router S (`near`), the far router E
+-- (`far`), the cost S to E (`out`) and the cost E to S (`back`)
+pub record Protected : Type 0 where
+  pub number : ℕ
+  pub near : ℕ
+  pub far : ℕ
+  pub out : ℕ
+  pub back : ℕ
+
+-- "0 makes a the repairing router S and b the far router E, 1 the reverse"
+unfoldable pub protectedBy : ℕ → ℕ → Link → Protected
+protectedBy l zero (link a b ab ba) = record { number = l; near = a; far = b; out = ab; back = ba }
+protectedBy l (suc e) (link a b ab ba) = record { number = l; near = b; far = a; out = ba; back = ab }
+
+unfoldable pub protected : Network → ℕ → ℕ → Protected
+protected net l e = protectedBy l e (getD (net .links) l (link 0 0 0 0))
+
+-- ---- the first hops: "a neighbour of S, not E"
+
+-- a first hop: the neighbour, the cost from S to it, and the link that leads there
+pub data FirstHop : Type 0 where
+  first : (router cost over : ℕ) → FirstHop
+
+-- the arc leaves S and does not lead to E
+unfoldable pub isFirst : Protected → Arc → Bool
+isFirst q (arc x z c l) = eqb x (q .near) && not (eqb z (q .far))
+
+unfoldable pub firstOver : Arc → FirstHop
+firstOver (arc x z c l) = first z c l
+
+-- in file order of the links
+unfoldable pub firstHops : Protected → List Arc → List FirstHop
+firstHops q hops = map firstOver (select (isFirst q) hops)
+
+unfoldable pub hopRouter : FirstHop → ℕ
+hopRouter (first m c l) = m
+
+-- ---- the three spaces
+
+pub data Space : Type 0 where
+  pSpace extendedP qSpace : Space
+
+-- whether router r is in the space. P: "routers that S avoids to". Extended P: "routers that some neighbour of S other than E
+-- avoids to". Q: "routers that avoid to E".
+unfoldable pub inSpace : Space → ℕ → List Arc → (ℕ → ℕ → ℕ) → Protected → ℕ → Bool
+inSpace pSpace n hops d q r = avoids n hops d (router r) (q .number) (q .near)
+inSpace extendedP n hops d q r = anyOf (λ f. avoids n hops d (router r) (q .number) (hopRouter f)) (firstHops q hops)
+inSpace qSpace n hops d q r = avoids n hops d (router (q .far)) (q .number) r
+
+-- ---- sets
+
+-- the set of the routers below n that pass a test, "router r being the bit of weight 2 to the power r"
+unfoldable pub setOf : ℕ → (ℕ → Bool) → ℕ
+setOf zero p = 0
+setOf (suc n) p = one (p n) * 2 ^ n + setOf n p
+
+-- router r is a member of the set
+unfoldable pub has : ℕ → ℕ → Bool
+has set r = eqb (set / 2 ^ r % 2) 1
+
+-- the size of a 64-bit set: the number of its members
+unfoldable pub sizeOf : ℕ → ℕ
+sizeOf set = count (has set) 64
+
+unfoldable pub spaceOf : Space → ℕ → List Arc → (ℕ → ℕ → ℕ) → Protected → ℕ
+spaceOf s n hops d q = setOf n (inSpace s n hops d q)

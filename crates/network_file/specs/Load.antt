@@ -1,0 +1,33 @@
+-- What `load` answers, in document 01's numbers and values.
+-- Assumes nothing.
+use mathlib.Core.List.{[]}
+use Rattle.lfa.specs.Network as lfa
+use Rattle.lfa.specs.Refusal.{badLength, badCheck, badHead, badBlockCount, badBlock, badLink, parallelLink, badPrefix, routerTwice, Decided, decided, Answer, accepted, refusal}
+use Rattle.network_file.specs.declared.Fault.{Fault}
+use Rattle.network_file.specs.declared.Fault.the-variants.{Length, Check, Head, BlockCount, Block, Link, ParallelLink, Prefix, RouterTwice}
+use Rattle.network_file.specs.declared.Verdict.{Verdict}
+use Rattle.network_file.specs.declared.Verdict.the-variants.{Accepted, Refused}
+
+-- the row of each fault, with the value that it returns
+unfoldable pub faultRow : Fault → Decided
+faultRow Length = decided badLength 0
+faultRow (Check i) = decided badCheck i
+faultRow Head = decided badHead 0
+faultRow (BlockCount n) = decided badBlockCount n
+faultRow (Block i) = decided badBlock i
+faultRow (Link k) = decided badLink k
+faultRow (ParallelLink k) = decided parallelLink k
+faultRow (Prefix p) = decided badPrefix p
+faultRow (RouterTwice p) = decided routerTwice p
+
+unfoldable pub faultOf : Fault → Answer
+faultOf f = refusal (faultRow f)
+
+-- document 01's answer for each verdict
+unfoldable pub answerOf : Verdict → Answer
+answerOf Accepted = accepted
+answerOf (Refused f) = faultOf f
+
+-- the network of a refused file
+unfoldable pub emptyNetwork : lfa.Network
+emptyNetwork = record { routers = 0; links = []; prefixes = [] }

@@ -1,0 +1,126 @@
+// Links: their entries read into columns, and rows 6 and 7.
+use super::block::word_at;
+ghost use mathlib.Core.Path.{_≡_};
+ghost use Prim.Native.Nat.{ℕ, _+_, _*_, _≤_, _<_};
+ghost use lib.ListN.{length, getD};
+ghost use Rattle.lfa.specs.Lists.{firstFailing};
+ghost use Rattle.lfa.specs.Network.{link};
+ghost use Rattle.lfa.specs.File.{linksOf, linkEntry, soundLink};
+ghost use Rattle.network_file.specs.First.{firstOr};
+ghost use Rattle.network_file.specs.Struct.{linkColumns, linksIn};
+ghost use Rattle.network_file.specs.Entry.{cellsGood, cellsNew, EndsBelow};
+ghost use Rattle.network_file.specs.Judged.{Sized};
+
+// One column for each number of a link, a cell for each link.
+pub(crate) struct LinkColumns {
+    pub from: [u8; 128],
+    pub to: [u8; 128],
+    pub out: [u16; 128],
+    pub back: [u16; 128],
+}
+
+// The 6 bytes of link k.
+pub(crate) fn link_part(file: &[u8], k: usize) -> &[u8]
+    requires { ⌜ Sized (now file) × (k < linksOf (now file)) ⌝ }
+    ensures { λ r. ⌜ (now r ≡ linkEntry (now (file .entry)) k) × (length (now r) ≡ 6) ⌝ }
+{
+    let start = 512 * (1 + k / 84) + 4 + 6 * (k % 84);
+    let end = start + 6;
+    &file[start..end]
+}
+
+// Reads the entries of the links into columns.
+pub(crate) fn fill_links(file: &[u8], links: usize) -> LinkColumns
+    requires { ⌜ Sized (now file) × (links ≡ linksOf (now file)) ⌝ }
+    ensures { λ r. ⌜ r ≡ linkColumns (linksIn (now (file .entry)) links) ⌝ }
+{
+    let mut from = [0u8; 128];
+    let mut to = [0u8; 128];
+    let mut out = [0u16; 128];
+    let mut back = [0u16; 128];
+    let mut k: usize = 0;
+    while k < links {
+        let entry = link_part(file, k);
+        from[k] = entry[0];
+        to[k] = entry[1];
+        out[k] = word_at(entry, 2);
+        back[k] = word_at(entry, 4);
+        k += 1;
+    }
+    LinkColumns {
+        from,
+        to,
+        out,
+        back,
+    }
+}
+
+// Row 6 at one link: routers below N, two of them, and no cost 0.
+fn sound_link(routers: usize, a: u8, b: u8, ab: u16, ba: u16) -> bool
+    ensures { λ r. ⌜ r ≡ soundLink routers (link a b ab ba) ⌝ }
+{
+    if routers <= (a as usize) {
+        return false;
+    }
+    if routers <= (b as usize) {
+        return false;
+    }
+    if a == b {
+        return false;
+    }
+    if ab < 1 {
+        return false;
+    }
+    1 <= ba
+}
+
+// Row 6: the first link that it turns down, or the number of links.
+pub(crate) fn first_bad_link<'a>(
+    routers: usize,
+    links: usize,
+    from: &'a [u8; 128],
+    to: &'a [u8; 128],
+    out: &'a [u16; 128],
+    back: &'a [u16; 128],
+) -> usize
+    requires { ⌜ links ≤ 128 ⌝ }
+    ensures { λ r. ⌜ r ≡ firstOr links (firstFailing (cellsGood routers (now (from .entry)) (now (to .entry)) (now (out .entry)) (now (back .entry))) 0 links) ⌝ }
+{
+    let mut k: usize = 0;
+    while k < links {
+        if !sound_link(routers, from[k], to[k], out[k], back[k]) {
+            return k;
+        }
+        k += 1;
+    }
+    links
+}
+
+// The cell of a pair of routers in a table of 64 rows and columns.
+fn pair_cell(a: u8, b: u8) -> usize
+    requires { ⌜ (a < 64) × (b < 64) ⌝ }
+    ensures { λ r. ⌜ (r ≡ 64 * a + b) × (r < 4096) ⌝ }
+{
+    64 * (a as usize) + (b as usize)
+}
+
+// Row 7: the first link that joins two routers an earlier link joins, or the number of links. A table of the pairs that are
+// joined, both ways round, spares a look at each earlier link.
+pub(crate) fn first_parallel_link<'a>(links: usize, from: &'a [u8; 128], to: &'a [u8; 128]) -> usize
+    requires { ⌜ (links ≤ 128) × EndsBelow 64 links (now from) (now to) ⌝ }
+    ensures { λ r. ⌜ r ≡ firstOr links (firstFailing (cellsNew (now (from .entry)) (now (to .entry))) 0 links) ⌝ }
+{
+    let mut joined = [false; 4096];
+    let mut k: usize = 0;
+    while k < links {
+        let there = pair_cell(from[k], to[k]);
+        if joined[there] {
+            return k;
+        }
+        let back = pair_cell(to[k], from[k]);
+        joined[there] = true;
+        joined[back] = true;
+        k += 1;
+    }
+    links
+}

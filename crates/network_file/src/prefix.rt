@@ -1,0 +1,171 @@
+// Prefixes: rows 8 and 9, and their entries read into columns.
+use super::block::all_zero;
+use super::block::link_blocks;
+use super::block::word_at;
+ghost use mathlib.Core.Path.{_≡_};
+ghost use mathlib.Core.Bool.{_&&_};
+ghost use Prim.Native.Nat.{ℕ, _+_, _*_, _≤_, _<_};
+ghost use lib.Dec.{eqb, ltb};
+ghost use lib.ListN.{length, getD};
+ghost use Rattle.lfa.specs.Lists.{firstFailing, everyBelow};
+ghost use Rattle.lfa.specs.File.{routersOf, linksOf, prefixesOf, prefixEntry, attachments, slotGood, soundPrefix, prefixGood, slotNew, routersNew};
+ghost use Rattle.network_file.specs.First.{firstOr};
+ghost use Rattle.network_file.specs.Struct.{attachedColumn, slotColumns, prefixesIn};
+ghost use Rattle.network_file.specs.Entry.{Counted, PrefixesSound, Slots};
+ghost use Rattle.network_file.specs.Judged.{Sized};
+
+// One column for each number of an attachment, eight cells for each prefix.
+pub(crate) struct SlotColumns {
+    pub at: [u8; 1024],
+    pub own: [u16; 1024],
+}
+
+// The 34 bytes of prefix p.
+pub(crate) fn prefix_part(file: &[u8], links: usize, p: usize) -> &[u8]
+    requires { ⌜ Sized (now file) × (links ≡ linksOf (now file)) × (p < prefixesOf (now file)) ⌝ }
+    ensures { λ r. ⌜ (now r ≡ prefixEntry (now (file .entry)) p) × (length (now r) ≡ 34) ⌝ }
+{
+    let start = 512 * (1 + link_blocks(links) + p / 14) + 4 + 34 * (p % 14);
+    let end = start + 34;
+    &file[start..end]
+}
+
+// A byte as a number to count and to index with.
+fn wide(byte: u8) -> usize
+    ensures { λ r. ⌜ r ≡ byte ⌝ }
+{
+    byte as usize
+}
+
+// Row 8 at one used slot: its router is below N, and its second byte is zero.
+fn sound_slot(routers: usize, router: u8, second: u8) -> bool
+    ensures { λ r. ⌜ r ≡ (ltb router routers && eqb second 0) ⌝ }
+{
+    if routers <= (router as usize) {
+        return false;
+    }
+    second == 0
+}
+
+// Row 8 at the used slots, of which there are `count`.
+fn sound_slots(routers: usize, entry: &[u8], count: usize) -> bool
+    requires { ⌜ (length (now entry) ≡ 34) × (count ≤ 8) ⌝ }
+    ensures { λ r. ⌜ r ≡ everyBelow (slotGood routers (now (entry .entry))) count ⌝ }
+{
+    let mut s: usize = 0;
+    while s < count {
+        if !sound_slot(routers, entry[2 + 4 * s], entry[3 + 4 * s]) {
+            return false;
+        }
+        s += 1;
+    }
+    true
+}
+
+// Row 8 at one prefix. The count is tested before a slot is looked at.
+fn sound_prefix(routers: usize, entry: &[u8]) -> bool
+    requires { ⌜ length (now entry) ≡ 34 ⌝ }
+    ensures { λ r. ⌜ r ≡ soundPrefix routers (now (entry .entry)) ⌝ }
+{
+    let count = wide(entry[0]);
+    if count < 1 {
+        return false;
+    }
+    if 8 < count {
+        return false;
+    }
+    if entry[1] != 0 {
+        return false;
+    }
+    if !sound_slots(routers, entry, count) {
+        return false;
+    }
+    let unused = 2 + 4 * count;
+    all_zero(entry, unused, 34)
+}
+
+// Row 8: the first prefix that it turns down, or the number of prefixes.
+pub(crate) fn first_bad_prefix(file: &[u8], routers: usize, links: usize, prefixes: usize) -> usize
+    requires { ⌜ Counted (now file) links prefixes × (routers ≡ routersOf (now file)) ⌝ }
+    ensures { λ r. ⌜ r ≡ firstOr prefixes (firstFailing (prefixGood (now (file .entry))) 0 prefixes) ⌝ }
+{
+    let mut p: usize = 0;
+    while p < prefixes {
+        if !sound_prefix(routers, prefix_part(file, links, p)) {
+            return p;
+        }
+        p += 1;
+    }
+    prefixes
+}
+
+// Row 9 at one prefix: whether no router is named twice. A table of the routers named so far spares a look at each earlier slot.
+fn new_routers(entry: &[u8]) -> bool
+    requires { ⌜ Slots (now entry) ⌝ }
+    ensures { λ r. ⌜ r ≡ everyBelow (slotNew (now (entry .entry))) (attachments (now (entry .entry))) ⌝ }
+{
+    let count = wide(entry[0]);
+    let mut named = [false; 64];
+    let mut s: usize = 0;
+    while s < count {
+        let router = wide(entry[2 + 4 * s]);
+        if named[router] {
+            return false;
+        }
+        named[router] = true;
+        s += 1;
+    }
+    true
+}
+
+// Row 9: the first prefix that names a router twice, or the number of prefixes.
+pub(crate) fn first_router_twice(file: &[u8], links: usize, prefixes: usize) -> usize
+    requires { ⌜ Counted (now file) links prefixes × PrefixesSound (now file) prefixes ⌝ }
+    ensures { λ r. ⌜ r ≡ firstOr prefixes (firstFailing (routersNew (now (file .entry))) 0 prefixes) ⌝ }
+{
+    let mut p: usize = 0;
+    while p < prefixes {
+        if !new_routers(prefix_part(file, links, p)) {
+            return p;
+        }
+        p += 1;
+    }
+    prefixes
+}
+
+// Reads how many attachments each prefix has.
+pub(crate) fn fill_attached(file: &[u8], links: usize, prefixes: usize) -> [u8; 128]
+    requires { ⌜ Counted (now file) links prefixes ⌝ }
+    ensures { λ r. ⌜ r ≡ attachedColumn (prefixesIn (now (file .entry)) prefixes) ⌝ }
+{
+    let mut attached = [0u8; 128];
+    let mut p: usize = 0;
+    while p < prefixes {
+        let entry = prefix_part(file, links, p);
+        attached[p] = entry[0];
+        p += 1;
+    }
+    attached
+}
+
+// Reads the slots of the prefixes into columns, eight to a prefix. Row 8 has passed, so the slots that are not used are zero.
+pub(crate) fn fill_slots(file: &[u8], links: usize, prefixes: usize) -> SlotColumns
+    requires { ⌜ Counted (now file) links prefixes × PrefixesSound (now file) prefixes ⌝ }
+    ensures { λ r. ⌜ r ≡ slotColumns (prefixesIn (now (file .entry)) prefixes) ⌝ }
+{
+    let mut at = [0u8; 1024];
+    let mut own = [0u16; 1024];
+    let mut p: usize = 0;
+    while p < prefixes {
+        let entry = prefix_part(file, links, p);
+        let mut s: usize = 0;
+        while s < 8 {
+            let k = 8 * p + s;
+            at[k] = entry[2 + 4 * s];
+            own[k] = word_at(entry, 4 + 4 * s);
+            s += 1;
+        }
+        p += 1;
+    }
+    SlotColumns { at, own }
+}

@@ -1,0 +1,35 @@
+-- `repair::search::link_found` meets its contract. The target is E.
+-- Assumes nothing.
+use mathlib.Core.List.{List}
+use borrow.Author.Needs.{needs}
+use Rattle.lfa.specs.Network.{Arc, router}
+use Rattle.lfa.specs.Repair.{linkOutcome}
+use Rattle.repair.specs.Columns.{arcsIn}
+use Rattle.repair.specs.Area.{Readable}
+use Rattle.repair.specs.Spaces.{asked}
+use Rattle.repair.proofs.KnownLaws.{readable}
+use Rattle.repair.proofs.search.link_found.Statement.{statement}
+use Rattle.repair.proofs.search.link_found.Tie as tie
+
+-- the arcs of the network
+abbrev hops : tie.Start → List Arc
+hops s = arcsIn (s .args .from .now) (s .args .to .now) (s .args .out .now) (s .args .back .now) (s .args .links)
+
+-- the table can be read
+known : (s : tie.Start) → Readable (s .args .n) (asked (s .args .link)) (s .args .dist .now)
+known s = readable (s .args .n) (hops s) (asked (s .args .link)) (s .args .dist .now) (s .pre .1)
+
+towards-router-requires : tie.Need-towards-router-requires
+towards-router-requires c κs =
+    let r = known (c .before) in
+    (r .few, r .long, r .far-in)
+
+first-pair-requires : tie.Need-first-pair-requires
+first-pair-requires c κs = search needs
+
+returns : tie.Need-returns
+unfolding linkOutcome
+returns c = c .first-pair .ensures (router (c .before .before .before .before .args .link .far)) (c .before .before .towards-router .ensures)
+
+pub link-found-spec : {M : Type 1} → statement M
+link-found-spec = tie.close (tie.spec towards-router-requires first-pair-requires returns)

@@ -1,0 +1,25 @@
+-- `repair::space::q_space` meets its contract. By distances just the routers of Q avoid to E.
+-- Assumes nothing.
+use Rattle.repair.specs.Area.{Readable}
+use Rattle.repair.specs.Spaces.{asked}
+use Rattle.repair.proofs.KnownLaws.{readable, q-space}
+use Rattle.repair.proofs.space.q_space.Statement.{statement}
+use Rattle.repair.proofs.space.q_space.Tie as tie
+
+-- the table can be read
+known : (s : tie.Start) → Readable (s .args .n) (asked (s .args .link)) (s .args .dist .now)
+known s = readable (s .args .n) (s .pre .0) (asked (s .args .link)) (s .args .dist .now) (s .pre .1)
+
+towards-router-requires : tie.Need-towards-router-requires
+towards-router-requires c κs =
+    let r = known (c .before) in
+    (r .few, r .long, r .far-in)
+
+avoiding-to-requires : tie.Need-avoiding-to-requires
+avoiding-to-requires c κs = known (c .before .before .before .before)
+
+returns : tie.Need-returns
+returns c = λ hops k. q-space _ hops _ _ k (c .before .before .before .towards-router .result) (c .before .before .before .towards-router .ensures) (c .avoiding-to .ensures)
+
+pub q-space-spec : {M : Type 1} → statement M
+q-space-spec = tie.close (tie.spec towards-router-requires avoiding-to-requires returns)

@@ -1,0 +1,35 @@
+-- What the calls of the repair part answer, in document 01's numbers and words.
+-- Assumes nothing.
+use Rattle.lfa.specs.Refusal.{shortArea, shortBuffer, noSuchLink, noSuchPrefix, noPair, decided, Answer, done, untouched, unreached, set, repair, refusal}
+use Rattle.network_file.specs.Load.{faultOf}
+use Rattle.repair.specs.declared.Refusal.{Refusal}
+use Rattle.repair.specs.declared.Refusal.the-variants.{File, ShortArea, ShortBuffer, NoSuchLink, NoSuchPrefix, NoPair}
+use Rattle.repair.specs.declared.Filled.{Filled}
+use Rattle.repair.specs.declared.Filled.the-variants.{Done, Refused}
+use Rattle.repair.specs.declared.SpaceAnswer.{SpaceAnswer}
+use Rattle.repair.specs.declared.SpaceAnswer.the-variants.{Set, Refused as Turned}
+use Rattle.repair.specs.declared.Repair.{Repair}
+use Rattle.repair.specs.declared.Repair.the-variants.{Refused as Declined, Unreachable, Untouched, Pair}
+
+-- the row of each refusal, with the value that it returns
+unfoldable pub refusalAnswer : Refusal → Answer
+refusalAnswer (File f) = faultOf f
+refusalAnswer (ShortArea v) = refusal (decided shortArea v)
+refusalAnswer (ShortBuffer v) = refusal (decided shortBuffer v)
+refusalAnswer (NoSuchLink v) = refusal (decided noSuchLink v)
+refusalAnswer (NoSuchPrefix v) = refusal (decided noSuchPrefix v)
+refusalAnswer NoPair = refusal (decided noPair 0)
+
+unfoldable pub filledAnswer : Filled → Answer
+filledAnswer Done = done
+filledAnswer (Refused r) = refusalAnswer r
+
+unfoldable pub spaceAnswer : SpaceAnswer → Answer
+spaceAnswer (Set members) = set members
+spaceAnswer (Turned r) = refusalAnswer r
+
+unfoldable pub repairOf : Repair → Answer
+repairOf (Declined r) = refusalAnswer r
+repairOf Unreachable = unreached
+repairOf Untouched = untouched
+repairOf (Pair p) = repair (p .first) (p .endpoint) (p .class) (p .cost)

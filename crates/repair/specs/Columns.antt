@@ -1,0 +1,34 @@
+-- The network in columns of numbers: link k joins routers from[k] and to[k], at cost out[k] from the first to the second and
+-- back[k] from the second to the first.
+-- Assumes nothing.
+use Prim.Native.Nat.{ℕ, _≤_, _<_}
+use mathlib.Core.Path.{_≡_}
+use mathlib.Core.List.{List, map}
+use lib.ListN.{getD}
+use Rattle.lfa.specs.Lists.{below}
+use Rattle.lfa.specs.Network.{Link, link, Network, Arc, arcsFrom}
+use Rattle.lfa.specs.Space.{Protected, protectedBy}
+
+-- the links that the columns hold
+unfoldable pub linksIn : (from to out back : List ℕ) → ℕ → List Link
+linksIn from to out back links = map (λ k. link (getD from k 0) (getD to k 0) (getD out k 0) (getD back k 0)) (below links)
+
+-- both directions of each of them
+unfoldable pub arcsIn : (from to out back : List ℕ) → ℕ → List Arc
+arcsIn from to out back links = arcsFrom 0 (linksIn from to out back links)
+
+-- link l of them, seen from an end
+unfoldable pub protectedIn : (from to out back : List ℕ) → (l e : ℕ) → Protected
+protectedIn from to out back l e = protectedBy l e (link (getD from l 0) (getD to l 0) (getD out l 0) (getD back l 0))
+
+-- at most 64 routers and 128 links, and each link joins routers
+pub record ColumnsWithin (routers links : ℕ) (from to : List ℕ) : Type 0 where
+  pub few-routers : routers ≤ 64
+  pub few-links : links ≤ 128
+  pub from-in : (k : ℕ) → k < links → getD from k 0 < routers
+  pub to-in : (k : ℕ) → k < links → getD to k 0 < routers
+
+-- the network has these routers and links, and any prefixes
+pub record InColumns (net : Network) (routers links : ℕ) (from to out back : List ℕ) : Type 0 where
+  pub routers-are : net .routers ≡ routers
+  pub links-are : net .links ≡ linksIn from to out back links

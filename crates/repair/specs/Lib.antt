@@ -1,0 +1,9 @@
+pub mod Columns
+pub mod Leaving
+pub mod Search
+pub mod RightTable
+pub mod Area
+pub mod Spaces
+pub mod Choice
+pub mod Answer
+pub mod Asked

@@ -1,0 +1,226 @@
+// The repair part: distances, spaces and repairs of the network that the file part hands over. The file is only passed on.
+use answer::link_answer;
+use answer::prefix_answer;
+use distance::fill;
+use network_file::Fault;
+use question::Turned;
+use question::ask;
+use question::named;
+use question::prepare;
+use search::link_found;
+use search::prefix_found;
+use space::Which;
+use space::space_of;
+use space::wide;
+ghost use mathlib.Core.Path.{_≡_};
+ghost use lib.ListN.{length};
+ghost use Rattle.lfa.specs.Space.{pSpace, extendedP, qSpace, sizeOf};
+ghost use Rattle.lfa.specs.Refusal.{filling, askSpace, askLink, askPrefix, answerTo, workAfter};
+ghost use Rattle.repair.specs.Spaces.{spaceNamed};
+ghost use Rattle.repair.specs.Answer.{filledAnswer, repairOf, spaceAnswer};
+
+mod answer;
+mod distance;
+mod question;
+mod search;
+mod space;
+
+// What turns a question away: rows 1 to 9 as the file part tells them, and rows 10 to 14 with the value that each returns.
+pub enum Refusal {
+    File(Fault),
+    ShortArea(usize),
+    ShortBuffer(usize),
+    NoSuchLink(usize),
+    NoSuchPrefix(usize),
+    NoPair,
+}
+
+pub enum Filled {
+    Done,
+    Refused(Refusal),
+}
+
+// The answer of a call for a space: the set, router r being the bit of weight 2 to the power r.
+pub enum SpaceAnswer {
+    Set(u64),
+    Refused(Refusal),
+}
+
+// A pair: the first hop, the endpoint, the class, and the tunnel cost.
+pub struct Pair {
+    pub first: usize,
+    pub endpoint: usize,
+    pub class: u32,
+    pub cost: u32,
+}
+
+// The answer of a repair call.
+pub enum Repair {
+    Refused(Refusal),
+    Unreachable,
+    Untouched,
+    Pair(Pair),
+}
+
+// Fills the work area with the distances between the routers of a file, row by row.
+pub fn distances(file: &[u8], work: &mut [u32]) -> Filled
+    ensures { λ r. ⌜ (filledAnswer r ≡ answerTo (filling (now (file .entry)) (length (now (work .entry)))))
+        × (now (work .exit) ≡ workAfter (filling (now (file .entry)) (length (now (work .entry)))) (now (work .entry))) ⌝ }
+{
+    let asked = ask(file, work.len());
+    let turned = asked.turned;
+    if let Turned::Refused(refusal) = turned {
+        return Filled::Refused(refusal);
+    }
+    let network = asked.network;
+    let routers = network.routers;
+    let links = network.links;
+    fill(
+        routers,
+        links,
+        &network.from,
+        &network.to,
+        &network.out,
+        &network.back,
+        work,
+    );
+    Filled::Done
+}
+
+// The pair that repairs a link: around it, to its far router.
+pub fn link_repair(file: &[u8], work: &mut [u32], link: usize, end: usize) -> Repair
+    ensures { λ r. ⌜ (repairOf r ≡ answerTo (askLink (now (file .entry)) (length (now (work .entry))) link end))
+        × (now (work .exit) ≡ workAfter (askLink (now (file .entry)) (length (now (work .entry))) link end) (now (work .entry))) ⌝ }
+{
+    let asked = ask(file, work.len());
+    let turned = asked.turned;
+    if let Turned::Refused(refusal) = turned {
+        return Repair::Refused(refusal);
+    }
+    let network = asked.network;
+    let routers = network.routers;
+    let links = network.links;
+    if !named(links, link, end) {
+        return Repair::Refused(Refusal::NoSuchLink(links));
+    }
+    let protected = prepare(network, link, end, work);
+    let found = link_found(
+        work,
+        routers,
+        links,
+        &network.from,
+        &network.to,
+        &network.out,
+        &network.back,
+        protected,
+    );
+    link_answer(found)
+}
+
+// The pair that repairs the traffic to a prefix, where it may cross the link.
+pub fn prefix_repair(
+    file: &[u8],
+    work: &mut [u32],
+    link: usize,
+    end: usize,
+    prefix: usize,
+) -> Repair
+    ensures { λ r. ⌜ (repairOf r ≡ answerTo (askPrefix (now (file .entry)) (length (now (work .entry))) link end prefix))
+        × (now (work .exit) ≡ workAfter (askPrefix (now (file .entry)) (length (now (work .entry))) link end prefix) (now (work .entry))) ⌝ }
+{
+    let asked = ask(file, work.len());
+    let turned = asked.turned;
+    if let Turned::Refused(refusal) = turned {
+        return Repair::Refused(refusal);
+    }
+    let network = asked.network;
+    let routers = network.routers;
+    let links = network.links;
+    let prefixes = network.prefixes;
+    if !named(links, link, end) {
+        return Repair::Refused(Refusal::NoSuchLink(links));
+    }
+    if prefixes <= prefix {
+        return Repair::Refused(Refusal::NoSuchPrefix(prefixes));
+    }
+    let attached = network.attached;
+    let count = wide(attached[prefix]);
+    let protected = prepare(network, link, end, work);
+    let found = prefix_found(
+        work,
+        routers,
+        links,
+        &network.from,
+        &network.to,
+        &network.out,
+        &network.back,
+        protected,
+        &network.at,
+        &network.own,
+        8 * prefix,
+        count,
+    );
+    prefix_answer(found)
+}
+
+// The answer of a call for a space.
+fn ask_space(file: &[u8], work: &mut [u32], link: usize, end: usize, which: Which) -> SpaceAnswer
+    ensures { λ r. ⌜ (spaceAnswer r ≡ answerTo (askSpace (spaceNamed which) (now (file .entry)) (length (now (work .entry))) link end))
+        × (now (work .exit) ≡ workAfter (askSpace (spaceNamed which) (now (file .entry)) (length (now (work .entry))) link end) (now (work .entry))) ⌝ }
+{
+    let asked = ask(file, work.len());
+    let turned = asked.turned;
+    if let Turned::Refused(refusal) = turned {
+        return SpaceAnswer::Refused(refusal);
+    }
+    let network = asked.network;
+    let routers = network.routers;
+    let links = network.links;
+    if !named(links, link, end) {
+        return SpaceAnswer::Refused(Refusal::NoSuchLink(links));
+    }
+    let protected = prepare(network, link, end, work);
+    let set = space_of(
+        which,
+        work,
+        routers,
+        links,
+        &network.from,
+        &network.to,
+        &network.out,
+        &network.back,
+        protected,
+    );
+    SpaceAnswer::Set(set)
+}
+
+// P space: the routers that S avoids the link on the way to.
+pub fn p_space(file: &[u8], work: &mut [u32], link: usize, end: usize) -> SpaceAnswer
+    ensures { λ r. ⌜ (spaceAnswer r ≡ answerTo (askSpace pSpace (now (file .entry)) (length (now (work .entry))) link end))
+        × (now (work .exit) ≡ workAfter (askSpace pSpace (now (file .entry)) (length (now (work .entry))) link end) (now (work .entry))) ⌝ }
+{
+    ask_space(file, work, link, end, Which::P)
+}
+
+// Extended P space: the routers that some neighbour of S other than E avoids the link on the way to.
+pub fn extended_p_space(file: &[u8], work: &mut [u32], link: usize, end: usize) -> SpaceAnswer
+    ensures { λ r. ⌜ (spaceAnswer r ≡ answerTo (askSpace extendedP (now (file .entry)) (length (now (work .entry))) link end))
+        × (now (work .exit) ≡ workAfter (askSpace extendedP (now (file .entry)) (length (now (work .entry))) link end) (now (work .entry))) ⌝ }
+{
+    ask_space(file, work, link, end, Which::ExtendedP)
+}
+
+// Q space: the routers that avoid the link on the way to E.
+pub fn q_space(file: &[u8], work: &mut [u32], link: usize, end: usize) -> SpaceAnswer
+    ensures { λ r. ⌜ (spaceAnswer r ≡ answerTo (askSpace qSpace (now (file .entry)) (length (now (work .entry))) link end))
+        × (now (work .exit) ≡ workAfter (askSpace qSpace (now (file .entry)) (length (now (work .entry))) link end) (now (work .entry))) ⌝ }
+{
+    ask_space(file, work, link, end, Which::Q)
+}
+
+// The number of routers in a set.
+pub fn size(set: u64) -> u32
+    ensures { λ r. ⌜ r ≡ sizeOf set ⌝ }
+{
+    u64::count_ones(set)
+}

@@ -1,0 +1,52 @@
+-- Assumes nothing.
+use mathlib.Core.Path.{_≡_}
+use Prim.Native.Nat.{_-_, _≤_}
+use lib.ListN.{length}
+use borrow.Author.Needs.{needs}
+use Rattle.stored_cases.proofs.repairs.print_sums.Statement.{statement}
+use Rattle.stored_cases.proofs.repairs.print_sums.Tie as tie
+
+abbrev Inv-loop : tie.InvT-loop
+Inv-loop file work₀ links prefixes link₀ work link = (link ≤ links) × (length work ≡ length work₀)
+
+abbrev μ-loop : tie.MeasureT-loop
+μ-loop file work₀ links prefixes link₀ work link = links - link
+
+loop-holds : tie.Need-loop-holds Inv-loop μ-loop
+loop-holds c = search needs
+
+print-sum-requires : tie.Need-print-sum-requires Inv-loop μ-loop
+print-sum-requires c κs = search needs
+
+print-sum-requires-2 : tie.Need-print-sum-requires-2 Inv-loop μ-loop
+print-sum-requires-2 c κs = search needs
+
+add-link : tie.Need-add-link Inv-loop μ-loop
+add-link c = search needs
+
+loop-less : tie.Need-loop-less Inv-loop μ-loop
+loop-less c = search needs
+
+loop-again : tie.Need-loop-again Inv-loop μ-loop
+loop-again c = search needs
+
+same-length : tie.Need-same-length Inv-loop μ-loop
+same-length c = search needs
+
+returns : tie.Need-returns Inv-loop μ-loop
+returns c = search needs
+
+pub print-sums-spec : {M : Type 1} → statement M
+print-sums-spec =
+    tie.close
+    (tie.spec
+    Inv-loop
+    μ-loop
+    loop-holds
+    print-sum-requires
+    print-sum-requires-2
+    add-link
+    loop-less
+    loop-again
+    same-length
+    returns)

@@ -1,0 +1,100 @@
+// What the sections share: reading the next case from standard input, and printing numbers and refusals.
+use network_file::Fault;
+use repair::Refusal;
+ghost use Rattle.io.specs.Counts.{Counts};
+
+// Prints a number after a space.
+pub(crate) fn number(n: usize) {
+    io::write_all(1, b" ");
+    io::print_decimal(1, n as u64);
+}
+
+// Prints the end of a line.
+pub(crate) fn end() {
+    io::write_all(1, b"\n");
+}
+
+// Prints the line of a refusal: the number of the row that applies, and the value that it returns.
+fn refused(row: usize, value: usize) {
+    io::write_all(1, b"refused");
+    number(row);
+    number(value);
+    end();
+}
+
+// Prints the line of a file that is turned away.
+pub(crate) fn print_fault(fault: Fault) {
+    match fault {
+        Fault::Length => refused(1, 0),
+        Fault::Check(i) => refused(2, i),
+        Fault::Head => refused(3, 0),
+        Fault::BlockCount(n) => refused(4, n),
+        Fault::Block(i) => refused(5, i),
+        Fault::Link(k) => refused(6, k),
+        Fault::ParallelLink(k) => refused(7, k),
+        Fault::Prefix(p) => refused(8, p),
+        Fault::RouterTwice(p) => refused(9, p),
+    }
+}
+
+// Prints the line of a question that is turned away.
+pub(crate) fn print_refusal(refusal: Refusal) {
+    match refusal {
+        Refusal::File(fault) => print_fault(fault),
+        Refusal::ShortArea(n) => refused(10, n),
+        Refusal::ShortBuffer(n) => refused(11, n),
+        Refusal::NoSuchLink(n) => refused(12, n),
+        Refusal::NoSuchPrefix(n) => refused(13, n),
+        Refusal::NoPair => refused(14, 0),
+    }
+}
+
+// A case as it was read: whether there was one, and how many bytes its file has.
+pub(crate) struct Case {
+    pub(crate) found: bool,
+    pub(crate) length: usize,
+}
+
+// The number that two bytes hold, the least first.
+fn word(low: u8, high: u8) -> usize {
+    (low as usize) + 256 * (high as usize)
+}
+
+// Reads a 16-bit length and then a file of that length, to the start of the lent bytes. A file longer than those is not read.
+fn read_case(file: &mut [u8]) -> Case
+    ensures { λ r. ⌜ Counts (r .length) (now (file .exit)) ⌝ }
+{
+    let mut head = [0u8; 2];
+    let got = io::read_full(0, &mut head);
+    if got < 2 {
+        return Case {
+            found: false,
+            length: 0,
+        };
+    }
+    let length = word(head[0], head[1]);
+    if file.len() < length {
+        return Case {
+            found: false,
+            length: 0,
+        };
+    }
+    let read = io::read_full(0, &mut file[..length]);
+    Case {
+        found: true,
+        length: read,
+    }
+}
+
+// Reads case k to the start of the lent bytes, and prints the line that opens its answers.
+pub(crate) fn next_case(k: usize, file: &mut [u8]) -> Case
+    ensures { λ r. ⌜ Counts (r .length) (now (file .exit)) ⌝ }
+{
+    let case = read_case(file);
+    if case.found {
+        io::write_all(1, b"case");
+        number(k);
+        end();
+    }
+    case
+}

@@ -1,0 +1,425 @@
+//! Every public call of the planner as a pure function: the answer, and what
+//! the call leaves in every buffer lent to it.
+
+use crate::fault::{Context, Fault};
+use crate::file::{self, Bytes, Head};
+use crate::network::{LinkEnd, Network};
+use crate::plan;
+use crate::repair::{self, Pair, Repair};
+use crate::route;
+use crate::row::{self, Cause, Inputs, Refusal};
+use crate::space::{self, Space};
+use crate::workings::Workings;
+use std::cell::OnceCell;
+
+/// A call with its inputs, but for the file and the lent buffers.
+#[derive(Clone, Debug, PartialEq, Eq)]
+pub enum Question {
+    Load,
+    LinkEntry {
+        link: u64,
+    },
+    PrefixEntry {
+        prefix: u64,
+    },
+    Distances,
+    Space {
+        space: Space,
+        link: u64,
+        end: u64,
+    },
+    Size {
+        set: u64,
+    },
+    LinkRepair {
+        link: u64,
+        end: u64,
+    },
+    PrefixRepair {
+        link: u64,
+        end: u64,
+        prefix: u64,
+    },
+    Route {
+        link: u64,
+        end: u64,
+        prefix: u64,
+        choices: Vec<u8>,
+    },
+    /// What the program `plan` prints.
+    Plan,
+}
+
+/// The answer of a call.
+#[derive(Clone, Debug, PartialEq, Eq)]
+pub enum Answer {
+    /// The number and the value of the refusal's row.
+    Refused {
+        number: u8,
+        value: u32,
+    },
+    /// The file is accepted and holds this network.
+    Accepted(Network),
+    /// The bytes of an entry and their offset in the file; or no bytes, and
+    /// then offset 0.
+    Part {
+        offset: usize,
+        bytes: Vec<u8>,
+    },
+    /// The work area holds the distances.
+    Done,
+    /// A space.
+    Set(u64),
+    /// The size of a set.
+    Size(u32),
+    Unreachable,
+    Untouched,
+    Pair(Pair),
+    /// The number of routers written.
+    Count(usize),
+    /// The text of a plan.
+    Text(String),
+}
+
+/// The buffers that a caller lends: a work area of 32-bit cells and a route
+/// buffer of bytes. A call that takes neither leaves both.
+#[derive(Clone, Debug, Default, PartialEq, Eq)]
+pub struct Buffers {
+    pub work: Vec<u32>,
+    pub route: Vec<u8>,
+}
+
+/// The answer of a call and the contents of the lent buffers after it.
+#[derive(Clone, Debug, PartialEq, Eq)]
+pub struct Outcome {
+    pub answer: Answer,
+    pub left: Buffers,
+}
+
+/// The call load: the network of an accepted file, or the refusal.
+pub fn load(ctx: &Context, file: &[u8]) -> Result<Network, Refusal> {
+    let opened = Opened::new(ctx, file);
+    match opened.refusal(&Inputs::default()) {
+        Some(refusal) => Err(refusal),
+        None => Ok(opened.workings().network.clone()),
+    }
+}
+
+/// The call link entry.
+pub fn link_entry(ctx: &Context, file: &[u8], link: u64) -> Outcome {
+    ask(ctx, file, &Question::LinkEntry { link }, &Buffers::default())
+}
+
+/// The call prefix entry.
+pub fn prefix_entry(ctx: &Context, file: &[u8], prefix: u64) -> Outcome {
+    ask(ctx, file, &Question::PrefixEntry { prefix }, &Buffers::default())
+}
+
+/// The call distances.
+pub fn distances(ctx: &Context, file: &[u8], work: &[u32]) -> Outcome {
+    ask(ctx, file, &Question::Distances, &work_only(work))
+}
+
+/// The calls P space, extended P space and Q space.
+pub fn space(
+    ctx: &Context,
+    file: &[u8],
+    work: &[u32],
+    space: Space,
+    link: u64,
+    end: u64,
+) -> Outcome {
+    ask(ctx, file, &Question::Space { space, link, end }, &work_only(work))
+}
+
+/// The call size: the number of ones of any 64-bit number.
+pub fn size(ctx: &Context, set: u64) -> u32 {
+    if ctx.has(Fault::SizeOfComplement) {
+        return set.count_zeros();
+    }
+    if ctx.has(Fault::SizeOf32Bits) {
+        return (set & 0xffff_ffff).count_ones();
+    }
+    set.count_ones()
+}
+
+/// The call link repair.
+pub fn link_repair(ctx: &Context, file: &[u8], work: &[u32], link: u64, end: u64) -> Outcome {
+    ask(ctx, file, &Question::LinkRepair { link, end }, &work_only(work))
+}
+
+/// The call prefix repair.
+pub fn prefix_repair(
+    ctx: &Context,
+    file: &[u8],
+    work: &[u32],
+    link: u64,
+    end: u64,
+    prefix: u64,
+) -> Outcome {
+    ask(ctx, file, &Question::PrefixRepair { link, end, prefix }, &work_only(work))
+}
+
+/// The call route. `lent` holds the work area and the route buffer.
+pub fn route(
+    ctx: &Context,
+    file: &[u8],
+    lent: &Buffers,
+    link: u64,
+    end: u64,
+    prefix: u64,
+    choices: &[u8],
+) -> Outcome {
+    let choices = choices.to_vec();
+    ask(ctx, file, &Question::Route { link, end, prefix, choices }, lent)
+}
+
+/// What the program `plan` prints.
+pub fn plan_text(ctx: &Context, file: &[u8]) -> String {
+    plan::text(&Opened::new(ctx, file))
+}
+
+/// Any call.
+pub fn ask(ctx: &Context, file: &[u8], question: &Question, lent: &Buffers) -> Outcome {
+    Opened::new(ctx, file).ask(question, lent)
+}
+
+fn work_only(work: &[u32]) -> Buffers {
+    Buffers { work: work.to_vec(), route: Vec::new() }
+}
+
+/// A file that questions are asked about. What several questions need is
+/// worked out once; the answers are those of separate calls.
+pub struct Opened<'a> {
+    ctx: &'a Context,
+    file: &'a [u8],
+    /// The rows 1 to 9, each tried at most once.
+    file_rows: [OnceCell<Option<Refusal>>; 9],
+    workings: OnceCell<Workings>,
+}
+
+impl<'a> Opened<'a> {
+    /// A file, sound or not.
+    pub fn new(ctx: &'a Context, file: &'a [u8]) -> Opened<'a> {
+        let file_rows = std::array::from_fn(|_| OnceCell::new());
+        Opened { ctx, file, file_rows, workings: OnceCell::new() }
+    }
+
+    /// The first row that applies to a question with these inputs.
+    pub fn refusal(&self, inputs: &Inputs) -> Option<Refusal> {
+        let mut rows = row::order(self.ctx).into_iter();
+        let found = rows.find_map(|row| self.row(row, inputs));
+        if found.is_none() && self.ctx.has(Fault::SoundFileTurnedDown) {
+            return Some(Refusal::new(Cause::LengthUneven, 0));
+        }
+        found
+    }
+
+    fn row(&self, row: u8, inputs: &Inputs) -> Option<Refusal> {
+        match row {
+            1..=9 => *self.file_rows[usize::from(row) - 1]
+                .get_or_init(|| file::rows::row(self.ctx, row, self.file)),
+            _ => row::question_row(self.ctx, row, &Head::of(Bytes(self.file)), inputs),
+        }
+    }
+
+    /// The network of the file and all that follows from it.
+    pub fn workings(&self) -> &Workings {
+        self.workings.get_or_init(|| {
+            let network = file::network(self.ctx, self.file);
+            Workings::of(self.ctx, network)
+        })
+    }
+
+    /// The answer to a question and what it leaves in the lent buffers.
+    pub fn ask(&self, question: &Question, lent: &Buffers) -> Outcome {
+        let leave_all = |answer| Outcome { answer, left: lent.clone() };
+        match question {
+            Question::Load => leave_all(self.load()),
+            Question::LinkEntry { link } => {
+                leave_all(self.part(|| file::link_part(self.ctx, self.file, *link)))
+            }
+            Question::PrefixEntry { prefix } => {
+                leave_all(self.part(|| file::prefix_part(self.ctx, self.file, *prefix)))
+            }
+            Question::Size { set } => leave_all(Answer::Size(size(self.ctx, *set))),
+            Question::Plan => leave_all(Answer::Text(plan::text(self))),
+            Question::Distances
+            | Question::Space { .. }
+            | Question::LinkRepair { .. }
+            | Question::PrefixRepair { .. }
+            | Question::Route { .. } => self.compute(question, lent),
+        }
+    }
+
+    fn load(&self) -> Answer {
+        match self.refusal(&Inputs::default()) {
+            Some(refusal) => refused(self.ctx, &refusal),
+            None => Answer::Accepted(self.workings().network.clone()),
+        }
+    }
+
+    /// The part of an entry; it is empty for a refused file.
+    fn part(&self, place: impl Fn() -> std::ops::Range<usize>) -> Answer {
+        let refused = self.refusal(&Inputs::default()).is_some();
+        if refused && !self.ctx.has(Fault::EntryOfRefusedFile) {
+            return Answer::Part { offset: 0, bytes: Vec::new() };
+        }
+        let range = place();
+        let bytes = self.file[range.clone()].to_vec();
+        let offset = if bytes.is_empty() { 0 } else { range.start };
+        Answer::Part { offset, bytes }
+    }
+
+    /// A call that computes: rows 1 to 13 leave all that was lent, otherwise
+    /// the work area holds the distances.
+    fn compute(&self, question: &Question, lent: &Buffers) -> Outcome {
+        let mut left = lent.clone();
+        if let Some(refusal) = self.refusal(&inputs(question, lent)) {
+            if self.filled_all_the_same(&refusal) {
+                self.fill(&mut left.work);
+            }
+            if self.ctx.has(Fault::RefusalTouchesBuffers) {
+                left.work.iter_mut().take(1).for_each(|cell| *cell = 0);
+                left.route.iter_mut().take(1).for_each(|byte| *byte = 0);
+            }
+            return Outcome { answer: refused(self.ctx, &refusal), left };
+        }
+        let answer = self.answer(question, &mut left.route);
+        if !self.work_area_forgotten(&answer) {
+            self.fill(&mut left.work);
+        }
+        Outcome { answer, left }
+    }
+
+    /// Whether the distances stand in the work area after a refusal that was
+    /// known without a search. With the sound order that is never so.
+    fn filled_all_the_same(&self, refusal: &Refusal) -> bool {
+        let question_row = (11..=13).contains(&refusal.number);
+        refusal.number == 14 || question_row && self.ctx.has(Fault::FilledBeforeQuestion)
+    }
+
+    /// Whether a fault leaves the work area as it was.
+    fn work_area_forgotten(&self, answer: &Answer) -> bool {
+        let forgotten = match answer {
+            Answer::Refused { .. } => self.ctx.has(Fault::FourteenLeavesWorkArea),
+            Answer::Untouched | Answer::Unreachable => self.ctx.has(Fault::UntouchedLeavesWorkArea),
+            _ => false,
+        };
+        forgotten || self.ctx.has(Fault::WorkAreaUntouched)
+    }
+
+    /// Writes the N x N distances; later cells stay as they were.
+    fn fill(&self, work: &mut [u32]) {
+        let mut cells = self.workings().distances.cells(self.ctx);
+        if self.ctx.has(Fault::CellBeyondWritten) {
+            cells.push(0);
+        }
+        for (place, cell) in work.iter_mut().zip(cells) {
+            *place = cell;
+        }
+    }
+
+    /// The answer to a question that rows 1 to 13 let pass.
+    fn answer(&self, question: &Question, route_buffer: &mut [u8]) -> Answer {
+        let workings = self.workings();
+        let link_end = |link, end| workings.network.link_end(self.ctx, link, end);
+        match question {
+            Question::Space { space, link, end } => match link_end(*link, *end) {
+                Some(link_end) => {
+                    let members = space::members(workings, *space, &link_end);
+                    Answer::Set(space::set_of(workings, &members))
+                }
+                None => Answer::Set(0),
+            },
+            Question::LinkRepair { link, end } => match link_end(*link, *end) {
+                Some(link_end) => self.repair(repair::link_repair(workings, &link_end)),
+                None => self.repair(Repair::None),
+            },
+            Question::PrefixRepair { link, end, prefix } => match link_end(*link, *end) {
+                Some(link_end) => self.repair(repair::prefix_repair(workings, &link_end, *prefix)),
+                None => self.repair(Repair::None),
+            },
+            Question::Route { link, end, prefix, choices } => match link_end(*link, *end) {
+                Some(link_end) => self.played(&link_end, *prefix, choices, route_buffer),
+                None => self.repair(Repair::None),
+            },
+            _ => Answer::Done,
+        }
+    }
+
+    fn repair(&self, repair: Repair) -> Answer {
+        match repair {
+            Repair::Unreachable => Answer::Unreachable,
+            Repair::Untouched => Answer::Untouched,
+            Repair::None => refused(self.ctx, &Refusal::new(Cause::NoPair, 0)),
+            Repair::Pair(pair) => Answer::Pair(pair),
+        }
+    }
+
+    /// Plays the route of a prefix's repair and writes it. Any answer but a
+    /// pair is passed on and writes nothing.
+    fn played(
+        &self,
+        link_end: &LinkEnd,
+        prefix: u64,
+        choices: &[u8],
+        route_buffer: &mut [u8],
+    ) -> Answer {
+        let repair = repair::prefix_repair(self.workings(), link_end, prefix);
+        let Repair::Pair(pair) = repair else {
+            if self.ctx.has(Fault::NothingPlayedWrites) {
+                write_route(route_buffer, &[link_end.s]);
+            }
+            return self.repair(repair);
+        };
+        let routers = route::play(self.workings(), link_end, prefix, &pair, choices);
+        write_route(route_buffer, &routers);
+        if self.ctx.has(Fault::LaterBytesTouched) {
+            route_buffer.iter_mut().skip(routers.len()).take(1).for_each(|byte| *byte = 0);
+        }
+        let one_more = usize::from(self.ctx.has(Fault::RouteCountWrong));
+        Answer::Count(routers.len() + one_more)
+    }
+}
+
+/// Writes each router as one byte; later bytes stay as they were.
+fn write_route(route_buffer: &mut [u8], routers: &[usize]) {
+    for (byte, router) in route_buffer.iter_mut().zip(routers) {
+        *byte = u8::try_from(*router).unwrap_or(u8::MAX);
+    }
+}
+
+/// The answer of a refusal.
+fn refused(ctx: &Context, refusal: &Refusal) -> Answer {
+    let Refusal { number, value, .. } = *refusal;
+    if ctx.has(Fault::NumberAndValueSwapped) {
+        let number_from_value = u8::try_from(value).unwrap_or(u8::MAX);
+        return Answer::Refused { number: number_from_value, value: u32::from(number) };
+    }
+    Answer::Refused { number, value }
+}
+
+/// What a question has inputs for.
+fn inputs(question: &Question, lent: &Buffers) -> Inputs {
+    let work = Some(lent.work.len());
+    match question {
+        Question::Distances => Inputs { work, ..Inputs::default() },
+        Question::Space { link, end, .. } | Question::LinkRepair { link, end } => {
+            Inputs { work, link_end: Some((*link, *end)), ..Inputs::default() }
+        }
+        Question::PrefixRepair { link, end, prefix } => Inputs {
+            work,
+            link_end: Some((*link, *end)),
+            prefix: Some(*prefix),
+            ..Inputs::default()
+        },
+        Question::Route { link, end, prefix, .. } => Inputs {
+            work,
+            route: Some(lent.route.len()),
+            link_end: Some((*link, *end)),
+            prefix: Some(*prefix),
+        },
+        _ => Inputs::default(),
+    }
+}

@@ -1,0 +1,254 @@
+//! Fault switches: planners that are wrong on purpose.
+//!
+//! A test turns on one fault, asks the same questions again and asserts that
+//! the answers differ. So the test shows that it would notice such a planner.
+//! With no fault turned on the program follows document 01.
+
+use crate::row::Cause;
+
+listed! {
+    /// A number that a row compares something with.
+    pub enum Limit {
+        Blocks: "13 blocks in a file",
+        LeastRouters: "at least 1 router",
+        Routers: "at most 64 routers",
+        Links: "at most 128 links",
+        Prefixes: "at most 128 prefixes",
+        LinkRouter: "a link's routers are below N",
+        LinkCost: "a link's costs are at least 1",
+        LeastAttachments: "at least 1 attachment",
+        Attachments: "at most 8 attachments",
+        AttachedRouter: "an attached router is below N",
+        WorkArea: "the work area has at least N x N cells",
+        RouteBuffer: "the route buffer has at least 2 x N bytes",
+        LinkNumber: "a question's link is below L",
+        EndNumber: "a question's end is at most 1",
+        PrefixNumber: "a question's prefix is below their count",
+        LinkEntry: "the number of a link entry is below L",
+        PrefixEntry: "the number of a prefix entry is below the count of prefixes",
+    }
+}
+
+macro_rules! faults {
+    ($($value:ident: $words:literal,)+) => {
+        /// One way to be wrong.
+        #[derive(Clone, Copy, Debug, PartialEq, Eq, PartialOrd, Ord, Hash)]
+        pub enum Fault {
+            $(#[doc = $words] $value,)+
+            /// The row of this number (1 to 14) is not tried.
+            RowDropped(u8),
+            /// This row and the next one (1 to 13) are tried in the other order.
+            RowsSwapped(u8),
+            /// The row (2, 5, 6, 7, 8 or 9) returns the last such place, not the first.
+            LastSuch(u8),
+            /// One cause of a row is not looked at.
+            CauseIgnored(Cause),
+            /// A limit is one too generous, as by `<=` for `<`.
+            LimitLoose(Limit),
+            /// A limit is one too strict, as by `<` for `<=`.
+            LimitTight(Limit),
+            /// The key of this number (1 to 5) is left out of the order of pairs.
+            KeyDropped(u8),
+            /// This key and the next one (1 to 4) change places.
+            KeysSwapped(u8),
+        }
+
+        impl Fault {
+            /// The faults that stand alone, without a number or a cause.
+            const PLAIN: &'static [Fault] = &[$(Fault::$value,)+];
+
+            fn plain_words(self) -> Option<&'static str> {
+                match self {
+                    $(Fault::$value => Some($words),)+
+                    _ => None,
+                }
+            }
+        }
+    };
+}
+
+faults! {
+    // The wrong planners of "How far each contract reaches", c.
+    SoundFileTurnedDown: "a file that no row refuses is refused as 1",
+    FourteenBeforeSearch: "where a pair is to be searched for, the answer is 14 at once",
+    FourteenAlways: "every repair and route question that rows 1 to 13 let pass is 14",
+    EveryPrefixUntouched: "every reachable prefix is called untouched",
+    EveryPrefixUnreachable: "every prefix is called unreachable",
+    AlwaysSamePair: "every search names the pair 3, 2 of ring 4",
+    OnlyFirstBlockJudged: "no row looks at a block after the head",
+    OnlyFirstLegJudged: "a pair serves when its first hop avoids to its endpoint",
+    WorkAreaUntouched: "the work area is left as it was",
+    RouteCountWrong: "a route's count is one more than the routers written",
+
+    // "Mistakes that look like repairs".
+    OneShortestPath: "only one of the equal shortest walks is tested",
+    OnlySToETested: "a walk over the link from E to S counts as avoiding",
+    QTowardsS: "Q and the link repair's second leg are towards S instead of E",
+    CostsWrongWayRound: "the cost from a to b is taken from b to a, and the reverse",
+    StoredBeforeTested: "a ninth attachment is accepted and overwrites the first one's cost",
+
+    // The reader.
+    CheckOver254Words: "the check leaves out the last of the 255 words",
+    CheckOf8Bits: "the check is compared in its lower byte only",
+    FieldsMostByteFirst: "costs are read most byte first",
+    NumberAndValueSwapped: "a refusal's number and value change places",
+    BlocksPresentReturned: "row 4 returns the number of blocks present",
+    EndReturned: "row 12 returns 0 for a bad end",
+    HighestCostTurnedDown: "a link cost of 65,535 is refused",
+    UnusedSlotsNamed: "row 9 counts router 0 of the unused slots as named",
+    EntryShort: "an entry's part lacks its last byte",
+    EntryOfRefusedFile: "an entry of a refused file is handed back",
+    EntryFromBlockStart: "an entry's part starts four bytes early",
+
+    // Distances and the work area.
+    RowsByDestination: "the work area's rows are by destination",
+    CellBeyondWritten: "the cell after the N x N cells is written",
+    RoundTooFew: "paths of N - 1 hops are not looked at",
+    OnlyForthRelaxed: "distances use links from a to b only",
+    UnreachableWraps: "the unreachable distance plus a cost wraps round",
+    FilledBeforeQuestion: "the distances are written before rows 11 to 13 are tried",
+    UntouchedLeavesWorkArea: "untouched and unreachable leave the work area as it was",
+    FourteenLeavesWorkArea: "14 leaves the work area as it was",
+    RefusalTouchesBuffers: "a refusal by rows 1 to 13 clears the first cell and the first byte",
+
+    // Walks and spaces.
+    UnreachableAvoids: "a router that cannot be reached counts as avoided to",
+    AttachedNeverStepsOn: "an attached router that may deliver never steps on",
+    OnlyFirstAttachment: "a prefix is taken to be at its first attachment only",
+    EndsReversed: "end 0 makes b the repairing router",
+    FarEndAsFirstHop: "E is allowed as first hop",
+    OwnPAdded: "extended P takes in S's own P",
+    SLeftOutOfSpaces: "S is in no space",
+    SetOffByOne: "router r is the bit of weight 2 to the power r + 1",
+    SizeOfComplement: "the size counts the zeros of a set",
+    SizeOf32Bits: "the size counts the lower 32 bits only",
+
+    // Repairs.
+    ClassNotStrict: "the class test is D(y,t) <= D(S,t)",
+    ClassWithoutTunnel: "the class does not add 2 for a tunnel",
+    OnlySecondLegJudged: "a pair serves when its endpoint avoids to the target",
+    TunnelCostByDistance: "the tunnel cost takes D(S,n) for the cost S to n",
+    TunnelCostWithoutHop: "the tunnel cost leaves out the cost S to n",
+    FourteenBeforeUnreachable: "14 is tried before unreachable",
+    FourteenBeforeUntouched: "14 is tried before untouched",
+    UntouchedBeforeUnreachable: "untouched is tried before unreachable",
+    PrefixRepairTowardsE: "a prefix repair is the link's own repair",
+    EndpointMayBeS: "S is allowed as endpoint",
+    EndpointMayBeE: "E is allowed as endpoint",
+
+    // Played routes.
+    DeliveryLast: "delivery stands after the next routers",
+    OptionsDescending: "next routers stand in descending order",
+    ModuloFixed: "the option number is the choice byte modulo 4, at most the last option",
+    SingleOptionFree: "a single option uses no byte",
+    ByteAtEndpoint: "arrival at y uses a byte",
+    ByteForFirstHop: "the hop from S to n uses a byte",
+    RunOutAs255: "a byte that has run out counts as 255",
+    ChoicesStartAgain: "choice bytes that have run out start again",
+    EndpointTwice: "y is written twice",
+    SLeftOut: "S is not written",
+    LaterBytesTouched: "the byte after the route is cleared",
+    NothingPlayedWrites: "a route answer without a pair writes S",
+
+    // The plan text.
+    PlanNoneOnce: "a plan line for 14 has one `none`",
+    PlanEndOneFirst: "a plan has end 1 before end 0",
+    PlanHopAndEndpointSwapped: "a plan line has y before n",
+    PlanLastNewlineMissing: "a plan lacks its last newline",
+}
+
+impl Fault {
+    /// Every fault.
+    pub fn all() -> Vec<Fault> {
+        let mut all = Fault::PLAIN.to_vec();
+        all.extend((1..=14).map(Fault::RowDropped));
+        all.extend((1..=13).map(Fault::RowsSwapped));
+        all.extend([2, 5, 6, 7, 8, 9].map(Fault::LastSuch));
+        let causes = Cause::ALL.iter().filter(|cause| cause.row() < 14);
+        all.extend(causes.map(|cause| Fault::CauseIgnored(*cause)));
+        all.extend(Limit::ALL.iter().map(|limit| Fault::LimitLoose(*limit)));
+        all.extend(Limit::ALL.iter().map(|limit| Fault::LimitTight(*limit)));
+        all.extend((1..=5).map(Fault::KeyDropped));
+        all.extend((1..=4).map(Fault::KeysSwapped));
+        all
+    }
+
+    /// The name by which the command line knows the fault.
+    pub fn name(self) -> String {
+        format!("{self:?}")
+    }
+
+    /// The fault of a name.
+    pub fn named(name: &str) -> Option<Fault> {
+        Fault::all().into_iter().find(|fault| fault.name() == name)
+    }
+
+    /// What a planner with the fault does, in plain words.
+    pub fn words(self) -> String {
+        match self {
+            Fault::RowDropped(row) => format!("row {row} is not tried"),
+            Fault::RowsSwapped(row) => format!("row {} is tried before row {row}", row + 1),
+            Fault::LastSuch(row) => format!("row {row} returns the last such place"),
+            Fault::CauseIgnored(cause) => {
+                format!("row {} does not look at: {}", cause.row(), cause.words())
+            }
+            Fault::LimitLoose(limit) => format!("one too generous: {}", limit.words()),
+            Fault::LimitTight(limit) => format!("one too strict: {}", limit.words()),
+            Fault::KeyDropped(key) => format!("key {key} of the order of pairs is left out"),
+            Fault::KeysSwapped(key) => format!("keys {key} and {} change places", key + 1),
+            plain => plain.plain_words().unwrap_or_default().to_string(),
+        }
+    }
+
+    /// Whether the fault changes no answer of any call. In every accepted
+    /// network a serving pair whose endpoint is S or E stands behind another
+    /// serving pair of a lower class, so allowing such endpoints is not seen.
+    pub fn never_seen(self) -> bool {
+        matches!(self, Fault::EndpointMayBeS | Fault::EndpointMayBeE)
+    }
+}
+
+/// The faults that are turned on; none of them in a sound context.
+#[derive(Clone, Debug, Default)]
+pub struct Context {
+    faults: Vec<Fault>,
+}
+
+impl Context {
+    /// No fault: the program follows document 01.
+    pub fn sound() -> Context {
+        Context::default()
+    }
+
+    /// These faults, and no other.
+    pub fn with(faults: &[Fault]) -> Context {
+        Context { faults: faults.to_vec() }
+    }
+
+    /// Whether a fault is turned on.
+    pub fn has(&self, fault: Fault) -> bool {
+        self.faults.contains(&fault)
+    }
+
+    /// A limit from above: the limit itself, or one off with a fault.
+    pub fn most(&self, limit: Limit, sound: usize) -> usize {
+        if self.has(Fault::LimitLoose(limit)) {
+            sound + 1
+        } else if self.has(Fault::LimitTight(limit)) {
+            sound.saturating_sub(1)
+        } else {
+            sound
+        }
+    }
+
+    /// A limit from below: the limit itself, or one off with a fault.
+    pub fn least(&self, limit: Limit, sound: usize) -> usize {
+        if self.has(Fault::LimitLoose(limit)) {
+            sound.saturating_sub(1)
+        } else if self.has(Fault::LimitTight(limit)) {
+            sound + 1
+        } else {
+            sound
+        }
+    }
+}

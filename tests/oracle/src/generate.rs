@@ -1,0 +1,197 @@
+//! Random networks by family, repeatable from a seed. Every network is one
+//! that the reader accepts.
+
+use crate::file::{ATTACHMENTS, MOST_LINKS, MOST_PREFIXES, MOST_ROUTERS};
+use crate::network::{Attachment, Link, Network, Prefix};
+use crate::random::Random;
+
+listed! {
+    /// How a random network is made.
+    pub enum Family {
+        Sparse: "about as many links as routers, anywhere",
+        Dense: "many links for each router",
+        Ring: "a ring",
+        RingWithChords: "a ring and some more links",
+        Line: "routers in a row",
+        Grid: "a square of rows and columns",
+        Tree: "a tree",
+        Star: "one router joined to all others",
+        Disconnected: "two parts that no link joins",
+        Ties: "many links, all of cost 1",
+        Asymmetric: "costs that differ by direction",
+        HighCost: "costs at or just below 65,535",
+        Anything: "any number of links up to the most, any costs",
+    }
+}
+
+/// From which numbers costs are drawn.
+#[derive(Clone, Copy, Debug)]
+enum Costs {
+    /// The same cost both ways.
+    Same(usize, usize),
+    /// Each direction drawn by itself.
+    Apart(usize, usize),
+}
+
+/// A random network of a family with at most so many routers and with 0 to 4
+/// prefixes, so few that every question about it can be asked.
+pub fn network(family: Family, most_routers: usize, random: &mut Random) -> Network {
+    let routers = random.between(1, most_routers.min(MOST_ROUTERS));
+    let mut pairs = pairs(family, routers, random);
+    pairs.truncate(MOST_LINKS);
+    let costs = costs(family, random);
+    let mut network = Network::of_routers(small(routers));
+    network.links = pairs.iter().map(|pair| link(*pair, costs, random)).collect();
+    random.shuffle(&mut network.links);
+    let prefixes = random.below(5);
+    network.prefixes = (0..prefixes).map(|_| prefix(family, routers, random)).collect();
+    renumber(&mut network, random);
+    network
+}
+
+/// A random network with exactly so many routers, links and prefixes. There
+/// have to be enough pairs of routers for the links.
+pub fn sized(routers: usize, links: usize, prefixes: usize, random: &mut Random) -> Network {
+    let pairs = some_pairs(routers, links, random);
+    let costs = costs(Family::Anything, random);
+    let mut network = Network::of_routers(small(routers));
+    network.links = pairs.iter().map(|pair| link(*pair, costs, random)).collect();
+    let family = random.pick(&[Family::Ties, Family::Anything, Family::HighCost]);
+    network.prefixes = (0..prefixes).map(|_| prefix(family, routers, random)).collect();
+    network
+}
+
+/// A random network of the largest size: 64 routers, 128 links, 128 prefixes.
+pub fn largest(random: &mut Random) -> Network {
+    sized(MOST_ROUTERS, MOST_LINKS, MOST_PREFIXES, random)
+}
+
+/// The pairs of routers that the links of a family join.
+fn pairs(family: Family, routers: usize, random: &mut Random) -> Vec<(usize, usize)> {
+    let line = |from: usize, to: usize| (from + 1..to).map(|r| (r - 1, r));
+    match family {
+        Family::Sparse | Family::Asymmetric | Family::HighCost => {
+            some_pairs(routers, random.between(routers / 2, routers + 2), random)
+        }
+        Family::Dense | Family::Ties => {
+            some_pairs(routers, random.between(2 * routers, 4 * routers), random)
+        }
+        Family::Ring => ring(routers),
+        Family::RingWithChords => {
+            let chords = some_pairs(routers, random.between(1, routers), random);
+            without_repeats(ring(routers).into_iter().chain(chords))
+        }
+        Family::Line => line(0, routers).collect(),
+        Family::Grid => {
+            let columns = random.between(2, 8);
+            let right = (1..routers).filter(|r| r % columns != 0).map(|r| (r - 1, r));
+            let down = (columns..routers).map(|r| (r - columns, r));
+            right.chain(down).collect()
+        }
+        Family::Tree => (1..routers).map(|r| (random.below(r), r)).collect(),
+        Family::Star => (1..routers).map(|r| (0, r)).collect(),
+        Family::Disconnected => {
+            let middle = random.between(1, routers.max(2) - 1);
+            let mut pairs = some_pairs(routers, 2 * routers, random);
+            pairs.extend(line(0, middle));
+            pairs.extend(line(middle, routers));
+            pairs.retain(|(a, b)| (*a < middle) == (*b < middle));
+            without_repeats(pairs.into_iter())
+        }
+        Family::Anything => some_pairs(routers, random.between(0, MOST_LINKS), random),
+    }
+}
+
+fn ring(routers: usize) -> Vec<(usize, usize)> {
+    without_repeats((0..routers).map(|r| (r, (r + 1) % routers)))
+}
+
+/// At most so many pairs of different routers, none twice.
+fn some_pairs(routers: usize, count: usize, random: &mut Random) -> Vec<(usize, usize)> {
+    let mut pairs: Vec<(usize, usize)> =
+        (0..routers).flat_map(|b| (0..b).map(move |a| (a, b))).collect();
+    random.shuffle(&mut pairs);
+    pairs.truncate(count);
+    pairs
+}
+
+/// The pairs without loops and without those that an earlier one repeats.
+fn without_repeats(pairs: impl Iterator<Item = (usize, usize)>) -> Vec<(usize, usize)> {
+    let mut kept: Vec<(usize, usize)> = Vec::new();
+    for (a, b) in pairs {
+        if a != b && !kept.contains(&(a, b)) && !kept.contains(&(b, a)) {
+            kept.push((a, b));
+        }
+    }
+    kept
+}
+
+fn costs(family: Family, random: &mut Random) -> Costs {
+    match family {
+        Family::Ties => Costs::Same(1, 1),
+        Family::Asymmetric => random.pick(&[Costs::Apart(1, 4), Costs::Apart(1, 65_535)]),
+        Family::HighCost => {
+            random.pick(&[Costs::Same(65_535, 65_535), Costs::Apart(65_533, 65_535)])
+        }
+        _ => random.pick(&[
+            Costs::Same(1, 1),
+            Costs::Same(1, 3),
+            Costs::Same(1, 10),
+            Costs::Apart(1, 3),
+            Costs::Apart(1, 65_535),
+        ]),
+    }
+}
+
+/// A link over a pair, with either router as a.
+fn link((mut a, mut b): (usize, usize), costs: Costs, random: &mut Random) -> Link {
+    if random.one_in(2) {
+        (a, b) = (b, a);
+    }
+    let (forth, back) = match costs {
+        Costs::Same(least, most) => {
+            let cost = random.between(least, most);
+            (cost, cost)
+        }
+        Costs::Apart(least, most) => (random.between(least, most), random.between(least, most)),
+    };
+    Link { a: small(a), b: small(b), forth: small(forth), back: small(back) }
+}
+
+/// A prefix with 1 to 8 attachments, often one or two.
+fn prefix(family: Family, routers: usize, random: &mut Random) -> Prefix {
+    let most = routers.min(ATTACHMENTS);
+    let count =
+        if random.one_in(2) { random.between(1, most.min(2)) } else { random.between(1, most) };
+    let highest = match family {
+        Family::HighCost => random.pick(&[0, 65_535]),
+        Family::Ties => random.pick(&[0, 1, 2]),
+        _ => random.pick(&[0, 1, 3, 10, 65_535]),
+    };
+    let least = if family == Family::HighCost { highest } else { 0 };
+    let mut order: Vec<usize> = (0..routers).collect();
+    random.shuffle(&mut order);
+    let attachments = order[..count].iter().map(|router| Attachment {
+        router: small(*router),
+        cost: small(random.between(least, highest)),
+    });
+    Prefix { attachments: attachments.collect() }
+}
+
+/// Gives the routers other numbers, so that numbers and places do not agree.
+fn renumber(network: &mut Network, random: &mut Random) {
+    let mut numbers: Vec<u8> = (0..network.routers).collect();
+    random.shuffle(&mut numbers);
+    let new = |router: u8| numbers[usize::from(router)];
+    for link in &mut network.links {
+        (link.a, link.b) = (new(link.a), new(link.b));
+    }
+    for attachment in network.prefixes.iter_mut().flat_map(|prefix| &mut prefix.attachments) {
+        attachment.router = new(attachment.router);
+    }
+}
+
+/// A number that is known to fit its field.
+fn small<Field: TryFrom<usize>>(number: usize) -> Field {
+    Field::try_from(number).unwrap_or_else(|_| panic!("{number} does not fit its field"))
+}

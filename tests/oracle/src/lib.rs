@@ -1,0 +1,33 @@
+//! An independent program for the answers that document 01 defines: distances,
+//! spaces, repairs, played routes, the plan text, and what every call leaves in
+//! every buffer lent to it.
+//!
+//! It is written from the definitions, not for speed: distances by Dijkstra's
+//! method, walks by following every step, repairs by looking at every pair. It
+//! serves to make stored outputs and to be compared with the planner.
+
+#[macro_use]
+mod listed;
+
+pub mod answer;
+pub mod batch;
+pub mod command;
+pub mod corpus;
+pub mod damage;
+pub mod distance;
+pub mod fault;
+pub mod file;
+pub mod generate;
+pub mod network;
+pub mod plan;
+pub mod random;
+pub mod repair;
+pub mod route;
+pub mod row;
+pub mod space;
+pub mod stored;
+pub mod text;
+pub mod walk;
+pub mod words;
+pub mod worked;
+pub mod workings;

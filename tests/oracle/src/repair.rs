@@ -1,0 +1,212 @@
+//! Link repairs and prefix repairs: every pair is looked at, those that serve
+//! are kept, and the first in the order of document 01 is taken.
+
+use crate::distance::plus;
+use crate::fault::Fault;
+use crate::network::LinkEnd;
+use crate::space::{first_hops, q_target};
+use crate::walk::Walks;
+use crate::workings::Workings;
+
+/// A pair with what its answer holds.
+#[derive(Clone, Copy, Debug, PartialEq, Eq)]
+pub struct Pair {
+    /// n, a neighbour of S, not E.
+    pub first_hop: usize,
+    /// y, a router, neither S nor E.
+    pub endpoint: usize,
+    pub class: u32,
+    /// The cost S to n plus D(n,y).
+    pub tunnel_cost: u32,
+}
+
+/// The answer to a repair question that rows 1 to 13 let pass.
+#[derive(Clone, Copy, Debug, PartialEq, Eq)]
+pub enum Repair {
+    Unreachable,
+    Untouched,
+    /// No pair serves: refusal 14.
+    None,
+    Pair(Pair),
+}
+
+/// A serving pair with its five keys, the first deciding: class, D(S,y), y,
+/// tunnel cost, n.
+#[derive(Clone, Copy, Debug, PartialEq, Eq)]
+pub struct Candidate {
+    pub keys: [u32; 5],
+    pub pair: Pair,
+}
+
+/// The link's own repair: the target is E.
+pub fn link_repair(workings: &Workings, link_end: &LinkEnd) -> Repair {
+    search(workings, link_end, workings.to_router(q_target(workings, link_end)))
+}
+
+/// The repair for a prefix: unreachable, then untouched, then a pair or 14.
+pub fn prefix_repair(workings: &Workings, link_end: &LinkEnd, prefix: u64) -> Repair {
+    let walks = workings.to_prefix(prefix);
+    if let Some(wrong) = wrong_prefix_repair(workings, link_end, walks) {
+        return wrong;
+    }
+    if !walks.reachable_from(link_end.s) {
+        Repair::Unreachable
+    } else if !walks.takes(link_end.s, link_end.s_to_e()) {
+        Repair::Untouched
+    } else {
+        search(workings, link_end, walks)
+    }
+}
+
+/// The first serving pair, or none.
+fn search(workings: &Workings, link_end: &LinkEnd, target: &Walks) -> Repair {
+    if let Some(wrong) = wrong_search(workings) {
+        return wrong;
+    }
+    // No two pairs have the same five keys. Where a fault drops a key, the
+    // last of the equal pairs is taken.
+    let serving = serving(workings, link_end, target).into_iter().rev();
+    match serving.min_by_key(|candidate| ordered(workings, candidate.keys)) {
+        Some(first) => Repair::Pair(first.pair),
+        None if workings.ctx.has(Fault::RowDropped(14)) => {
+            Repair::Pair(Pair { first_hop: 0, endpoint: 0, class: 0, tunnel_cost: 0 })
+        }
+        None => Repair::None,
+    }
+}
+
+/// Every pair that serves the target, with its keys.
+pub fn serving(workings: &Workings, link_end: &LinkEnd, target: &Walks) -> Vec<Candidate> {
+    let pairs = pairs(workings, link_end).into_iter();
+    let serving = pairs.filter(|(n, y)| serves(workings, link_end, target, *n, *y));
+    serving.map(|(n, y)| candidate(workings, link_end, target, n, y)).collect()
+}
+
+/// Every pair (n, y).
+fn pairs(workings: &Workings, link_end: &LinkEnd) -> Vec<(usize, usize)> {
+    let ctx = &workings.ctx;
+    let endpoint = |y: &usize| {
+        let s_allowed = *y != link_end.s || ctx.has(Fault::EndpointMayBeS);
+        let e_allowed = *y != link_end.e || ctx.has(Fault::EndpointMayBeE);
+        s_allowed && e_allowed
+    };
+    let endpoints: Vec<usize> = workings.routers().filter(endpoint).collect();
+    let first_hops = first_hops(workings, link_end).into_iter();
+    first_hops.flat_map(|n| endpoints.iter().map(move |y| (n, *y))).collect()
+}
+
+/// A pair serves a target when n avoids to y and y avoids to the target.
+fn serves(workings: &Workings, link_end: &LinkEnd, target: &Walks, n: usize, y: usize) -> bool {
+    let ctx = &workings.ctx;
+    let first_leg = workings.to_router(y).avoids(ctx, n, link_end);
+    let second_leg = target.avoids(ctx, y, link_end);
+    (first_leg || ctx.has(Fault::OnlySecondLegJudged))
+        && (second_leg || ctx.has(Fault::OnlyFirstLegJudged))
+}
+
+/// A pair with its class, its tunnel cost and its keys.
+fn candidate(
+    workings: &Workings,
+    link_end: &LinkEnd,
+    target: &Walks,
+    n: usize,
+    y: usize,
+) -> Candidate {
+    let class = class(workings, link_end, target, n, y);
+    let tunnel_cost = tunnel_cost(workings, link_end.s, n, y);
+    let from_s = workings.distances.between(link_end.s, y);
+    Candidate {
+        keys: [class, from_s, number(y), tunnel_cost, number(n)],
+        pair: Pair { first_hop: n, endpoint: y, class, tunnel_cost },
+    }
+}
+
+/// Class: 0 if y = n, 2 if not; plus 1 unless D(y,t) < D(S,t).
+fn class(workings: &Workings, link_end: &LinkEnd, target: &Walks, n: usize, y: usize) -> u32 {
+    let ctx = &workings.ctx;
+    let tunnel = if y == n || ctx.has(Fault::ClassWithoutTunnel) { 0 } else { 2 };
+    let from_y = target.remaining(y);
+    let from_s = target.remaining(link_end.s);
+    let nearer = from_y < from_s || (from_y == from_s && ctx.has(Fault::ClassNotStrict));
+    tunnel + u32::from(!nearer)
+}
+
+/// The cost S to n, which is the link's, plus D(n,y).
+fn tunnel_cost(workings: &Workings, s: usize, n: usize, y: usize) -> u32 {
+    let ctx = &workings.ctx;
+    let hop = workings.hops.leaving(s).iter().find(|hop| hop.to == n);
+    let mut first = hop.map_or(0, |hop| hop.cost);
+    if ctx.has(Fault::TunnelCostByDistance) {
+        first = workings.distances.between(s, n);
+    }
+    if ctx.has(Fault::TunnelCostWithoutHop) {
+        first = 0;
+    }
+    plus(workings.distances.between(n, y), first)
+}
+
+/// The keys as they are compared: all five in their order, unless a fault
+/// drops one or makes two neighbours change places.
+fn ordered(workings: &Workings, keys: [u32; 5]) -> Vec<u32> {
+    let mut numbers: Vec<u8> = (1..=5).collect();
+    for first in 1..=4 {
+        if workings.ctx.has(Fault::KeysSwapped(first)) {
+            numbers.swap(usize::from(first) - 1, usize::from(first));
+        }
+    }
+    numbers.retain(|key| !workings.ctx.has(Fault::KeyDropped(*key)));
+    numbers.iter().map(|key| keys[usize::from(*key) - 1]).collect()
+}
+
+/// The number (1 to 5) of the key that puts the first of these pairs before
+/// the second; none when there are fewer than two pairs.
+pub fn deciding_key(serving: &[Candidate]) -> Option<usize> {
+    let mut keys: Vec<[u32; 5]> = serving.iter().map(|candidate| candidate.keys).collect();
+    keys.sort();
+    let [first, second, ..] = keys.as_slice() else {
+        return None;
+    };
+    (0..5).find(|key| first[*key] != second[*key]).map(|key| key + 1)
+}
+
+fn number(router: usize) -> u32 {
+    u32::try_from(router).unwrap_or(u32::MAX)
+}
+
+/// What a planner with a fault answers to a prefix repair question.
+fn wrong_prefix_repair(workings: &Workings, link_end: &LinkEnd, walks: &Walks) -> Option<Repair> {
+    let ctx = &workings.ctx;
+    let reachable = walks.reachable_from(link_end.s);
+    let touched = walks.takes(link_end.s, link_end.s_to_e());
+    let no_pair = || search(workings, link_end, walks) == Repair::None;
+    if ctx.has(Fault::FourteenAlways) {
+        Some(Repair::None)
+    } else if ctx.has(Fault::EveryPrefixUnreachable) {
+        Some(Repair::Unreachable)
+    } else if ctx.has(Fault::EveryPrefixUntouched) && reachable {
+        Some(Repair::Untouched)
+    } else if ctx.has(Fault::FourteenBeforeUnreachable) && !reachable && no_pair() {
+        Some(Repair::None)
+    } else if ctx.has(Fault::FourteenBeforeUntouched) && reachable && !touched && no_pair() {
+        Some(Repair::None)
+    } else if ctx.has(Fault::UntouchedBeforeUnreachable) && !reachable {
+        Some(Repair::Untouched)
+    } else if ctx.has(Fault::PrefixRepairTowardsE) && touched {
+        Some(link_repair(workings, link_end))
+    } else {
+        None
+    }
+}
+
+/// What a planner with a fault answers where a pair is to be searched for.
+fn wrong_search(workings: &Workings) -> Option<Repair> {
+    let ctx = &workings.ctx;
+    if ctx.has(Fault::FourteenBeforeSearch) || ctx.has(Fault::FourteenAlways) {
+        Some(Repair::None)
+    } else if ctx.has(Fault::AlwaysSamePair) {
+        let ring_4 = Pair { first_hop: 3, endpoint: 2, class: 3, tunnel_cost: 2 };
+        Some(Repair::Pair(ring_4))
+    } else {
+        None
+    }
+}

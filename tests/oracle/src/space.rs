@@ -1,0 +1,59 @@
+//! The P, extended P and Q spaces, and sets of routers as 64-bit numbers.
+
+use crate::fault::Fault;
+use crate::network::LinkEnd;
+use crate::workings::Workings;
+
+listed! {
+    /// One of the three spaces.
+    pub enum Space {
+        P: "routers that S avoids to",
+        ExtendedP: "routers that some neighbour of S other than E avoids to",
+        Q: "routers that avoid to E",
+    }
+}
+
+/// The first hops of a question: S's neighbours other than E, ascending.
+pub fn first_hops(workings: &Workings, link_end: &LinkEnd) -> Vec<usize> {
+    let leaving = workings.hops.leaving(link_end.s).iter().map(|hop| hop.to);
+    let far_end_too = workings.ctx.has(Fault::FarEndAsFirstHop);
+    leaving.filter(|n| *n != link_end.e || far_end_too).collect()
+}
+
+/// The routers of a space, ascending.
+pub fn members(workings: &Workings, space: Space, link_end: &LinkEnd) -> Vec<usize> {
+    let ctx = &workings.ctx;
+    let avoids = |x, t| workings.to_router(t).avoids(ctx, x, link_end);
+    let first_hops = first_hops(workings, link_end);
+    let is_member = |r: &usize| match space {
+        Space::P => avoids(link_end.s, *r),
+        Space::ExtendedP => {
+            let own = ctx.has(Fault::OwnPAdded) && avoids(link_end.s, *r);
+            own || first_hops.iter().any(|n| avoids(*n, *r))
+        }
+        Space::Q => avoids(*r, q_target(workings, link_end)),
+    };
+    let left_out = |r: &usize| *r == link_end.s && ctx.has(Fault::SLeftOutOfSpaces);
+    workings.routers().filter(is_member).filter(|r| !left_out(r)).collect()
+}
+
+/// The router that Q and the link repair are about: E.
+pub fn q_target(workings: &Workings, link_end: &LinkEnd) -> usize {
+    if workings.ctx.has(Fault::QTowardsS) { link_end.s } else { link_end.e }
+}
+
+/// The set of some routers: router r is the bit of weight 2 to the power r.
+pub fn set_of(workings: &Workings, members: &[usize]) -> u64 {
+    let shift = usize::from(workings.ctx.has(Fault::SetOffByOne));
+    // Routers from 64 on have no bit; only a reader with a fault lets them pass.
+    let weights = members.iter().map(|r| {
+        let place = u32::try_from(r + shift).unwrap_or(u32::MAX);
+        1u64.checked_shl(place).unwrap_or(0)
+    });
+    weights.fold(0, |set, weight| set | weight)
+}
+
+/// The routers of a set, ascending.
+pub fn routers_of(set: u64) -> Vec<usize> {
+    (0..64).filter(|r| set >> r & 1 == 1).collect()
+}

@@ -1,0 +1,49 @@
+//! What several sections share: which questions they ask, and lines.
+
+use crate::answer::{Answer, Buffers, Opened, Question};
+use crate::network::Network;
+use crate::words;
+
+/// With more links times prefixes than this, only some routes are asked for,
+/// and prefix repairs are printed by their sums.
+const ASKED_WHOLE: usize = 2000;
+/// The links whose routes are asked for then.
+const SOME_LINKS: [u64; 4] = [0, 1, 64, 127];
+/// And the step from one prefix of a route to the next.
+const SOME_PREFIXES: usize = 16;
+
+/// The network of a file. A refused file counts as one of no router.
+pub fn network(opened: &Opened) -> Network {
+    match opened.ask(&Question::Load, &Buffers::default()).answer {
+        Answer::Accepted(network) => network,
+        _ => Network::default(),
+    }
+}
+
+/// Whether every route is asked for and every prefix repair printed.
+pub fn asked_whole(network: &Network) -> bool {
+    network.links.len() * network.prefixes.len() <= ASKED_WHOLE
+}
+
+/// The links whose routes are asked for, each with both ends.
+pub fn link_ends(network: &Network) -> Vec<(u64, u64)> {
+    let all = 0..network.links.len() as u64;
+    let links = if asked_whole(network) { all.collect() } else { SOME_LINKS.to_vec() };
+    links.into_iter().flat_map(|link| [(link, 0), (link, 1)]).collect()
+}
+
+/// The prefixes whose routes are asked for.
+pub fn route_prefixes(network: &Network) -> Vec<u64> {
+    let step = if asked_whole(network) { 1 } else { SOME_PREFIXES };
+    (0..network.prefixes.len() as u64).step_by(step).collect()
+}
+
+/// The line of a question: its name, its numbers, its answer.
+pub fn answered(opened: &Opened, lent: &Buffers, label: &str, question: &Question) -> String {
+    format!("{label} {}", words::short(&opened.ask(question, lent)))
+}
+
+/// Lines as a text, a newline after each.
+pub fn text(lines: &[String]) -> String {
+    lines.iter().map(|line| format!("{line}\n")).collect()
+}

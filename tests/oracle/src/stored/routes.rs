@@ -1,0 +1,50 @@
+//! The section of routes: played routes.
+//!
+//! For each link that is asked about, each of its ends, and each prefix that is
+//! asked about:
+//!
+//! ```text
+//! route LINK END PREFIX STRING ANSWER            every choice string
+//! ```
+//!
+//! The links are those of the repairs. Every prefix is asked about if L
+//! times the number of prefixes is at most 2,000, otherwise every 16th from 0
+//! on. The choice strings are those of the batch, by their numbers 0 to 4.
+//! After them comes one question with a route buffer of 2 x N - 1 bytes:
+//!
+//! ```text
+//! short-route 0 0 0 0 ANSWER
+//! ```
+//!
+//! A refused file counts as one of no router, and its short buffer has no byte.
+//!
+//! An answer is `refused NUMBER VALUE`, `unreachable`, `untouched` or
+//! `count COUNT route ROUTER ...`. The work area has 4,096 cells, the route
+//! buffer otherwise 128 bytes.
+
+use super::common::{answered, link_ends, network, route_prefixes, text};
+use crate::answer::{Opened, Question};
+use crate::batch::{choice_strings, enough};
+use crate::fault::Context;
+
+/// What is printed for a file.
+pub fn lines(ctx: &Context, file: &[u8]) -> String {
+    let opened = Opened::new(ctx, file);
+    let lent = enough();
+    let network = network(&opened);
+    let mut lines = Vec::new();
+    for (link, end) in link_ends(&network) {
+        for prefix in route_prefixes(&network) {
+            for (string, choices) in choice_strings().into_iter().enumerate() {
+                let label = format!("route {link} {end} {prefix} {string}");
+                let question = Question::Route { link, end, prefix, choices };
+                lines.push(answered(&opened, &lent, &label, &question));
+            }
+        }
+    }
+    let mut short = enough();
+    short.route.truncate((2 * usize::from(network.routers)).saturating_sub(1));
+    let question = Question::Route { link: 0, end: 0, prefix: 0, choices: Vec::new() };
+    lines.push(answered(&opened, &short, "short-route 0 0 0 0", &question));
+    text(&lines)
+}

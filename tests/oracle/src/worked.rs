@@ -1,0 +1,115 @@
+//! The hand-worked networks of document 01, and networks of the source
+//! documents that their text determines.
+
+use crate::network::Network;
+
+/// Ring k: link i joins i and i + 1, the last joins k - 1 and 0, all costs 1.
+pub fn ring(k: u8) -> Network {
+    (0..k).fold(Network::of_routers(k), |network, i| network.link(i, (i + 1) % k, 1, 1))
+}
+
+/// Ring 4 with a prefix at 1 and 2, cost 0 each.
+pub fn ring_4_with_prefix() -> Network {
+    ring(4).prefix(&[(1, 0), (2, 0)])
+}
+
+/// Ring 5 with a prefix at 1, cost 0.
+pub fn ring_5_with_prefix() -> Network {
+    ring(5).prefix(&[(1, 0)])
+}
+
+/// Ring 3 with cost 2 from 2 to 1.
+pub fn ring_3_dear_back() -> Network {
+    let mut network = ring(3);
+    network.links[1].back = 2;
+    network
+}
+
+/// Ring 4 with link 2 costing 10 both ways.
+pub fn ring_4_dear_link() -> Network {
+    let mut network = ring(4);
+    network.links[2].forth = 10;
+    network.links[2].back = 10;
+    network
+}
+
+/// Two routers, one link.
+pub fn two_routers() -> Network {
+    Network::of_routers(2).link(0, 1, 1, 1)
+}
+
+/// One router alone.
+pub fn lone_router() -> Network {
+    Network::of_routers(1)
+}
+
+/// Figure 1 of source document 000: the ring S, A, B, C, D, E as the routers
+/// 0 to 5. Link 0 is S-E, with S as its router a. B-C has the given cost.
+pub fn figure_1(b_to_c: u16) -> Network {
+    Network::of_routers(6)
+        .link(0, 5, 1, 1)
+        .link(0, 1, 1, 1)
+        .link(1, 2, 1, 1)
+        .link(2, 3, b_to_c, b_to_c)
+        .link(3, 4, 1, 1)
+        .link(4, 5, 1, 1)
+}
+
+/// Topology 1 of source document 001: the ring S, N, R1, R2, R3, E as the
+/// routers 0 to 5, D1 as 6 behind E and D2 as 7 behind R3, all costs 1. Link 0
+/// is S-E, with S as its router a. The prefixes are R3, E, D1 and D2.
+pub fn topology_1() -> Network {
+    Network::of_routers(8)
+        .link(0, 5, 1, 1)
+        .link(0, 1, 1, 1)
+        .link(1, 2, 1, 1)
+        .link(2, 3, 1, 1)
+        .link(3, 4, 1, 1)
+        .link(4, 5, 1, 1)
+        .link(5, 6, 1, 1)
+        .link(4, 7, 1, 1)
+        .prefix(&[(4, 0)])
+        .prefix(&[(5, 0)])
+        .prefix(&[(6, 0)])
+        .prefix(&[(7, 0)])
+}
+
+/// Topology 2 of source document 001: topology 1 with a link N-E.
+pub fn topology_2() -> Network {
+    topology_1().link(1, 5, 1, 1)
+}
+
+/// Routers in a square of columns and rows, numbered row by row, each joined
+/// to the next in its row and its column, all costs 1.
+pub fn grid(columns: u8, rows: u8) -> Network {
+    let mut network = Network::of_routers(columns * rows);
+    for router in 0..columns * rows {
+        if router % columns + 1 < columns {
+            network = network.link(router, router + 1, 1, 1);
+        }
+        if router / columns + 1 < rows {
+            network = network.link(router, router + columns, 1, 1);
+        }
+    }
+    network
+}
+
+/// All of them with their names.
+pub fn all() -> Vec<(&'static str, Network)> {
+    vec![
+        ("lone router", lone_router()),
+        ("two routers", two_routers()),
+        ("ring 3", ring(3)),
+        ("ring 3, cost 2 from 2 to 1", ring_3_dear_back()),
+        ("ring 4", ring(4)),
+        ("ring 4 with prefix", ring_4_with_prefix()),
+        ("ring 4, link 2 costs 10", ring_4_dear_link()),
+        ("ring 5", ring(5)),
+        ("ring 5 with prefix", ring_5_with_prefix()),
+        ("figure 1", figure_1(1)),
+        ("figure 1, B-C costs 4", figure_1(4)),
+        ("topology 1", topology_1()),
+        ("topology 2", topology_2()),
+        ("grid 3 by 3 with prefix", grid(3, 3).prefix(&[(8, 0)]).prefix(&[(2, 2), (5, 1), (8, 0)])),
+    ]
+}

@@ -1,0 +1,108 @@
+//! The stored texts: that each is what its name and its comment say.
+
+use crate::common::{stored_cases, stored_file};
+use oracle::answer::{Answer, Opened, Question, load};
+use oracle::batch::enough;
+use oracle::damage::causes;
+use oracle::fault::{Context, Fault};
+use oracle::file::{LARGEST, write};
+use oracle::generate;
+use oracle::network::Network;
+use oracle::random::Random;
+use oracle::repair::{deciding_key, serving};
+use oracle::row::Cause;
+use oracle::space::Space;
+use oracle::stored;
+use oracle::worked::*;
+use std::collections::BTreeSet;
+use std::fs;
+
+#[test]
+fn the_first_line_of_a_reader_text_is_the_answer() {
+    for case in &stored_cases().reader {
+        let place = format!("tests/cases/{}.txt", case.name);
+        let text = fs::read_to_string(stored::root().join(&place)).expect("a text");
+        let answer = match load(&Context::sound(), &case.file) {
+            Ok(_) => "# accepted: ".to_string(),
+            Err(refusal) => format!("# refused {} {}: ", refusal.number, refusal.value),
+        };
+        assert!(text.starts_with(&answer), "{place} does not start with {answer}");
+    }
+}
+
+#[test]
+fn every_cause_of_the_rows_1_to_9_has_a_reader_text() {
+    let refusals = stored_cases().reader.into_iter();
+    let refusals = refusals.filter_map(|case| load(&Context::sound(), &case.file).err());
+    let met: BTreeSet<Cause> = refusals.map(|refusal| refusal.cause).collect();
+    assert_eq!(met.into_iter().collect::<Vec<Cause>>(), causes());
+}
+
+#[test]
+fn the_networks_of_the_documents_are_stored() {
+    let destinations =
+        |network: Network| network.prefix(&[(3, 0)]).prefix(&[(4, 0)]).prefix(&[(5, 0)]);
+    let stored = [
+        ("one_router", lone_router()),
+        ("two_routers", two_routers()),
+        ("ring_3", ring(3)),
+        ("ring_3_dear_back", ring_3_dear_back()),
+        ("ring_4", ring(4)),
+        ("ring_4_dear_link", ring_4_dear_link()),
+        ("ring_4_prefix", ring_4_with_prefix()),
+        ("ring_5", ring(5)),
+        ("ring_5_prefix", ring_5_with_prefix()),
+        ("source_000_figure_1", destinations(figure_1(1))),
+        ("source_000_figure_1_dear", destinations(figure_1(4))),
+        ("source_001_figure_1", topology_1()),
+        ("source_001_figure_2", topology_2()),
+    ];
+    let cases = stored_cases();
+    for (name, network) in stored {
+        assert_eq!(stored_file(&cases, name), write(&network), "{name}");
+    }
+}
+
+#[test]
+fn every_network_is_accepted() {
+    for case in &stored_cases().networks {
+        assert!(load(&Context::sound(), &case.file).is_ok(), "{} is refused", case.name);
+    }
+}
+
+#[test]
+fn the_largest_network_is_the_generators() {
+    let network = generate::sized(64, 128, 128, &mut Random::new(21));
+    let cases = stored_cases();
+    assert_eq!(stored_file(&cases, "largest"), write(&network));
+    assert_eq!(stored_file(&cases, "largest").len(), LARGEST);
+}
+
+#[test]
+fn every_key_decides_in_the_network_of_keys() {
+    let cases = stored_cases();
+    let ctx = Context::sound();
+    let opened = Opened::new(&ctx, stored_file(&cases, "keys"));
+    let workings = opened.workings();
+    let link_end = workings.network.link_end(&ctx, 0, 0).expect("link 0");
+    let key = |target| deciding_key(&serving(workings, &link_end, target));
+    assert_eq!(key(workings.to_router(link_end.e)), Some(4));
+    for (prefix, expected) in [(0, 1), (1, 2), (2, 3), (3, 5)] {
+        assert_eq!(key(workings.to_prefix(prefix)), Some(expected));
+    }
+}
+
+#[test]
+fn s_is_decided_by_the_direction_from_the_far_end() {
+    let cases = stored_cases();
+    let file = stored_file(&cases, "far_end_to_s");
+    let extended_p = |ctx: &Context, link| {
+        let question = Question::Space { space: Space::ExtendedP, link, end: 0 };
+        Opened::new(ctx, file).ask(&question, &enough()).answer
+    };
+    let from_s_only = Context::with(&[Fault::OnlySToETested]);
+    for (link, without_s, with_s) in [(0, 0b110, 0b111), (3, 0b110_000, 0b111_000)] {
+        assert_eq!(extended_p(&Context::sound(), link), Answer::Set(without_s));
+        assert_eq!(extended_p(&from_s_only, link), Answer::Set(with_s));
+    }
+}

@@ -1,0 +1,82 @@
+//! What several tests share.
+
+use oracle::answer::{Answer, Outcome, Question, ask};
+use oracle::corpus::marked;
+use oracle::fault::Context;
+use oracle::file::write;
+use oracle::generate::{Family, network};
+use oracle::network::Network;
+use oracle::random::Random;
+use oracle::repair::Pair;
+use oracle::space::Space;
+use oracle::stored;
+use oracle::stored::cases::Cases;
+
+/// The outcome of a question about a network, with buffers that are enough.
+pub fn ask_network(network: &Network, question: &Question) -> Outcome {
+    let routers = usize::from(network.routers);
+    let lent = marked(routers * routers, 2 * routers);
+    ask(&Context::sound(), &write(network), question, &lent)
+}
+
+/// The answer of the load call.
+pub fn load(file: &[u8]) -> Answer {
+    ask(&Context::sound(), file, &Question::Load, &marked(0, 0)).answer
+}
+
+/// The answers to the three space questions: P, extended P, Q.
+pub fn spaces(network: &Network, link: u64, end: u64) -> [Answer; 3] {
+    [Space::P, Space::ExtendedP, Space::Q]
+        .map(|space| ask_network(network, &Question::Space { space, link, end }).answer)
+}
+
+pub fn link_repair(network: &Network, link: u64, end: u64) -> Answer {
+    ask_network(network, &Question::LinkRepair { link, end }).answer
+}
+
+pub fn prefix_repair(network: &Network, link: u64, end: u64, prefix: u64) -> Answer {
+    ask_network(network, &Question::PrefixRepair { link, end, prefix }).answer
+}
+
+/// The routers that a route call writes.
+pub fn route(network: &Network, link: u64, end: u64, prefix: u64, choices: &[u8]) -> Vec<u8> {
+    let choices = choices.to_vec();
+    let outcome = ask_network(network, &Question::Route { link, end, prefix, choices });
+    let Answer::Count(count) = outcome.answer else {
+        panic!("no route but {:?}", outcome.answer);
+    };
+    outcome.left.route[..count].to_vec()
+}
+
+/// A set of routers as an answer.
+pub fn set(routers: &[u32]) -> Answer {
+    Answer::Set(routers.iter().map(|r| 1u64 << r).sum())
+}
+
+/// A pair as an answer.
+pub fn pair(first_hop: usize, endpoint: usize, class: u32, tunnel_cost: u32) -> Answer {
+    Answer::Pair(Pair { first_hop, endpoint, class, tunnel_cost })
+}
+
+/// A refusal as an answer.
+pub fn refused(number: u8, value: u32) -> Answer {
+    Answer::Refused { number, value }
+}
+
+/// Random networks of every family with at most so many routers.
+pub fn random_networks(rounds: usize, most_routers: usize, seed: u64) -> Vec<Network> {
+    let mut random = Random::new(seed);
+    let families = (0..rounds).flat_map(|_| Family::ALL);
+    families.map(|family| network(*family, most_routers, &mut random)).collect()
+}
+
+/// The stored texts of the repository.
+pub fn stored_cases() -> Cases {
+    Cases::read(&stored::root()).expect("the stored texts are good")
+}
+
+/// The accepted file that the stored text of a name makes.
+pub fn stored_file<'a>(cases: &'a Cases, name: &str) -> &'a [u8] {
+    let case = cases.networks.iter().find(|case| case.name == name);
+    &case.unwrap_or_else(|| panic!("there is no text {name}")).file
+}

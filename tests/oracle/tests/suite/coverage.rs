@@ -1,0 +1,125 @@
+//! The corpus meets every kind of answer, every cause and every deciding key.
+
+use oracle::answer::{Answer, Opened, Question};
+use oracle::corpus;
+use oracle::fault::{Context, Fault};
+use oracle::repair::{deciding_key, serving};
+use oracle::row::{Cause, Inputs};
+use oracle::space::Space;
+use oracle::walk::Move;
+use std::collections::BTreeSet;
+
+#[test]
+fn the_corpus_meets_everything() {
+    let ctx = Context::sound();
+    let from_s_only = Context::with(&[Fault::OnlySToETested]);
+    let mut met: BTreeSet<String> = BTreeSet::new();
+    for case in corpus::cases(1) {
+        let opened = Opened::new(&ctx, &case.file);
+        let half_blind = Opened::new(&from_s_only, &case.file);
+        for (question, lent) in &case.questions {
+            let outcome = opened.ask(question, lent);
+            met.extend(causes(&opened, question, lent.work.len(), lent.route.len()));
+            met.insert(kind(&outcome.answer));
+            if let Question::Space { space: Space::ExtendedP, .. } = question
+                && half_blind.ask(question, lent).answer != outcome.answer
+            {
+                met.insert("a router decided by E to S alone".to_string());
+            }
+            if let Answer::Pair(pair) = outcome.answer {
+                met.insert(format!("class {}", pair.class));
+                met.extend(key_of(&opened, question));
+            }
+        }
+        if opened.refusal(&Inputs::default()).is_none() {
+            met.extend(delivery_or_step(&opened));
+        }
+    }
+    let causes = Cause::ALL.iter().map(|cause| format!("{cause:?}"));
+    let classes = (0..4).map(|class| format!("class {class}"));
+    let keys = (1..=5).map(|key| format!("key {key}"));
+    let kinds = [
+        "accepted",
+        "part",
+        "empty part",
+        "done",
+        "set",
+        "size",
+        "unreachable",
+        "untouched",
+        "pair",
+        "count",
+        "text",
+        "delivery or step",
+        "a router decided by E to S alone",
+    ];
+    let kinds = kinds.into_iter().map(str::to_string);
+    for expected in causes.chain(classes).chain(keys).chain(kinds) {
+        assert!(met.contains(&expected), "the corpus does not meet: {expected}");
+    }
+}
+
+fn kind(answer: &Answer) -> String {
+    let kind = match answer {
+        Answer::Refused { number: 14, .. } => "NoPair",
+        Answer::Refused { .. } => "refused",
+        Answer::Accepted(_) => "accepted",
+        Answer::Part { bytes, .. } if bytes.is_empty() => "empty part",
+        Answer::Part { .. } => "part",
+        Answer::Done => "done",
+        Answer::Set(_) => "set",
+        Answer::Size(_) => "size",
+        Answer::Unreachable => "unreachable",
+        Answer::Untouched => "untouched",
+        Answer::Pair(_) => "pair",
+        Answer::Count(_) => "count",
+        Answer::Text(_) => "text",
+    };
+    kind.to_string()
+}
+
+fn causes(opened: &Opened, question: &Question, cells: usize, bytes: usize) -> Option<String> {
+    let mut inputs = Inputs { work: Some(cells), ..Inputs::default() };
+    match question {
+        Question::Load => inputs.work = None,
+        Question::Route { link, end, prefix, .. } => {
+            inputs.route = Some(bytes);
+            inputs.link_end = Some((*link, *end));
+            inputs.prefix = Some(*prefix);
+        }
+        _ => return None,
+    }
+    opened.refusal(&inputs).map(|refusal| format!("{:?}", refusal.cause))
+}
+
+/// The key that decided between the first two serving pairs.
+fn key_of(opened: &Opened, question: &Question) -> Option<String> {
+    let workings = opened.workings();
+    let ends = |link, end| workings.network.link_end(&workings.ctx, link, end);
+    let (link_end, target) = match question {
+        Question::LinkRepair { link, end } => {
+            let link_end = ends(*link, *end)?;
+            (link_end, workings.to_router(link_end.e))
+        }
+        Question::PrefixRepair { link, end, prefix } => {
+            (ends(*link, *end)?, workings.to_prefix(*prefix))
+        }
+        _ => return None,
+    };
+    let key = deciding_key(&serving(workings, &link_end, target))?;
+    Some(format!("key {key}"))
+}
+
+/// Whether some router may either deliver to a prefix or step on.
+fn delivery_or_step(opened: &Opened) -> Option<String> {
+    let workings = opened.workings();
+    let mut prefixes = 0..workings.network.prefixes.len() as u64;
+    let found = prefixes.any(|prefix| {
+        let walks = workings.to_prefix(prefix);
+        workings.routers().any(|x| {
+            let moves = walks.moves(x);
+            moves.len() > 1 && moves[0] == Move::Deliver
+        })
+    });
+    found.then(|| "delivery or step".to_string())
+}

@@ -1,0 +1,19 @@
+//! The oracle's own tests.
+
+mod brute;
+mod buffers;
+mod cases;
+mod commands;
+mod common;
+mod coverage;
+mod distances;
+mod faults;
+mod outputs;
+mod papers;
+mod plans;
+mod reader;
+mod remake;
+mod routes;
+mod texts;
+mod walks;
+mod worked;

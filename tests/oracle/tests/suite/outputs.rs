@@ -1,0 +1,333 @@
+//! The stored inputs and outputs: their form, the lines of each section, lines
+//! known by hand, and that the sections notice wrong planners.
+
+use crate::common::{stored_cases, stored_file};
+use oracle::answer::{load, plan_text};
+use oracle::fault::{Context, Fault};
+use oracle::file::write;
+use oracle::network::Network;
+use oracle::stored::cases::Case;
+use oracle::stored::programs::{Program, SECTIONS, Section};
+use oracle::worked::*;
+
+fn program(name: &str) -> &'static Program {
+    Program::named(name).expect("a program")
+}
+
+/// The lines of a section for a file.
+fn prints(name: &str, file: &[u8]) -> String {
+    let section = Section::named(name).expect("a section");
+    (section.lines)(&Context::sound(), file)
+}
+
+#[test]
+fn an_input_holds_each_file_after_its_length() {
+    let cases = stored_cases();
+    let program = program("stored_cases");
+    let chosen = program.chosen(&cases).expect("cases");
+    let input = program.input(&chosen).expect("an input");
+    let mut rest = input.as_slice();
+    for case in &chosen {
+        let length = usize::from(rest[0]) + 256 * usize::from(rest[1]);
+        assert_eq!(rest[2..2 + length], case.file, "{}", case.name);
+        rest = &rest[2 + length..];
+    }
+    assert!(rest.is_empty());
+}
+
+#[test]
+fn every_text_is_a_case_and_the_networks_come_first() {
+    let cases = stored_cases();
+    let chosen = program("stored_cases").chosen(&cases).expect("cases");
+    let texts: Vec<&Case> = cases.networks.iter().chain(&cases.reader).collect();
+    assert_eq!(chosen, texts);
+}
+
+#[test]
+fn an_output_numbers_its_cases_and_has_the_sections_in_their_order() {
+    let case = |file: Vec<u8>| Case { name: String::new(), file };
+    let (one, two) = (case(write(&ring(3))), case(Vec::new()));
+    let output = program("stored_cases").output(&Context::sound(), &[&one, &two]);
+    let all = |file: &[u8]| {
+        prints("reading", file) + &prints("distances", file) + &prints("repairs", file)
+    };
+    assert_eq!(output, format!("case 0\n{}case 1\n{}", all(&one.file), all(&two.file)));
+}
+
+#[test]
+fn the_section_of_the_reader() {
+    let network = ring_4_with_prefix().prefix(&[(3, 258)]);
+    let expected = "\
+accepted 4 4 2
+link 0 0 1 1 1
+link 1 1 2 1 1
+link 2 2 3 1 1
+link 3 3 0 1 1
+prefix 0 1 0 2 0
+prefix 1 3 258
+link-entry 0 0 1 1 0 1 0
+link-entry 3 3 0 1 0 1 0
+link-entry 4
+link-entry 4000000000
+prefix-entry 0 2 0 1 0 0 0 2 0 0 0 0 0 0 0 0 0 0 0 0 0 0 0 0 0 0 0 0 0 0 0 0 0 0 0
+prefix-entry 1 1 0 3 0 2 1 0 0 0 0 0 0 0 0 0 0 0 0 0 0 0 0 0 0 0 0 0 0 0 0 0 0 0 0
+prefix-entry 2
+prefix-entry 4000000000
+";
+    assert_eq!(prints("reading", &write(&network)), expected);
+}
+
+#[test]
+fn the_section_of_the_reader_for_one_link_and_for_a_refused_file() {
+    let expected = "\
+accepted 2 1 0
+link 0 0 1 1 1
+link-entry 0 0 1 1 0 1 0
+link-entry 1
+link-entry 4000000000
+prefix-entry 0
+prefix-entry 0
+prefix-entry 4000000000
+";
+    assert_eq!(prints("reading", &write(&two_routers())), expected);
+    let expected = "\
+refused 1 0
+link-entry 0
+link-entry 1
+link-entry 4000000000
+prefix-entry 0
+prefix-entry 1
+prefix-entry 4000000000
+";
+    assert_eq!(prints("reading", &[]), expected);
+}
+
+#[test]
+fn the_section_of_distances() {
+    let expected = "\
+done
+row 0 0 1 4294967295
+row 1 2 0 4294967295
+row 2 4294967295 4294967295 0
+later 7 7
+refused 10 9
+kept
+";
+    let network = Network::of_routers(3).link(0, 1, 1, 2);
+    assert_eq!(prints("distances", &write(&network)), expected);
+    let expected = "refused 3 0\nlater 7 7\nrefused 3 0\nkept\n";
+    assert_eq!(prints("distances", &write(&Network::of_routers(0))), expected);
+}
+
+#[test]
+fn the_section_of_repairs() {
+    let network = two_routers().prefix(&[(1, 0)]);
+    let expected = "\
+p 0 0 set 1
+extended-p 0 0 set 0
+q 0 0 set 2
+link-repair 0 0 refused 14 0
+prefix-repair 0 0 0 refused 14 0
+p 0 1 set 2
+extended-p 0 1 set 0
+q 0 1 set 1
+link-repair 0 1 refused 14 0
+prefix-repair 0 1 0 untouched
+p 1 0 refused 12 1
+extended-p 1 0 refused 12 1
+q 1 0 refused 12 1
+link-repair 1 0 refused 12 1
+prefix-repair 1 0 0 refused 12 1
+p 0 2 refused 12 1
+extended-p 0 2 refused 12 1
+q 0 2 refused 12 1
+link-repair 0 2 refused 12 1
+prefix-repair 0 2 0 refused 12 1
+prefix-repair 0 0 1 refused 13 1
+";
+    assert_eq!(prints("repairs", &write(&network)), expected);
+}
+
+#[test]
+fn the_section_of_repairs_for_one_router_and_for_a_refused_file() {
+    for (file, answer) in [(write(&lone_router()), " refused 12 0"), (vec![], " refused 1 0")] {
+        let text = prints("repairs", &file);
+        assert_eq!(text.lines().count(), 11);
+        assert!(text.lines().all(|line| line.ends_with(answer)), "{text}");
+    }
+}
+
+#[test]
+fn the_section_of_routes() {
+    let network = ring(3).prefix(&[(1, 0)]);
+    let text = prints("routes", &write(&network));
+    let mut expected = String::new();
+    for (link_end, answer) in [
+        ("0 0", "count 3 route 0 2 1"),
+        ("0 1", "untouched"),
+        ("1 0", "untouched"),
+        ("1 1", "count 3 route 2 0 1"),
+        ("2 0", "untouched"),
+        ("2 1", "untouched"),
+    ] {
+        for string in 0..5 {
+            expected += &format!("route {link_end} 0 {string} {answer}\n");
+        }
+    }
+    expected += "short-route 0 0 0 0 refused 11 6\n";
+    assert_eq!(text, expected);
+    assert_eq!(prints("routes", &[]), "short-route 0 0 0 0 refused 1 0\n");
+}
+
+#[test]
+fn the_number_of_lines_of_each_network() {
+    let cases = stored_cases();
+    for case in &cases.networks {
+        let network = load(&Context::sound(), &case.file).expect("accepted");
+        let (links, prefixes) = (network.links.len(), network.prefixes.len());
+        let (repairs, routes) = match case.name.as_str() {
+            "largest" => (128 * 2 * 5 + 11, 4 * 2 * 8 * 5 + 1),
+            "ring_64" | "line_64_costs_65535" => (links * 2 * 5 + 11, 4 * 2 * 2 * 5 + 1),
+            _ => (links * 2 * (4 + prefixes) + 11, links * 2 * prefixes * 5 + 1),
+        };
+        assert_eq!(prints("repairs", &case.file).lines().count(), repairs, "{}", case.name);
+        assert_eq!(prints("routes", &case.file).lines().count(), routes, "{}", case.name);
+    }
+    let routes = prints("routes", stored_file(&cases, "largest"));
+    let prefixes = routes.lines().filter(|line| line.starts_with("route 64 1 "));
+    let prefixes: Vec<&str> = prefixes.filter_map(|line| line.split(' ').nth(3)).collect();
+    let numbers = ["0", "16", "32", "48", "64", "80", "96", "112"];
+    assert_eq!(prefixes, numbers.map(|number| [number; 5]).concat());
+}
+
+/// Lines that document 01 and the source documents give, or that follow from a
+/// few sums by hand.
+#[test]
+fn lines_known_by_hand() {
+    let known = [
+        ("ring_4", "repairs", "p 0 0 set 9"),
+        ("ring_4", "repairs", "extended-p 0 0 set 13"),
+        ("ring_4", "repairs", "q 0 0 set 6"),
+        ("ring_4", "repairs", "link-repair 0 0 pair 3 2 3 2"),
+        ("ring_4_prefix", "repairs", "prefix-repair 0 0 0 pair 3 3 1 1"),
+        ("ring_4_prefix", "repairs", "prefix-repair 1 1 0 untouched"),
+        ("ring_4_prefix", "routes", "route 0 0 0 0 count 3 route 0 3 2"),
+        ("ring_5", "repairs", "link-repair 0 0 pair 4 2 3 3"),
+        ("ring_5_prefix", "routes", "route 0 0 0 0 count 5 route 0 4 3 2 1"),
+        ("ring_3", "repairs", "link-repair 0 0 pair 2 2 1 1"),
+        ("ring_3_dear_back", "repairs", "link-repair 0 0 refused 14 0"),
+        ("ring_4_dear_link", "repairs", "link-repair 0 0 refused 14 0"),
+        ("two_routers", "repairs", "link-repair 0 0 refused 14 0"),
+        // P {A,B} and S, extended P {A,B,C} and S, Q {C,D} and E, endpoint C.
+        ("source_000_figure_1", "repairs", "p 0 0 set 7"),
+        ("source_000_figure_1", "repairs", "extended-p 0 0 set 15"),
+        ("source_000_figure_1", "repairs", "q 0 0 set 56"),
+        ("source_000_figure_1", "repairs", "link-repair 0 0 pair 1 3 3 3"),
+        ("source_000_figure_1_dear", "repairs", "link-repair 0 0 refused 14 0"),
+        // PE1 chooses P1 through PE2, and PE2 chooses P2 through PE1.
+        ("source_000_figure_3", "repairs", "link-repair 0 0 pair 1 2 2 1005"),
+        ("source_000_figure_3", "repairs", "link-repair 1 0 pair 0 3 2 1005"),
+        // R2 is the only endpoint; with the link N-E the neighbour N repairs.
+        ("source_001_figure_1", "repairs", "link-repair 0 0 pair 1 3 3 3"),
+        ("source_001_figure_1", "routes", "route 0 0 2 0 count 7 route 0 1 2 3 4 5 6"),
+        ("source_001_figure_1", "routes", "route 0 0 3 0 count 6 route 0 1 2 3 4 7"),
+        ("source_001_figure_2", "repairs", "link-repair 0 0 pair 1 1 1 1"),
+        // C protects the link S-E, and A is the better one for the prefix.
+        ("source_002_figure_3", "repairs", "link-repair 0 0 pair 4 4 1 5"),
+        ("source_002_figure_3", "repairs", "prefix-repair 0 0 0 pair 3 3 0 8"),
+        // N1 protects S-E and N2 protects S-F; for the prefix F and E do better.
+        ("source_002_figure_4", "repairs", "link-repair 0 0 pair 3 3 1 10"),
+        ("source_002_figure_4", "repairs", "link-repair 1 0 pair 4 4 1 10"),
+        ("source_002_figure_4", "repairs", "prefix-repair 0 0 0 pair 2 2 0 10"),
+        ("source_002_figure_4", "repairs", "prefix-repair 1 0 0 pair 1 1 0 10"),
+        // N2 is loop-free for D1.
+        ("source_002_figure_8", "repairs", "prefix-repair 0 0 0 pair 2 2 1 10"),
+        // A line has no other way, and its prefixes are all beyond link 0: 32
+        // times refusal 14, and 32 times untouched, 2 * (1 + 33 + .. + 33^31).
+        ("line_64_costs_65535", "repairs", "link-repair 0 0 refused 14 0"),
+        ("line_64_costs_65535", "repairs", "prefix-repairs 0 0 0"),
+        ("line_64_costs_65535", "repairs", "prefix-repairs 0 1 15085114137083345984"),
+        ("line_64_costs_65535", "repairs", "prefix-repair 63 0 0 refused 12 63"),
+        // Q holds the routers from 1 to 32, extended P those from 32 on and 0.
+        ("ring_64", "repairs", "link-repair 0 0 pair 63 32 3 32"),
+        ("there_and_back", "repairs", "prefix-repair 0 0 0 pair 2 4 3 15"),
+        ("there_and_back", "routes", "route 0 0 0 4 count 5 route 0 2 3 4 3"),
+        // Three hops away from S along the ring, two from E.
+        ("ring_6_costs_65535", "repairs", "link-repair 0 0 pair 5 3 3 196605"),
+        // From 4 on every step leads right or down, the lower number first.
+        ("grid", "routes", "route 0 0 0 0 count 7 route 0 4 5 6 7 11 15"),
+        ("grid", "routes", "route 0 0 0 1 count 7 route 0 4 8 9 10 11 15"),
+        ("grid", "routes", "route 0 0 0 2 count 7 route 0 4 8 12 13 14 15"),
+        // Prefix 1 is as far over 10 as over 15. At 10 delivery stands first.
+        ("grid", "routes", "route 0 0 1 1 count 5 route 0 4 8 9 10"),
+        ("grid", "routes", "route 0 0 1 3 count 5 route 0 4 5 9 10"),
+        ("grid", "routes", "route 0 0 1 4 count 7 route 0 4 8 9 13 14 15"),
+    ];
+    let cases = stored_cases();
+    for (name, section, line) in known {
+        let text = prints(section, stored_file(&cases, name));
+        let found = text.lines().any(|printed| printed == line);
+        assert!(found, "the {section} of {name} have no line `{line}`");
+    }
+    let rows = prints("distances", stored_file(&cases, "line_64_costs_65535"));
+    let row = rows.lines().nth(1).expect("row 0");
+    assert!(row.starts_with("row 0 0 65535 131070 ") && row.ends_with(" 4128705"));
+}
+
+#[test]
+fn what_plan_prints() {
+    let cases = stored_cases();
+    let plan = program("plan");
+    let chosen = plan.chosen(&cases).expect("an example");
+    assert_eq!(plan.input(&chosen), Ok(write(&ring_4_with_prefix())));
+    assert!(plan.output(&Context::sound(), &chosen).starts_with("plan 4 4 1\n0 0 0 1 3 2 3 2\n"));
+}
+
+/// Faults that no section and no stored plan shows: none asks for what they
+/// change.
+const NOT_SHOWN: [Fault; 9] = [
+    // No section prints the work area after a repair call.
+    Fault::FilledBeforeQuestion,
+    Fault::UntouchedLeavesWorkArea,
+    Fault::FourteenLeavesWorkArea,
+    // None asks for the size of a set.
+    Fault::SizeOfComplement,
+    Fault::SizeOf32Bits,
+    // None prints the route buffer but for the routers of a route.
+    Fault::LaterBytesTouched,
+    Fault::NothingPlayedWrites,
+    // The plan of ring 4 has a pair in every line.
+    Fault::PlanNoneOnce,
+    // None lends a work area and a route buffer that are both too short.
+    Fault::RowsSwapped(10),
+];
+
+#[test]
+fn the_sections_notice_every_fault_that_they_can_show() {
+    let cases = stored_cases();
+    let mut asked = Vec::new();
+    for section in SECTIONS {
+        for case in program("stored_cases").chosen(&cases).expect("cases") {
+            // The smaller files are enough for all but the reader.
+            if section.name == "reading" || case.name != "largest" {
+                asked.push((section.lines, case));
+            }
+        }
+    }
+    for example in program("plan").chosen(&cases).expect("an example") {
+        asked.push((plan_text, example));
+    }
+    let sound = asked.into_iter().map(|(lines, case)| {
+        let text = lines(&Context::sound(), &case.file);
+        (lines, case, text)
+    });
+    let mut sound: Vec<_> = sound.collect();
+    // Short texts are soon compared, and most faults show in one of them.
+    sound.sort_by_key(|(_, _, text)| text.len());
+    for fault in Fault::all() {
+        let ctx = Context::with(&[fault]);
+        let noticed = sound.iter().any(|(lines, case, text)| lines(&ctx, &case.file) != *text);
+        let shown = !fault.never_seen() && !NOT_SHOWN.contains(&fault);
+        assert_eq!(noticed, shown, "{}", fault.name());
+    }
+}

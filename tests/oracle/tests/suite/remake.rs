@@ -1,0 +1,149 @@
+//! The program `remake`, on small repositories made for the test.
+
+use oracle::file::write;
+use oracle::stored::{Report, run};
+use oracle::worked::{lone_router, ring_4_with_prefix};
+use std::fs;
+use std::path::{Path, PathBuf};
+use std::process::Command;
+
+/// A repository with one network, three refused files, the example ring 4, and
+/// folders for some programs.
+fn repository(name: &str, programs: &[&str]) -> PathBuf {
+    let root = Path::new(env!("CARGO_TARGET_TMPDIR")).join(name);
+    let _ = fs::remove_dir_all(&root);
+    for folder in ["tests/cases/reader", "examples", "crates"] {
+        fs::create_dir_all(root.join(folder)).expect("a folder");
+    }
+    for program in programs {
+        fs::create_dir(root.join("crates").join(program)).expect("a folder");
+    }
+    let ring_4 = oracle::text::of_network(&ring_4_with_prefix());
+    store(&root, "tests/cases/one.txt", "# one router\nrouters 1\n");
+    store(&root, "tests/cases/notes.md", "not a text of a network");
+    store(&root, "tests/cases/reader/length_0.txt", "routers 1\nlength 0\n");
+    store(&root, "tests/cases/reader/row_4_more.txt", "routers 1\nlength 1024\n");
+    store(&root, "tests/cases/reader/row_9_next.txt", "routers 1\nprefix 0:0 0:1\n");
+    store(&root, "examples/ring4.txt", &ring_4);
+    root
+}
+
+fn store(root: &Path, place: &str, text: &str) {
+    fs::write(root.join(place), text).expect("a file is written");
+}
+
+fn stored(root: &Path, place: &str) -> Vec<u8> {
+    fs::read(root.join(place)).unwrap_or_else(|_| panic!("{place} is not there"))
+}
+
+fn report(text: &str, success: bool) -> Result<Report, String> {
+    Ok(Report { text: text.to_string(), success })
+}
+
+#[test]
+fn all_files_are_written_once() {
+    let root = repository("written", &["stored_cases", "plan"]);
+    let written = "\
+examples/ring4.net is written
+crates/stored_cases/stdin is written
+crates/stored_cases/stdout is written
+crates/plan/stdin is written
+crates/plan/stdout is written
+";
+    assert_eq!(run(&root, &[]), report(written, true));
+    assert_eq!(run(&root, &[]), report("", true));
+    assert_eq!(run(&root, &["--check"]), report("", true));
+
+    assert_eq!(stored(&root, "examples/ring4.net"), write(&ring_4_with_prefix()));
+    assert_eq!(stored(&root, "crates/plan/stdin"), write(&ring_4_with_prefix()));
+    assert!(stored(&root, "crates/plan/stdout").starts_with(b"plan 4 4 1\n"));
+    let input = stored(&root, "crates/stored_cases/stdin");
+    assert_eq!(input[..514], [&[0, 2], write(&lone_router()).as_slice()].concat());
+    assert_eq!(input[514..518], [0, 0, 0, 4]);
+    let output = String::from_utf8(stored(&root, "crates/stored_cases/stdout")).expect("text");
+    assert!(output.starts_with("case 0\naccepted 1 0 0\nlink-entry 0\n"));
+    assert!(
+        output.contains("\ndone\nrow 0 0\nlater 7 7\nrefused 10 1\nkept\np 0 0 refused 12 0\n")
+    );
+    assert!(output.contains("\ncase 2\nrefused 4 1\nlink-entry 0\n"));
+    assert!(output.contains("\nrefused 4 1\nlater 7 7\nrefused 4 1\nkept\np 0 0 refused 4 1\n"));
+}
+
+#[test]
+fn a_program_without_a_folder_is_left_out() {
+    let root = repository("left_out", &["stored_cases"]);
+    assert!(run(&root, &[]).is_ok());
+    assert!(root.join("crates/stored_cases/stdout").exists());
+    assert!(!root.join("crates/plan").exists());
+    assert_eq!(run(&root, &["--check"]), report("", true));
+}
+
+#[test]
+fn check_notices_a_changed_byte_and_a_missing_file() {
+    let root = repository("changed", &["stored_cases", "plan"]);
+    assert!(run(&root, &[]).is_ok());
+    let mut output = stored(&root, "crates/stored_cases/stdout");
+    let middle = output.len() / 2;
+    output[middle] ^= 1;
+    fs::write(root.join("crates/stored_cases/stdout"), &output).expect("a file is written");
+    fs::remove_file(root.join("examples/ring4.net")).expect("a file is removed");
+    let differing = "examples/ring4.net differs\ncrates/stored_cases/stdout differs\n";
+    assert_eq!(run(&root, &["--check"]), report(differing, false));
+    // The check has written nothing; writing mends both files.
+    assert_eq!(stored(&root, "crates/stored_cases/stdout"), output);
+    assert!(!root.join("examples/ring4.net").exists());
+    assert!(run(&root, &[]).is_ok());
+    assert_eq!(run(&root, &["--check"]), report("", true));
+}
+
+#[test]
+fn check_notices_a_changed_text() {
+    let root = repository("changed_text", &["stored_cases"]);
+    assert!(run(&root, &[]).is_ok());
+    store(&root, "tests/cases/one.txt", "routers 2\n");
+    let differing = "crates/stored_cases/stdin differs\ncrates/stored_cases/stdout differs\n";
+    assert_eq!(run(&root, &["--check"]), report(differing, false));
+}
+
+#[test]
+fn the_list_names_the_cases() {
+    let root = repository("listed", &[]);
+    let listed = "\
+stored_cases 0 one
+stored_cases 1 reader/length_0
+stored_cases 2 reader/row_4_more
+stored_cases 3 reader/row_9_next
+plan 0 ring4
+";
+    assert_eq!(run(&root, &["--list"]), report(listed, true));
+}
+
+#[test]
+fn what_is_wrong_is_said() {
+    let root = repository("wrong", &["plan"]);
+    store(&root, "tests/cases/two.txt", "routers 2\nlink 0 1\n");
+    let wrong = run(&root, &[]).expect_err("a bad text");
+    assert!(wrong.contains("two.txt: line 2: found 2 numbers"), "{wrong}");
+    fs::remove_file(root.join("tests/cases/two.txt")).expect("a file is removed");
+    store(&root, "tests/cases/long.txt", "routers 1\nlength 65536\n");
+    fs::create_dir(root.join("crates/stored_cases")).expect("a folder");
+    let wrong = run(&root, &[]).expect_err("a long file");
+    assert_eq!(wrong, "long.txt makes a file of 65536 bytes, over 65535");
+    fs::remove_file(root.join("tests/cases/long.txt")).expect("a file is removed");
+    fs::remove_file(root.join("examples/ring4.txt")).expect("a file is removed");
+    let wrong = run(&root, &["--check"]).expect_err("no example");
+    assert_eq!(wrong, "there is no text ring4.txt");
+    assert!(run(&root.join("nowhere"), &[]).is_err());
+    assert!(run(&root, &["--chek"]).expect_err("a bad word").starts_with("`--chek` is unknown"));
+}
+
+#[test]
+fn the_program_itself() {
+    let program = |word| Command::new(env!("CARGO_BIN_EXE_remake")).arg(word).output();
+    let listed = program("--list").expect("the program ends");
+    assert!(listed.status.success());
+    assert!(listed.stdout.ends_with(b"\nplan 0 ring4\n"));
+    let wrong = program("--chek").expect("the program ends");
+    assert_eq!(wrong.status.code(), Some(2));
+    assert!(wrong.stderr.starts_with(b"remake: `--chek` is unknown\n"));
+}

@@ -1,0 +1,187 @@
+//! Walks, spaces, repairs and demand 3 against lists of all walks, on tiny
+//! networks.
+
+use crate::brute::{Brute, FAR, Walk};
+use crate::common::{link_repair, prefix_repair, random_networks, refused, spaces};
+use oracle::answer::Answer;
+use oracle::fault::Context;
+use oracle::network::{Hop, Network};
+use oracle::repair::Pair;
+use oracle::walk::Walks;
+use oracle::workings::Workings;
+
+fn routers_of(start: usize, hops: &[Hop]) -> Walk {
+    [start].into_iter().chain(hops.iter().map(|hop| hop.to)).collect()
+}
+
+/// The oracle's list of walks from x, if every one arrives in fewer than N
+/// hops, in the order of their routers.
+fn listed(workings: &Workings, walks: &Walks, x: usize) -> Vec<Walk> {
+    if !walks.reachable_from(x) {
+        return Vec::new();
+    }
+    let listed = walks.enumerate(x, workings.hops.routers()).expect("every walk arrives");
+    let mut listed: Vec<Walk> = listed.iter().map(|hops| routers_of(x, hops)).collect();
+    listed.sort();
+    listed
+}
+
+/// Every link and end with its S and E.
+fn link_ends(network: &Network) -> Vec<(u64, u64, usize, usize)> {
+    let links = network.links.iter().zip(0..);
+    let ends = links.flat_map(|(link, number)| {
+        let (a, b) = (usize::from(link.a), usize::from(link.b));
+        [(number, 0, a, b), (number, 1, b, a)]
+    });
+    ends.collect()
+}
+
+#[test]
+fn all_walks_are_found_and_arrive() {
+    for network in random_networks(12, 6, 21) {
+        let brute = Brute::new(&network);
+        let workings = Workings::of(&Context::sound(), network.clone());
+        for x in 0..brute.routers {
+            for t in 0..brute.routers {
+                let mut expected = brute.walks_to_router(x, t);
+                expected.sort();
+                assert_eq!(listed(&workings, workings.to_router(t), x), expected);
+            }
+            for (number, prefix) in network.prefixes.iter().enumerate() {
+                let mut expected = brute.walks_to_prefix(x, prefix);
+                expected.sort();
+                assert_eq!(listed(&workings, workings.to_prefix(number as u64), x), expected);
+            }
+        }
+    }
+}
+
+#[test]
+fn avoiding_is_what_the_list_of_walks_says() {
+    let ctx = Context::sound();
+    for network in random_networks(12, 6, 22) {
+        let brute = Brute::new(&network);
+        let workings = Workings::of(&ctx, network.clone());
+        for (link, end, s, e) in link_ends(&network) {
+            let link_end = network.link_end(&ctx, link, end).expect("a link");
+            assert_eq!((link_end.s, link_end.e), (s, e));
+            for x in 0..brute.routers {
+                for t in 0..brute.routers {
+                    let expected = Brute::avoid(&brute.walks_to_router(x, t), s, e);
+                    assert_eq!(workings.to_router(t).avoids(&ctx, x, &link_end), expected);
+                }
+                for (number, prefix) in network.prefixes.iter().enumerate() {
+                    let walks = brute.walks_to_prefix(x, prefix);
+                    let expected = Brute::avoid(&walks, s, e);
+                    let to_prefix = workings.to_prefix(number as u64);
+                    assert_eq!(to_prefix.avoids(&ctx, x, &link_end), expected);
+                    let touched = Brute::touch(&walks, s, e);
+                    assert_eq!(to_prefix.takes(x, link_end.s_to_e()), touched);
+                }
+            }
+        }
+    }
+}
+
+#[test]
+fn spaces_are_what_the_lists_of_walks_say() {
+    for network in random_networks(12, 6, 23) {
+        let brute = Brute::new(&network);
+        for (link, end, s, e) in link_ends(&network) {
+            let avoids = |x, t| Brute::avoid(&brute.walks_to_router(x, t), s, e);
+            let set = |member: &dyn Fn(usize) -> bool| {
+                let weights = (0..brute.routers).filter(|r| member(*r)).map(|r| 1u64 << r);
+                Answer::Set(weights.sum())
+            };
+            let p = set(&|r| avoids(s, r));
+            let extended_p = set(&|r| brute.first_hops(s, e).iter().any(|n| avoids(*n, r)));
+            let q = set(&|r| avoids(r, e));
+            assert_eq!(spaces(&network, link, end), [p, extended_p, q]);
+        }
+    }
+}
+
+/// A target by its walks and its distances.
+struct BruteTarget<'a> {
+    walks: Box<dyn Fn(usize) -> Vec<Walk> + 'a>,
+    distance: Box<dyn Fn(usize) -> u64 + 'a>,
+}
+
+/// The pair that document 01 puts first, by sorting all that serve.
+fn first_pair(brute: &Brute, s: usize, e: usize, target: &BruteTarget) -> Option<Pair> {
+    let mut serving = Vec::new();
+    for n in brute.first_hops(s, e) {
+        for y in (0..brute.routers).filter(|y| *y != s && *y != e) {
+            let first_leg = Brute::avoid(&brute.walks_to_router(n, y), s, e);
+            let second_leg = Brute::avoid(&(target.walks)(y), s, e);
+            if first_leg && second_leg {
+                let nearer = (target.distance)(y) < (target.distance)(s);
+                let class = if y == n { 0 } else { 2 } + if nearer { 0 } else { 1 };
+                let cost = brute.cost[s][n].expect("a neighbour") + brute.distance[n][y];
+                serving.push((class, brute.distance[s][y], y, cost, n));
+            }
+        }
+    }
+    serving.sort();
+    let (class, _, endpoint, cost, first_hop) = *serving.first()?;
+    let tunnel_cost = u32::try_from(cost).expect("a cost fits");
+    Some(Pair { first_hop, endpoint, class, tunnel_cost })
+}
+
+fn pair_or_14(pair: Option<Pair>) -> Answer {
+    pair.map_or(refused(14, 0), Answer::Pair)
+}
+
+#[test]
+fn repairs_are_the_first_pairs() {
+    for network in random_networks(14, 6, 24) {
+        let brute = Brute::new(&network);
+        for (link, end, s, e) in link_ends(&network) {
+            let far_end = BruteTarget {
+                walks: Box::new(|x| brute.walks_to_router(x, e)),
+                distance: Box::new(|x| brute.distance[x][e]),
+            };
+            let expected = pair_or_14(first_pair(&brute, s, e, &far_end));
+            assert_eq!(link_repair(&network, link, end), expected);
+            for (prefix, number) in network.prefixes.iter().zip(0..) {
+                let to_prefix = BruteTarget {
+                    walks: Box::new(|x| brute.walks_to_prefix(x, prefix)),
+                    distance: Box::new(|x| brute.to_prefix(x, prefix)),
+                };
+                let expected = if brute.to_prefix(s, prefix) == FAR {
+                    Answer::Unreachable
+                } else if !Brute::touch(&brute.walks_to_prefix(s, prefix), s, e) {
+                    Answer::Untouched
+                } else {
+                    pair_or_14(first_pair(&brute, s, e, &to_prefix))
+                };
+                assert_eq!(prefix_repair(&network, link, end, number), expected);
+            }
+        }
+    }
+}
+
+/// Demand 3's last part: a link's own repair serves every prefix whose traffic
+/// from that end may cross the link.
+#[test]
+fn a_links_own_repair_serves_every_prefix_that_may_cross_it() {
+    let mut served = 0;
+    for network in random_networks(20, 6, 25) {
+        let brute = Brute::new(&network);
+        for (link, end, s, e) in link_ends(&network) {
+            let Answer::Pair(pair) = link_repair(&network, link, end) else {
+                continue;
+            };
+            for (prefix, number) in network.prefixes.iter().zip(0..) {
+                if Brute::touch(&brute.walks_to_prefix(s, prefix), s, e) {
+                    let second_leg = brute.walks_to_prefix(pair.endpoint, prefix);
+                    assert!(Brute::avoid(&second_leg, s, e));
+                    let own = prefix_repair(&network, link, end, number);
+                    assert!(matches!(own, Answer::Pair(_)), "{own:?}");
+                    served += 1;
+                }
+            }
+        }
+    }
+    assert!(served > 100, "only {served} prefixes were served");
+}
