@@ -17,12 +17,13 @@ use Rattle.lfa.specs.Repair.{Pair, pair, Keys, key, keysOf, pairKey, noLater, e
 use Rattle.lfa.specs.Laws.Order.{later-gives, later-make, later-trans, later-total}
 use Rattle.lfa.specs.Distance.{unreachable}
 use Rattle.lfa.specs.Space.{Protected, setOf}
+use Rattle.distance.specs.Laws.List.{below-more, map-below-more, select-append}
 use Rattle.repair.specs.declared.search.Chosen.{Chosen}
 use Rattle.repair.specs.declared.search.Found.{Found}
 use Rattle.repair.specs.declared.search.Found.the-variants.{Nothing, Pair as FoundPair}
 use Rattle.repair.specs.Choice.{keysIn, foundIn, outcomeFor, addKeys, firstOf, classBy, keysAt, mayEnd, hopKeys, endsOf, keysOfHop, columnKeys}
 use Rattle.repair.specs.Spaces.{clearsTo}
-use Rattle.repair.proofs.ListLaws.{later-differ, later-equal, later-last, below-more, map-below-more, select-append, flat-append}
+use Rattle.repair.proofs.ListLaws.{later-differ, later-equal, later-last, flat-append}
 use Rattle.repair.proofs.search.Found.{the-type}
 
 -- ---- comparison

@@ -28,11 +28,13 @@ use Rattle.lfa.specs.Laws.Walk.{equation-crossing}
 use Rattle.lfa.specs.Laws.Avoid.{avoids-gives, avoids-make, avoids-below, below-avoids}
 use Rattle.lfa.specs.Laws.Pair.{firsts-give}
 use Rattle.lfa.specs.Laws.Repair.{may-gives, may-make}
-use Rattle.repair.specs.Area.{held, Readable, Known, column}
+use Rattle.distance.specs.Area.{held, column}
+use Rattle.distance.specs.Laws.Area.{column-at}
+use Rattle.repair.specs.Known.{Readable, Known}
 use Rattle.repair.specs.Spaces.{clears, clearsTo, RoutersWithin, routersIn, someClears, crossesOut, firstsIn}
 use Rattle.repair.specs.Choice.{outcomeFor, firstOf, keysAt, mayEnd, hopKeys, endsOf, keysOfHop, columnKeys}
-use Rattle.repair.proofs.ListLaws.{and-reorder, any-map, any-same, select-select, select-same, select-map, map-same, select-flat, map-flat}
-use Rattle.repair.proofs.AreaLaws.{column-at}
+use Rattle.distance.specs.Laws.List.{any-same, select-same}
+use Rattle.repair.proofs.ListLaws.{and-reorder, any-map, select-select, select-map, map-same, select-flat, map-flat}
 use Rattle.repair.proofs.ChoiceLaws.{first-chosen}
 
 module _ (n : ℕ) (hops : List Arc) (q : Protected) (area : List ℕ) (known : Known n hops q area) where

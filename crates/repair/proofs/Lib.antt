@@ -1,15 +1,7 @@
-pub mod BitLaws
 pub mod ListLaws
-pub mod LeavingLaws
-pub mod SearchLaws
-pub mod RowLaws
-pub mod ColumnLaws
-pub mod TableLaws
 pub mod AreaLaws
 pub mod SpaceLaws
 pub mod ChoiceLaws
 pub mod KnownLaws
-pub mod LoadedLaws
 pub mod QuestionLaws
-pub mod SlotLaws
 pub mod RepairLaws

@@ -23,7 +23,7 @@ use Rattle.repair.specs.declared.question.Turned.{Turned}
 use Rattle.repair.specs.declared.question.Turned.the-variants.{Refused, Ready}
 use Rattle.repair.specs.Answer.{refusalAnswer}
 use Rattle.repair.specs.Asked.{About, Taken, Judged}
-use Rattle.repair.proofs.LoadedLaws.{routers-are, links-are, prefixes-are}
+use Rattle.repair.specs.Laws.Loaded.{routers-are, links-are, prefixes-are}
 
 -- ---- rows 1 to 10
 

@@ -14,15 +14,18 @@ use lib.ListN.{length, getD, set, length-set}
 use lib.Seq.{getD-set-same, getD-set-other}
 use borrow.Author.Tests.{lt-ltb, le-ltb, eq-eqb, ne-eqb}
 use Rattle.lfa.specs.Lists.{countUp, below, select, anyOf, keepIf, one}
-use Rattle.lfa.specs.Network.{Link, link, arc, arcsFrom}
+use Rattle.lfa.specs.Network.{arc, arcsFrom}
 use Rattle.lfa.specs.Distance.{unreachable}
 use Rattle.lfa.specs.Laws.Set.{setOf-same}
 use Rattle.lfa.specs.Laws.Arrive.{one-most}
-use Rattle.lfa.specs.Laws.Counting.{map-below-same, length-map-below}
+use Rattle.lfa.specs.Laws.Counting.{map-below-same}
 use Rattle.lfa.specs.Space.{Protected, FirstHop, first, isFirst, firstHops, setOf}
-use Rattle.repair.specs.Columns.{linksIn, arcsIn}
+use Rattle.distance.specs.Columns.{linksIn, arcsIn}
 use Rattle.repair.specs.Spaces.{belowBoth, clears, clearsTo, routersIn, someClears, leavesNear, crossesOut, firstsIn}
-use Rattle.repair.proofs.ListLaws.{map-below-more, any-more, or-setOf, setOf-none, arcs-more, firsts-append, firsts-two}
+use Rattle.distance.specs.Laws.List.{map-below-more, any-more}
+use Rattle.distance.specs.Laws.Set.{or-setOf, setOf-none}
+use Rattle.distance.specs.Laws.Columns.{arcsIn-more}
+use Rattle.repair.proofs.ListLaws.{firsts-append, firsts-two}
 
 -- ---- two tests, the second tried where the first passes
 
@@ -83,16 +86,6 @@ module _ (count z c l : ℕ) (router cost over : List ℕ) (hr : count < length 
 -- the ends of a link, which are all that first hops look at
 abbrev pub ends : (near far : ℕ) → Protected
 ends near far = record { number = 0; near = near; far = far; out = 0; back = 0 }
-
--- the arcs of one link more
-pub arcsIn-more : (from to out back : List ℕ) (k : ℕ) →
-    arcsIn from to out back (k + 1) ≡ arcsIn from to out back k ++ (arc (getD from k 0) (getD to k 0) (getD out k 0) k ∷ arc (getD to k 0) (getD from k 0) (getD back k 0) k ∷ [])
-unfolding arcsIn linksIn
-arcsIn-more from to out back k =
-    let f : ℕ → Link = λ k. link (getD from k 0) (getD to k 0) (getD out k 0) (getD back k 0) in
-    let e : 0 + length (map f (below k)) ≡ k = omega (arith, length-map-below f k) in
-    ap (arcsFrom 0) (map-below-more f k) ∙ arcs-more 0 (map f (below k)) (getD from k 0) (getD to k 0) (getD out k 0) (getD back k 0)
-    ∙ ap (λ (j : ℕ). arcsFrom 0 (map f (below k)) ++ (arc (getD from k 0) (getD to k 0) (getD out k 0) j ∷ arc (getD to k 0) (getD from k 0) (getD back k 0) j ∷ [])) e
 
 -- the first hops found among the arcs of k links, in columns of 256 cells
 pub record FirstsHeld (near far : ℕ) (from to out back : List ℕ) (k count : ℕ) (router cost over : List ℕ) : Type 0 where

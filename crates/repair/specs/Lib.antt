@@ -1,9 +1,6 @@
-pub mod Columns
-pub mod Leaving
-pub mod Search
-pub mod RightTable
-pub mod Area
+pub mod Known
 pub mod Spaces
 pub mod Choice
 pub mod Answer
 pub mod Asked
+pub mod Laws

@@ -7,7 +7,8 @@ use lib.Dec.{ltb, eqb}
 use lib.ListN.{getD}
 use Rattle.lfa.specs.Lists.{below, anyOf}
 use Rattle.lfa.specs.Distance.{unreachable}
-use Rattle.lfa.specs.Space.{Protected, FirstHop, first, Space, pSpace, extendedP, qSpace}
+use Rattle.lfa.specs.Network.{link}
+use Rattle.lfa.specs.Space.{Protected, protectedBy, FirstHop, first, Space, pSpace, extendedP, qSpace}
 use Rattle.repair.specs.declared.space.ProtectedLink.{ProtectedLink}
 use Rattle.repair.specs.declared.space.Which.{Which}
 use Rattle.repair.specs.declared.space.Which.the-variants.{P, ExtendedP, Q}
@@ -15,6 +16,10 @@ use Rattle.repair.specs.declared.space.Which.the-variants.{P, ExtendedP,
 -- the protected link that a value names
 abbrev pub asked : ProtectedLink → Protected
 asked p = record { number = p .number; near = p .near; far = p .far; out = p .out; back = p .back }
+
+-- link l of the columns, seen from an end
+unfoldable pub protectedIn : (from to out back : List ℕ) → (l e : ℕ) → Protected
+protectedIn from to out back l e = protectedBy l e (link (getD from l 0) (getD to l 0) (getD out l 0) (getD back l 0))
 
 -- a distance is below the costs over the link in both directions: `near` and `far` lead to S and E, `toNear` and `toFar` from there
 abbrev pub belowBoth : (own near far out back toNear toFar : ℕ) → Bool

@@ -1,4 +1,5 @@
-// The repair part: distances, spaces and repairs of the network that the file part hands over. The file is only passed on.
+// The repair part: distances, spaces and repairs of the network that the file part hands over. The file is only passed on, and the
+// distances are those of the distance part.
 use answer::link_answer;
 use answer::prefix_answer;
 use distance::fill;
@@ -20,7 +21,6 @@ ghost use Rattle.repair.specs.Spaces.{spaceNamed};
 ghost use Rattle.repair.specs.Answer.{filledAnswer, repairOf, spaceAnswer};
 
 mod answer;
-mod distance;
 mod question;
 mod search;
 mod space;

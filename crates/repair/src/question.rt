@@ -1,9 +1,9 @@
 // What a question is about: rows 1 to 10, and the link that it names.
 use crate::Refusal;
-use crate::distance::fill;
 use crate::space::ProtectedLink;
 use crate::space::cost_of;
 use crate::space::wide;
+use distance::fill;
 use network_file::Verdict;
 use network_file::load;
 use network_file::network::Network;
@@ -14,8 +14,8 @@ ghost use lib.Dec.{ltb, leb};
 ghost use lib.ListN.{length};
 ghost use Rattle.lfa.specs.Network as lfa;
 ghost use Rattle.lfa.specs.Distance.{filled};
-ghost use Rattle.repair.specs.Columns.{ColumnsWithin, InColumns, protectedIn};
-ghost use Rattle.repair.specs.Spaces.{asked};
+ghost use Rattle.distance.specs.Columns.{ColumnsWithin, InColumns};
+ghost use Rattle.repair.specs.Spaces.{protectedIn, asked};
 ghost use Rattle.repair.specs.Asked.{Judged};
 
 // Whether rows 1 to 10 turn a question away.

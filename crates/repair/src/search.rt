@@ -6,13 +6,16 @@ ghost use lib.ListN.{length, getD};
 ghost use Rattle.lfa.specs.Network.{Target};
 ghost use Rattle.lfa.specs.Distance.{towards};
 ghost use Rattle.lfa.specs.Repair.{key, noLater, orElse, firstPair, outcomeOf, linkOutcome, prefixOutcome};
-ghost use Rattle.repair.specs.Columns.{arcsIn};
-ghost use Rattle.repair.specs.Area.{held, Readable, Known, column, SlotsWithin, slotsIn};
+ghost use Rattle.distance.specs.Columns.{arcsIn};
+ghost use Rattle.distance.specs.Area.{held, column, SlotsWithin, slotsIn};
+ghost use Rattle.repair.specs.Known.{Readable, Known};
 ghost use Rattle.repair.specs.Spaces.{asked, RoutersWithin};
 ghost use Rattle.repair.specs.Choice.{keysIn, foundIn, outcomeFor, prefixFoundIn, addKeys, firstOf, classBy, keysAt, mayEnd, hopKeys, columnKeys};
-use crate::distance::Distance;
 use crate::space;
 use crate::space::ProtectedLink;
+use distance::Distance;
+use distance::towards_prefix;
+use distance::towards_router;
 
 // A pair that serves: the first hop, the endpoint, the class, the tunnel cost, and the distance from S to the endpoint, by which pairs
 // of a class are ordered.
@@ -217,7 +220,7 @@ pub(crate) fn link_found<'a>(
     ensures { λ r. ⌜ outcomeFor (foundIn r) ≡ linkOutcome n (arcsIn (now (from .entry)) (now (to .entry)) (now (out .entry)) (now (back .entry)) links) (held n (now (dist .entry))) (asked link) ⌝ }
 {
     let far = link.far;
-    let target = space::towards_router(dist, n, far);
+    let target = towards_router(dist, n, far);
     first_pair(dist, n, links, from, to, out, back, link, &target)
 }
 
@@ -249,7 +252,7 @@ pub(crate) fn prefix_found<'a>(
         (slotsIn (now (at .entry)) (now (own .entry)) first count) ⌝ }
 {
     let near = link.near;
-    let target = space::towards_prefix(dist, n, at, own, first, count);
+    let target = towards_prefix(dist, n, at, own, first, count);
     if target[near] == Distance::UNREACHABLE {
         return PrefixFound::Unreachable;
     }

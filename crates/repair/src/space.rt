@@ -4,13 +4,14 @@ ghost use mathlib.Core.List.{List};
 ghost use Prim.Native.Nat.{_*_, _≤_, _<_};
 ghost use lib.ListN.{length, getD};
 ghost use Rattle.lfa.specs.Lists.{one};
-ghost use Rattle.lfa.specs.Distance.{towards};
 ghost use Rattle.lfa.specs.Network.{Arc, router};
 ghost use Rattle.lfa.specs.Space.{pSpace, extendedP, qSpace, spaceOf, setOf, firstHops};
-ghost use Rattle.repair.specs.Columns.{arcsIn};
-ghost use Rattle.repair.specs.Area.{held, Readable, Known, column, SlotsWithin, slotsIn};
+ghost use Rattle.distance.specs.Columns.{arcsIn};
+ghost use Rattle.distance.specs.Area.{held};
+ghost use Rattle.repair.specs.Known.{Readable, Known};
 ghost use Rattle.repair.specs.Spaces.{asked, belowBoth, clears, clearsTo, RoutersWithin, routersIn, someClears, leavesNear, crossesOut, firstsIn, spaceNamed};
-use crate::distance::Distance;
+use distance::Distance;
+use distance::towards_router;
 
 // The protected link, seen from the end that the question names: its number, the repairing router S (near), the far router E (far),
 // and the costs from S to E (out) and from E to S (back).
@@ -30,20 +31,6 @@ pub(crate) fn cell(dist: &[u32], n: usize, x: usize, t: usize) -> u32
     dist[x * n + t]
 }
 
-// The distances to a router from each of the n routers.
-pub(crate) fn towards_router(dist: &[u32], n: usize, t: usize) -> [u32; 64]
-    requires { ⌜ (n ≤ 64) × (n * n ≤ length (now dist)) × (t < n) ⌝ }
-    ensures { λ r. ⌜ r ≡ column n (towards (held n (now (dist .entry))) (router t)) ⌝ }
-{
-    let mut to = [0u32; 64];
-    let mut x = 0;
-    while x < n {
-        to[x] = cell(dist, n, x, t);
-        x += 1;
-    }
-    to
-}
-
 // A router's number as an index.
 pub(crate) fn wide(x: u8) -> usize
     ensures { λ r. ⌜ r ≡ x ⌝ }
@@ -51,58 +38,11 @@ pub(crate) fn wide(x: u8) -> usize
     x as usize
 }
 
-// A link's or an attachment's cost as a distance.
+// A link's cost as a distance.
 pub(crate) fn cost_of(c: u16) -> u32
     ensures { λ r. ⌜ r ≡ c ⌝ }
 {
     c as u32
-}
-
-// The distance from router x to the prefix whose attachments start at slot `first`.
-fn to_prefix(
-    dist: &[u32],
-    n: usize,
-    x: usize,
-    at: &[u8; 1024],
-    own: &[u16; 1024],
-    first: usize,
-    count: usize,
-) -> u32
-    requires { ⌜ (n * n ≤ length (now dist)) × (x < n) × SlotsWithin n first count (now at) ⌝ }
-    ensures { λ r. ⌜ r ≡ towards (held n (now (dist .entry))) (slotsIn (now (at .entry)) (now (own .entry)) first count) x ⌝ }
-{
-    let mut best = Distance::UNREACHABLE;
-    let mut s = 0;
-    while s < count {
-        let k = first + s;
-        let d = Distance::add(cell(dist, n, x, wide(at[k])), cost_of(own[k]));
-        if d < best {
-            best = d;
-        }
-        s += 1;
-    }
-    best
-}
-
-// The distances to the prefix whose attachments start at slot `first`, from each of the n routers.
-pub(crate) fn towards_prefix(
-    dist: &[u32],
-    n: usize,
-    at: &[u8; 1024],
-    own: &[u16; 1024],
-    first: usize,
-    count: usize,
-) -> [u32; 64]
-    requires { ⌜ (n ≤ 64) × (n * n ≤ length (now dist)) × SlotsWithin n first count (now at) ⌝ }
-    ensures { λ r. ⌜ r ≡ column n (towards (held n (now (dist .entry))) (slotsIn (now (at .entry)) (now (own .entry)) first count)) ⌝ }
-{
-    let mut to = [0u32; 64];
-    let mut x = 0;
-    while x < n {
-        to[x] = to_prefix(dist, n, x, at, own, first, count);
-        x += 1;
-    }
-    to
 }
 
 // Whether a distance is below the costs over the link in both directions: near and far lead from x to S and E, s and e from

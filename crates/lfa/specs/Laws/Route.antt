@@ -137,10 +137,10 @@ module _ (n : ℕ) (hops : List Arc) (d : ℕ → ℕ → ℕ) (to : Target) whe
 
 -- ---- one route at most is named
 
-move-next : {z w : ℕ} → go z ≡ go w → z ≡ w
+pub move-next : {z w : ℕ} → go z ≡ go w → z ≡ w
 move-next e = cc
 
-never-both : {A : Type 0} {z : ℕ} → deliver ≡ go z → A
+pub never-both : {A : Type 0} {z : ℕ} → deliver ≡ go z → A
 never-both e = absurd (let z : _≡_ {A = ℕ} 0 1 = cc in omega arith)
 
 module _ (moves : ℕ → List Move) (choices : List ℕ) where

@@ -12,9 +12,10 @@ use Rattle.lfa.specs.File.{networkOf}
 use Rattle.lfa.specs.Refusal.{askSpace, questionRows}
 use Rattle.repair.specs.Answer.{refusalAnswer, spaceAnswer}
 use Rattle.repair.specs.Asked.{Taken}
-use Rattle.repair.proofs.LoadedLaws.{columns-within, network-columns}
+use Rattle.repair.specs.Laws.Loaded.{columns-within, network-columns}
 use Rattle.repair.proofs.QuestionLaws.{judged-refused, judged-ready, about-space, link-refused}
-use Rattle.repair.proofs.RepairLaws.{link-in, known, space-answered}
+use Rattle.repair.specs.Laws.Named.{link-in}
+use Rattle.repair.proofs.RepairLaws.{known, space-answered}
 use Rattle.repair.proofs.ask_space.Statement.{statement}
 use Rattle.repair.proofs.ask_space.Tie as tie
 

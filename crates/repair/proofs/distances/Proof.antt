@@ -5,9 +5,10 @@ use mathlib.Core.Path.{sym, _∙_}
 use lib.ListN.{length}
 use Rattle.lfa.specs.File.{networkOf}
 use Rattle.lfa.specs.Refusal.{filling}
+use Rattle.distance.specs.Laws.Calls.{filled-columns}
 use Rattle.repair.specs.Answer.{filledAnswer}
 use Rattle.repair.specs.Asked.{Taken}
-use Rattle.repair.proofs.LoadedLaws.{columns-within, network-columns}
+use Rattle.repair.specs.Laws.Loaded.{columns-within, network-columns}
 use Rattle.repair.proofs.QuestionLaws.{judged-refused, judged-ready, about-filling, area-filled}
 use borrow.Author.Needs.{needs}
 use Rattle.repair.proofs.distances.Statement.{statement}
@@ -35,9 +36,7 @@ ready : (c : tie.After-enum-told) →
 ready c = judged-ready _ _ _ _ (c .before .before .ask .ensures) (c .enum-told .given .1)
 
 fill-requires : tie.Need-fill-requires
-fill-requires c κs =
-    let r = ready (c .before .before .before .before .before .before .before) in
-    (columns-within (r .0), r .1)
+fill-requires c κs = search needs
 
 same-length : tie.Need-same-length
 same-length c = search needs
@@ -47,7 +46,7 @@ unfolding filledAnswer
 returns-2 c =
     let r = ready (c .before .before .before .before .before .before .before .before .before .before) in
     let done = area-filled (r .0) (r .1) _ in
-    (done .0, c .before .before .fill .ensures (networkOf _) (network-columns (r .0)) ∙ done .1)
+    (done .0, filled-columns (columns-within (r .0)) _ _ _ (r .1) (networkOf _) (network-columns (r .0)) (c .before .before .fill .ensures) ∙ done .1)
 
 pub distances-spec : {M : Type 1} → statement M
 distances-spec =

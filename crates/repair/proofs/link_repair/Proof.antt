@@ -12,9 +12,10 @@ use Rattle.lfa.specs.File.{networkOf}
 use Rattle.lfa.specs.Refusal.{askLink, questionRows}
 use Rattle.repair.specs.Answer.{refusalAnswer, repairOf}
 use Rattle.repair.specs.Asked.{Taken}
-use Rattle.repair.proofs.LoadedLaws.{columns-within, network-columns}
+use Rattle.repair.specs.Laws.Loaded.{columns-within, network-columns}
 use Rattle.repair.proofs.QuestionLaws.{judged-refused, judged-ready, about-link, link-refused}
-use Rattle.repair.proofs.RepairLaws.{link-in, known, link-answered}
+use Rattle.repair.specs.Laws.Named.{link-in}
+use Rattle.repair.proofs.RepairLaws.{known, link-answered}
 use Rattle.repair.proofs.link_repair.Statement.{statement}
 use Rattle.repair.proofs.link_repair.Tie as tie
 

@@ -13,9 +13,10 @@ use Rattle.lfa.specs.File.{networkOf}
 use Rattle.lfa.specs.Refusal.{askPrefix, questionRows}
 use Rattle.repair.specs.Answer.{refusalAnswer, repairOf}
 use Rattle.repair.specs.Asked.{Taken}
-use Rattle.repair.proofs.LoadedLaws.{columns-within, network-columns}
+use Rattle.repair.specs.Laws.Loaded.{columns-within, network-columns}
 use Rattle.repair.proofs.QuestionLaws.{judged-refused, judged-ready, about-prefix, link-refused, prefix-refused}
-use Rattle.repair.proofs.RepairLaws.{link-in, known, prefix-cell, prefix-slots, prefix-answered}
+use Rattle.repair.specs.Laws.Named.{prefix-cell, prefix-slots, link-in}
+use Rattle.repair.proofs.RepairLaws.{known, prefix-answered}
 use Rattle.repair.proofs.prefix_repair.Statement.{statement}
 use Rattle.repair.proofs.prefix_repair.Tie as tie
 

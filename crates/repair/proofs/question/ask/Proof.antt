@@ -3,7 +3,7 @@
 use native.Mathlib.Omega.{arith}
 use Rattle.repair.specs.Answer.{refusalAnswer}
 use Rattle.repair.specs.Asked.{Taken}
-use Rattle.repair.proofs.LoadedLaws.{fault-turned-away, taken, few-cells}
+use Rattle.repair.specs.Laws.Loaded.{fault-turned-away, taken, few-cells}
 use Rattle.repair.proofs.QuestionLaws.{area-turned-away}
 use borrow.Author.Needs.{needs}
 use Rattle.repair.proofs.question.ask.Statement.{statement}

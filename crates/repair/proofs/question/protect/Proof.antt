@@ -4,7 +4,7 @@ use Prim.Native.Nat.{ℕ, zero, suc}
 use mathlib.Core.Path.{_≡_, refl}
 use Rattle.lfa.specs.Network.{link}
 use Rattle.lfa.specs.Space.{protectedBy}
-use Rattle.repair.specs.Columns.{protectedIn}
+use Rattle.repair.specs.Spaces.{protectedIn}
 use borrow.Author.Needs.{needs}
 use Rattle.repair.proofs.question.protect.Statement.{statement}
 use Rattle.repair.proofs.question.protect.Tie as tie

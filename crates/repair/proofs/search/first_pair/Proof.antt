@@ -6,8 +6,8 @@ use mathlib.Core.List.{List}
 use borrow.Author.Needs.{needs}
 use Rattle.lfa.specs.Network.{Arc}
 use Rattle.lfa.specs.Space.{firstHops}
-use Rattle.repair.specs.Columns.{arcsIn}
-use Rattle.repair.specs.Area.{Readable}
+use Rattle.distance.specs.Columns.{arcsIn}
+use Rattle.repair.specs.Known.{Readable}
 use Rattle.repair.specs.Spaces.{asked, RoutersWithin, firstsIn}
 use Rattle.repair.proofs.KnownLaws.{readable, firsts-within, found-outcome}
 use Rattle.repair.proofs.search.first_pair.Statement.{statement}

@@ -4,8 +4,9 @@ use mathlib.Core.List.{List}
 use borrow.Author.Needs.{needs}
 use Rattle.lfa.specs.Network.{Arc, router}
 use Rattle.lfa.specs.Repair.{linkOutcome}
-use Rattle.repair.specs.Columns.{arcsIn}
-use Rattle.repair.specs.Area.{Readable}
+use Rattle.distance.specs.Columns.{arcsIn}
+use Rattle.distance.specs.Laws.Calls.{router-known}
+use Rattle.repair.specs.Known.{Readable}
 use Rattle.repair.specs.Spaces.{asked}
 use Rattle.repair.proofs.KnownLaws.{readable}
 use Rattle.repair.proofs.search.link_found.Statement.{statement}
@@ -20,16 +21,17 @@ known : (s : tie.Start) → Readable (s .args .n) (asked (s .args .link)) (s .ar
 known s = readable (s .args .n) (hops s) (asked (s .args .link)) (s .args .dist .now) (s .pre .1)
 
 towards-router-requires : tie.Need-towards-router-requires
-towards-router-requires c κs =
-    let r = known (c .before) in
-    (r .few, r .long, r .far-in)
+towards-router-requires c κs = search needs
 
 first-pair-requires : tie.Need-first-pair-requires
 first-pair-requires c κs = search needs
 
 returns : tie.Need-returns
 unfolding linkOutcome
-returns c = c .first-pair .ensures (router (c .before .before .before .before .args .link .far)) (c .before .before .towards-router .ensures)
+returns c =
+    let s = c .before .before .before .before in
+    let r = known s in
+    c .first-pair .ensures (router (s .args .link .far)) (router-known _ _ (r .few) (r .long) _ (r .far-in) (c .before .before .towards-router .ensures))
 
 pub link-found-spec : {M : Type 1} → statement M
 link-found-spec = tie.close (tie.spec towards-router-requires first-pair-requires returns)

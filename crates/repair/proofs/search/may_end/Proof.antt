@@ -2,7 +2,7 @@
 -- Assumes nothing.
 use borrow.Author.Tests.{eq-eqb, ne-eqb}
 use borrow.Author.Needs.{needs}
-use Rattle.repair.proofs.ListLaws.{has-bit, has-no-bit}
+use Rattle.distance.specs.Laws.Set.{has-bit, has-no-bit}
 use Rattle.repair.proofs.search.may_end.Statement.{statement}
 use Rattle.repair.proofs.search.may_end.Tie as tie
 

@@ -7,7 +7,7 @@ use native.Mathlib.Omega.{arith}
 use lib.ListN.{getD}
 use borrow.Author.Needs.{needs}
 use Rattle.lfa.specs.Lists.{countUp, below, select}
-use Rattle.repair.specs.Area.{held}
+use Rattle.distance.specs.Area.{held}
 use Rattle.repair.specs.Choice.{foundIn, firstOf, hopKeys, mayEnd}
 use Rattle.repair.proofs.ChoiceLaws.{end-more, end-same}
 use Rattle.repair.proofs.search.over_hop.Statement.{statement}

@@ -2,7 +2,7 @@
 -- Assumes nothing.
 use lib.ListN.{getD}
 use borrow.Author.Needs.{needs}
-use Rattle.repair.specs.Area.{held}
+use Rattle.distance.specs.Area.{held}
 use Rattle.repair.proofs.ChoiceLaws.{keys-made}
 use Rattle.repair.proofs.search.pair_of.Statement.{statement}
 use Rattle.repair.proofs.search.pair_of.Tie as tie

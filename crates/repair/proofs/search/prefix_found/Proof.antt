@@ -6,9 +6,12 @@ use native.Mathlib.Omega.{arith}
 use borrow.Author.Tests.{not-true, not-false}
 use borrow.Author.Needs.{needs}
 use Rattle.lfa.specs.Network.{Arc, Target}
+use Rattle.lfa.specs.Distance.{towards}
 use Rattle.lfa.specs.Repair.{prefixOutcome}
-use Rattle.repair.specs.Columns.{arcsIn}
-use Rattle.repair.specs.Area.{Readable, held, slotsIn}
+use Rattle.distance.specs.Columns.{arcsIn}
+use Rattle.distance.specs.Area.{held, column, slotsIn}
+use Rattle.distance.specs.Laws.Calls.{prefix-known}
+use Rattle.repair.specs.Known.{Readable}
 use Rattle.repair.specs.Spaces.{asked}
 use Rattle.repair.specs.Choice.{foundIn, outcomeFor}
 use Rattle.repair.proofs.ChoiceLaws.{nothing-outcome, pair-outcome}
@@ -28,6 +31,15 @@ known s = readable (s .args .n) (hops s) (asked (s .args .link)) (s .args .dist 
 abbrev target : tie.Start → Target
 target s = slotsIn (s .args .at .now) (s .args .own .now) (s .args .first) (s .args .count)
 
+-- the column holds the distances to the prefix
+column-is : (c : tie.After-towards-prefix) →
+    let s = c .before .before in
+    c .towards-prefix .result ≡ column (s .args .n) (towards (held (s .args .n) (s .args .dist .now)) (target s))
+column-is c =
+    let s = c .before .before in
+    let r = known s in
+    prefix-known _ _ (r .few) (r .long) _ _ _ _ (s .pre .2) (c .towards-prefix .ensures)
+
 towards-prefix-requires : tie.Need-towards-prefix-requires
 towards-prefix-requires c κs = search needs
 
@@ -41,8 +53,7 @@ returns : tie.Need-returns
 returns c =
     let s = c .before .before .before in
     let a = s .args in
-    let p = c .before .towards-prefix in
-    prefix-unreachable (a .n) (hops s) (asked (a .link)) (a .dist .now) (s .pre .1) (target s) (p .result) (p .ensures) (c .if1 .taken)
+    prefix-unreachable (a .n) (hops s) (asked (a .link)) (a .dist .now) (s .pre .1) (target s) (c .before .towards-prefix .result) (column-is (c .before)) (c .if1 .taken)
 
 may-cross-requires : tie.Need-may-cross-requires
 may-cross-requires c κs =
@@ -53,8 +64,8 @@ returns-2 : tie.Need-returns-2
 returns-2 c =
     let s = c .before .before .before .before .before .before in
     let a = s .args in
-    let p = c .before .before .before .before .towards-prefix in
-    prefix-untouched (a .n) (hops s) (asked (a .link)) (a .dist .now) (s .pre .1) (target s) (p .result) (p .ensures) (c .before .before .before .if1 .left) (c .before .may-cross .ensures) (not-true _ (c .if2 .taken))
+    let p = c .before .before .before .before in
+    prefix-untouched (a .n) (hops s) (asked (a .link)) (a .dist .now) (s .pre .1) (target s) (p .towards-prefix .result) (column-is p) (c .before .before .before .if1 .left) (c .before .may-cross .ensures) (not-true _ (c .if2 .taken))
 
 first-pair-requires : tie.Need-first-pair-requires
 first-pair-requires c κs = search needs
@@ -72,9 +83,9 @@ searched : (c : tie.After-first-pair) →
 searched c =
     let s = c .before .before .before .before .before .before .before .before in
     let a = s .args in
-    let p = c .before .before .before .before .before .before .towards-prefix in
-    prefix-searched (a .n) (hops s) (asked (a .link)) (a .dist .now) (s .pre .1) (target s) (p .result) (p .ensures)
-    (c .before .before .before .before .before .if1 .left) (c .before .before .before .may-cross .ensures) (not-false _ (c .before .before .if2 .left)) (c .first-pair .ensures (target s) (p .ensures))
+    let p = c .before .before .before .before .before .before in
+    prefix-searched (a .n) (hops s) (asked (a .link)) (a .dist .now) (s .pre .1) (target s) (p .towards-prefix .result) (column-is p)
+    (c .before .before .before .before .before .if1 .left) (c .before .before .before .may-cross .ensures) (not-false _ (c .before .before .if2 .left)) (c .first-pair .ensures (target s) (column-is p))
 
 returns-3 : tie.Need-returns-3
 returns-3 c = nothing-outcome (c .before .before .first-pair .result) (c .before .match .keys2) (searched (c .before .before))

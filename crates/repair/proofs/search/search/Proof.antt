@@ -7,7 +7,7 @@ use native.Mathlib.Omega.{arith}
 use lib.ListN.{getD}
 use borrow.Author.Needs.{needs}
 use Rattle.lfa.specs.Lists.{countUp, below, flat}
-use Rattle.repair.specs.Area.{held}
+use Rattle.distance.specs.Area.{held}
 use Rattle.repair.specs.Spaces.{asked}
 use Rattle.repair.specs.Choice.{foundIn, firstOf, columnKeys}
 use Rattle.repair.proofs.ChoiceLaws.{hop-found}

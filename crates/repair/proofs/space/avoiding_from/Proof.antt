@@ -8,7 +8,7 @@ use native.Mathlib.Omega.{arith}
 use lib.ListN.{set}
 use borrow.Author.Needs.{needs}
 use Rattle.lfa.specs.Space.{setOf}
-use Rattle.repair.specs.Area.{held}
+use Rattle.distance.specs.Area.{held}
 use Rattle.repair.specs.Spaces.{asked, clearsTo}
 use Rattle.repair.proofs.ListLaws.{put-in, left-out}
 use Rattle.repair.proofs.SpaceLaws.{cells-clear-to}

@@ -4,7 +4,7 @@ use Prim.Native.Nat.{_+_, _*_, _<_}
 use mathlib.Core.Path.{sym}
 use native.Mathlib.Omega.{arith}
 use lib.ListN.{length}
-use Rattle.repair.proofs.AreaLaws.{cell-in, held-cell}
+use Rattle.distance.specs.Laws.Area.{cell-in, held-cell}
 use Rattle.repair.proofs.space.cell.Statement.{statement}
 use Rattle.repair.proofs.space.cell.Tie as tie
 

@@ -6,7 +6,7 @@ use native.Mathlib.Omega.{arith}
 use lib.ListN.{set}
 use borrow.Author.Needs.{needs}
 use Rattle.lfa.specs.Space.{setOf}
-use Rattle.repair.specs.Area.{held}
+use Rattle.distance.specs.Area.{held}
 use Rattle.repair.specs.Spaces.{asked, routersIn, someClears}
 use Rattle.repair.proofs.SpaceLaws.{no-routers, router-more}
 use Rattle.repair.proofs.space.extended_p.Statement.{statement}

@@ -1,6 +1,6 @@
 -- `repair::space::p_space` meets its contract. By distances S avoids to just the routers of P.
 -- Assumes nothing.
-use Rattle.repair.specs.Area.{Readable}
+use Rattle.repair.specs.Known.{Readable}
 use Rattle.repair.specs.Spaces.{asked}
 use Rattle.repair.proofs.KnownLaws.{readable, p-space}
 use Rattle.repair.proofs.space.p_space.Statement.{statement}

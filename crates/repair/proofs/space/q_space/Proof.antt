@@ -1,6 +1,8 @@
 -- `repair::space::q_space` meets its contract. By distances just the routers of Q avoid to E.
 -- Assumes nothing.
-use Rattle.repair.specs.Area.{Readable}
+use borrow.Author.Needs.{needs}
+use Rattle.distance.specs.Laws.Calls.{router-known}
+use Rattle.repair.specs.Known.{Readable}
 use Rattle.repair.specs.Spaces.{asked}
 use Rattle.repair.proofs.KnownLaws.{readable, q-space}
 use Rattle.repair.proofs.space.q_space.Statement.{statement}
@@ -11,15 +13,16 @@ known : (s : tie.Start) → Readable (s .args .n) (asked (s .args .link)) (s .ar
 known s = readable (s .args .n) (s .pre .0) (asked (s .args .link)) (s .args .dist .now) (s .pre .1)
 
 towards-router-requires : tie.Need-towards-router-requires
-towards-router-requires c κs =
-    let r = known (c .before) in
-    (r .few, r .long, r .far-in)
+towards-router-requires c κs = search needs
 
 avoiding-to-requires : tie.Need-avoiding-to-requires
 avoiding-to-requires c κs = known (c .before .before .before .before)
 
 returns : tie.Need-returns
-returns c = λ hops k. q-space _ hops _ _ k (c .before .before .before .towards-router .result) (c .before .before .before .towards-router .ensures) (c .avoiding-to .ensures)
+returns c = λ hops k.
+    let r = known (c .before .before .before .before .before) in
+    let to = c .before .before .before .towards-router in
+    q-space _ hops _ _ k (to .result) (router-known _ _ (r .few) (r .long) _ (r .far-in) (to .ensures)) (c .avoiding-to .ensures)
 
 pub q-space-spec : {M : Type 1} → statement M
 q-space-spec = tie.close (tie.spec towards-router-requires avoiding-to-requires returns)

@@ -1,0 +1,65 @@
+-- `distance::column::router_column` meets its contract. The loop's invariant: the cells before x hold the distances to the router.
+-- Assumes nothing.
+use Prim.Native.Nat.{ℕ, _-_, _≤_}
+use mathlib.Core.Path.{_≡_, sym, ap, _∙_}
+use native.Mathlib.Omega.{arith}
+use borrow.Author.Needs.{needs}
+use Rattle.lfa.specs.Network.{router}
+use Rattle.lfa.specs.Distance.{towards}
+use Rattle.lfa.specs.Laws.Target.{towards-router}
+use Rattle.distance.specs.Area.{held, column}
+use Rattle.distance.proofs.AreaLaws.{column-none, column-more}
+use Rattle.distance.proofs.column.router_column.Statement.{statement}
+use Rattle.distance.proofs.column.router_column.Tie as tie
+
+abbrev Inv-loop : tie.InvT-loop
+Inv-loop dist n t to₀ x₀ to x = (x ≤ n) × (to ≡ column x (towards (held n dist) (router t)))
+
+abbrev μ-loop : tie.MeasureT-loop
+μ-loop dist n t to₀ x₀ to x = n - x
+
+loop-holds : tie.Need-loop-holds Inv-loop μ-loop
+loop-holds c = (omega arith, column-none _)
+
+cell-requires : tie.Need-cell-requires Inv-loop μ-loop
+cell-requires c κs = (c .before .before .before .pre .1, c .loop-test .taken, c .before .before .before .pre .2)
+
+mul-to : tie.Need-mul-to Inv-loop μ-loop
+mul-to c = search needs
+
+array-write-to : tie.Need-array-write-to Inv-loop μ-loop
+array-write-to c = search needs
+
+add-x : tie.Need-add-x Inv-loop μ-loop
+add-x c = search needs
+
+loop-less : tie.Need-loop-less Inv-loop μ-loop
+loop-less c = search needs
+
+loop-again : tie.Need-loop-again Inv-loop μ-loop
+loop-again c =
+    let l = c .before .before .loop in
+    let s = c .before .before .before .before in
+    let v : c .cell .result ≡ held (s .args .n) (s .args .dist .now) (l .x) (s .args .t) = c .cell .ensures in
+    (omega arith, column-more _ (omega arith) (l .inv .1) (v ∙ sym (towards-router (held (s .args .n) (s .args .dist .now)) (s .args .t) (l .x) (omega arith))))
+
+returns : tie.Need-returns Inv-loop μ-loop
+returns c =
+    let e : c .before .loop .x ≡ c .before .before .before .args .n = omega arith in
+    let s = c .before .before .before in
+    c .before .loop .inv .1 ∙ ap (λ (k : ℕ). column k (towards (held (s .args .n) (s .args .dist .now)) (router (s .args .t)))) e
+
+pub router-column-spec : {M : Type 1} → statement M
+router-column-spec =
+    tie.close
+    (tie.spec
+    Inv-loop
+    μ-loop
+    loop-holds
+    cell-requires
+    mul-to
+    array-write-to
+    add-x
+    loop-less
+    loop-again
+    returns)

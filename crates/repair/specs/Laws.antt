@@ -1,0 +1,3 @@
+pub mod Loaded
+pub mod Slot
+pub mod Named

@@ -1,0 +1,104 @@
+-- What the repair part knows of a file from the file part's answer: its refusal turns every question away, and the network of an
+-- accepted file is within the limits and stands in the columns.
+-- Assumes nothing.
+use Prim.Native.Nat.{ℕ, _-_, _*_, _≤_, _<_}
+use mathlib.Core.Path.{_≡_, refl, sym, ap, _∙_}
+use mathlib.Core.Option.{none}
+use mathlib.Core.List.{List, map}
+use native.Mathlib.Omega.{arith}
+use native.Mathlib.Nat.{mul-le-mul}
+use lib.ListN.{length, getD, replicate, length-map, List·getD-append}
+use Rattle.lfa.specs.Network.{Link, link, Network}
+use Rattle.lfa.specs.File.{Bytes, byteAt, routersOf, linksOf, prefixesOf, networkOf}
+use Rattle.lfa.specs.FileOf.{pad, WithinLimits}
+use Rattle.lfa.specs.Refusal.{Question, loading, refusalOf, Accepted, Decided, decided, entryOf, refusal, answerTo, networkLoaded}
+use Rattle.lfa.specs.Laws.Chunks.{element-mapped, made-again}
+use Rattle.lfa.specs.Laws.Rows.{load-accepted}
+use Rattle.lfa.specs.Laws.Turned.{TurnedAway, file-turned-away, file-accepted}
+use Rattle.lfa.specs.Laws.Accepted.{accepted-limits, link-count, prefix-count}
+use Rattle.network_file.specs.declared.Fault.{Fault}
+use Rattle.network_file.specs.declared.Verdict.the-variants as verdict
+use Rattle.network_file.specs.declared.Loaded.{Loaded}
+use Rattle.network_file.specs.Struct.{fromOf, toOf, outOf, backOf, linkColumn, structOf}
+use Rattle.network_file.specs.Load.{faultRow, faultOf, answerOf}
+use Rattle.network_file.specs.declared.network.Network as struct
+use Rattle.distance.specs.Columns.{linksIn, ColumnsWithin, InColumns}
+use Rattle.repair.specs.Asked.{Taken}
+use Rattle.distance.specs.Laws.Columns.{limits-columns}
+
+-- ---- columns
+
+-- the cell of link k in a column is link k's number
+column-cell : (f : Link → ℕ) (links : List Link) (k : ℕ) → k < length links → getD (linkColumn f links) k 0 ≡ f (getD links k (link 0 0 0 0))
+unfolding linkColumn pad
+column-cell f links k h =
+    List·getD-append (map f links) (replicate (128 - length (map f links)) 0) 0 k (omega (arith, length-map links f))
+    ∙ element-mapped f links k (link 0 0 0 0) 0 h
+
+same-link : (l : Link) → link (fromOf l) (toOf l) (outOf l) (backOf l) ≡ l
+unfolding fromOf toOf outOf backOf
+same-link (link a b ab ba) = refl
+
+-- the columns hold link k
+pub struct-link : (net : Network) (k : ℕ) → k < length (net .links) →
+    link (getD (structOf net .from) k 0) (getD (structOf net .to) k 0) (getD (structOf net .out) k 0) (getD (structOf net .back) k 0) ≡ getD (net .links) k (link 0 0 0 0)
+unfolding structOf
+struct-link net k h =
+    rw (column-cell fromOf (net .links) k h, column-cell toOf (net .links) k h, column-cell outOf (net .links) k h, column-cell backOf (net .links) k h)
+    (same-link (getD (net .links) k (link 0 0 0 0)))
+
+-- the network by value holds the network in its columns
+pub struct-columns : (net : Network) → InColumns net (structOf net .routers) (structOf net .links) (structOf net .from) (structOf net .to) (structOf net .out) (structOf net .back)
+unfolding structOf linksIn
+struct-columns net = record {
+  routers-are = refl;
+  links-are = sym (made-again _ (net .links) (link 0 0 0 0) (struct-link net));
+}
+
+-- ---- the file part's answer
+
+-- document 01's answer to the load of a file, and its network
+abbrev pub Answers : Bytes → Loaded → Type 0
+Answers b r = (answerOf (r .verdict) ≡ answerTo (loading b)) × (r .network ≡ structOf (networkLoaded b))
+
+module _ (b : Bytes) (r : Loaded) (a : Answers b r) where
+  -- a refusal of the file turns every question about it away
+  pub fault-turned-away : (q : Question) (f : Fault) → q .file ≡ b → r .verdict ≡ verdict.Refused f → TurnedAway q (faultOf f)
+  unfolding answerOf faultOf refusal
+  fault-turned-away q f e v = go (faultRow f) refl
+    where
+      go : (d : Decided) → faultRow f ≡ d → TurnedAway q (refusal (faultRow f))
+      go (decided row w) p =
+          rw p (file-turned-away q (entryOf row .number) w (ap (λ (c : Bytes). answerTo (loading c)) e ∙ sym (a .0) ∙ ap answerOf v ∙ rw p))
+
+  pub taken : ((i : ℕ) → getD b i 0 < 256) → r .verdict ≡ verdict.Accepted → Taken b (r .network)
+  unfolding answerOf networkLoaded byteAt
+  taken bytes v =
+      let n : refusalOf (loading b) ≡ none = file-accepted b (sym (a .0) ∙ ap answerOf v) in
+      record { is-accepted = load-accepted b bytes n; network-is = a .1 ∙ ap structOf (rw (n, networkLoaded)) }
+
+module _ {b : Bytes} {network : struct.Network} (t : Taken b network) where
+  pub limits : WithinLimits (networkOf b)
+  limits = accepted-limits b (t .is-accepted)
+
+  pub network-columns : InColumns (networkOf b) (network .routers) (network .links) (network .from) (network .to) (network .out) (network .back)
+  network-columns = rw (t .network-is) (struct-columns (networkOf b))
+
+  pub columns-within : ColumnsWithin (network .routers) (network .links) (network .from) (network .to)
+  columns-within = limits-columns limits network-columns
+
+  pub routers-are : network .routers ≡ routersOf b
+  unfolding networkOf structOf
+  routers-are = rw (t .network-is)
+
+  pub links-are : network .links ≡ linksOf b
+  unfolding structOf
+  links-are = ap (λ (n : struct.Network). n .links) (t .network-is) ∙ link-count b (t .is-accepted)
+
+  pub prefixes-are : network .prefixes ≡ prefixesOf b
+  unfolding structOf
+  prefixes-are = ap (λ (n : struct.Network). n .prefixes) (t .network-is) ∙ prefix-count b (t .is-accepted)
+
+  -- N × N cells are few
+  pub few-cells : network .routers * network .routers ≤ 4096
+  few-cells = let h : network .routers ≤ 64 = columns-within .few-routers in mul-le-mul h h

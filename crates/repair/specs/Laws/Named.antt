@@ -1,0 +1,78 @@
+-- What the columns of the network by value hold, once its file is accepted: the prefix and the link that a question names, the arcs,
+-- and with the work area filled the distances.
+-- Assumes nothing.
+use Prim.Native.Nat.{ℕ, _*_, _≤_, _<_}
+use mathlib.Core.Path.{_≡_, sym, ap, _∙_}
+use mathlib.Core.Bool.{true, _&&_}
+use mathlib.Core.List.{List, []}
+use native.Mathlib.Omega.{arith}
+use lib.Dec.{ltb, leb}
+use lib.ListN.{length, getD}
+use borrow.Author.Tests.{ltb-true, leb-true}
+use Rattle.lfa.specs.Network.{Link, link, arcs}
+use Rattle.lfa.specs.File.{Bytes, networkOf}
+use Rattle.lfa.specs.Distance.{distances, distanceIn, filled}
+use Rattle.lfa.specs.Space.{protectedBy, protected}
+use Rattle.lfa.specs.Laws.Test.{and-left, and-right}
+use Rattle.network_file.specs.declared.network.Network.{Network}
+use Rattle.network_file.specs.Struct.{structOf}
+use Rattle.distance.specs.Columns.{arcsIn}
+use Rattle.repair.specs.Spaces.{protectedIn}
+use Rattle.distance.specs.Area.{held, SlotsWithin, slotsIn}
+use Rattle.repair.specs.Asked.{Taken}
+use Rattle.repair.specs.Laws.Loaded.{limits, network-columns, routers-are, struct-link}
+use Rattle.repair.specs.Laws.Slot.{slots-prefix, slots-within}
+use Rattle.distance.specs.Laws.Area.{held-filled}
+use Rattle.distance.specs.Laws.Columns.{arcs-columns}
+
+-- ---- the network
+
+module _ {b : Bytes} {network : Network} (t : Taken b network) where
+  pub routers-same : network .routers ≡ networkOf b .routers
+  routers-same = sym (network-columns t .routers-are)
+
+  -- the arcs of the network, as the columns hold them
+  pub hops-are : arcsIn (network .from) (network .to) (network .out) (network .back) (network .links) ≡ arcs (networkOf b)
+  hops-are = sym (arcs-columns (network-columns t))
+
+  -- its distances, as the area holds them
+  pub held-is : (area : List ℕ) {after : List ℕ} → after ≡ filled (networkOf b) area → held (network .routers) after ≡ distanceIn (distances (networkOf b))
+  held-is area f = rw (routers-same, f) (held-filled (networkOf b) area)
+
+-- ---- the prefix that is named
+
+module _ {b : Bytes} {network : Network} (t : Taken b network) (x : ℕ) (x-in : x < network .prefixes) where
+  pub prefix-exists : x < length (networkOf b .prefixes)
+  unfolding structOf
+  prefix-exists = let n : network .prefixes ≡ length (networkOf b .prefixes) = ap (λ (n : Network). n .prefixes) (t .network-is) in omega (arith, x-in)
+
+  pub prefix-cell : x < 128
+  prefix-cell = omega (arith, prefix-exists, limits t .few-prefixes)
+
+  -- its slots hold routers, and they are its attachments
+  pub prefix-slots : {count : ℕ} → count ≡ getD (network .attached) x 0 → SlotsWithin (network .routers) (8 * x) count (network .at)
+  unfolding structOf
+  prefix-slots c = rw (c, t .network-is) (slots-within (networkOf b) (limits t) x prefix-exists)
+
+  pub prefix-target : {count : ℕ} → count ≡ getD (network .attached) x 0 → slotsIn (network .at) (network .own) (8 * x) count ≡ getD (networkOf b .prefixes) x []
+  prefix-target c = rw (c, t .network-is) (slots-prefix (networkOf b) (limits t) x prefix-exists)
+
+-- ---- the link that is named
+
+module _ {b : Bytes} {network : Network} (t : Taken b network) (l e : ℕ) (named : (ltb l (network .links) && leb e 1) ≡ true) where
+  pub link-in : l < network .links
+  link-in = search (ltb-true, and-left)
+
+  pub end-in : e ≤ 1
+  end-in = search (leb-true, and-right)
+
+  pub link-exists : l < length (networkOf b .links)
+  unfolding structOf
+  link-exists = let n : network .links ≡ length (networkOf b .links) = ap (λ (n : Network). n .links) (t .network-is) in omega (arith, link-in)
+
+  -- the columns hold the protected link
+  pub protected-is : protectedIn (network .from) (network .to) (network .out) (network .back) l e ≡ protected (networkOf b) l e
+  unfolding protectedIn protected structOf
+  protected-is =
+      let s : Network → Link = λ n. link (getD (n .from) l 0) (getD (n .to) l 0) (getD (n .out) l 0) (getD (n .back) l 0) in
+      ap (protectedBy l e) (ap s (t .network-is) ∙ struct-link (networkOf b) l link-exists)

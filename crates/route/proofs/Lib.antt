@@ -1,0 +1,5 @@
+pub mod OptionLaws
+pub mod LegLaws
+pub mod PlayLaws
+pub mod RouteLaws
+pub mod Loan

@@ -1,0 +1,130 @@
+-- Assumes nothing.
+use Prim.Native.Nat.{_-_, _<_}
+use mathlib.Core.Path.{_≡_, sym, ap, _∙_}
+use native.Mathlib.Omega.{arith}
+use borrow.Author.Needs.{needs}
+use Rattle.lfa.specs.Distance.{towards}
+use Rattle.lfa.specs.Route.{go, options, choiceAt, optionTaken, Takes}
+use Rattle.distance.specs.Columns.{arcsIn}
+use Rattle.distance.specs.Area.{held, slotsIn}
+use Rattle.distance.specs.Laws.Calls.{prefix-known}
+use Rattle.distance.specs.Laws.Columns.{columns-within}
+use Rattle.route.specs.Options.{moveIn}
+use Rattle.route.proofs.LegLaws.{step-nearer, leg-stops, leg-delivers, Playing, playing-starts, playing-on, playing-ends}
+use Rattle.route.proofs.play.leg.Statement.{statement}
+use Rattle.route.proofs.play.leg.Tie as tie
+
+abbrev Inv-loop : tie.InvT-loop
+Inv-loop dist n links from to out back at own first count choices stop start written buffer₀ target x₀ k₀ buffer x k =
+    Playing (options n (arcsIn from to out back links) (held n dist) (slotsIn at own first count)) choices stop n start written buffer₀ x k buffer
+
+abbrev μ-loop : tie.MeasureT-loop
+μ-loop dist n links from to out back at own first count choices stop start written buffer₀ target x₀ k₀ buffer x k =
+    towards (held n dist) (slotsIn at own first count) x
+
+towards-prefix-requires : tie.Need-towards-prefix-requires Inv-loop μ-loop
+towards-prefix-requires c κs = search needs
+
+loop-holds : tie.Need-loop-holds Inv-loop μ-loop
+loop-holds c = let p = c .before .before .before .before .pre in playing-starts (p .3 .1) (p .3 .2) (p .3 .3) (p .1) (p .2)
+
+sub-choice : tie.Need-sub-choice Inv-loop μ-loop
+sub-choice c = search needs
+
+choice-requires : tie.Need-choice-requires Inv-loop μ-loop
+choice-requires c κs = search needs
+
+move-at-requires : tie.Need-move-at-requires Inv-loop μ-loop
+move-at-requires c κs = let l = c .before .before .before in let p = l .before .before .before .before .before .pre in (_, p .0 .within, p .0 .slots .few, l .loop .inv .inside)
+
+enum-known-taken : tie.Need-enum-known-taken Inv-loop μ-loop
+enum-known-taken c = search needs
+
+enum-told : tie.Need-enum-told Inv-loop μ-loop
+enum-told c = search needs
+
+-- the move at router x is the option that the next choice byte takes
+moved : (c : tie.After-move-at Inv-loop μ-loop) →
+    let l = c .before .before .before .before in
+    let a = l .before .before .before .before .before .args in
+    optionTaken (options (a .n) (arcsIn (a .from .now) (a .to .now) (a .out .now) (a .back .now) (a .links)) (held (a .n) (a .dist .now)) (slotsIn (a .at .now) (a .own .now) (a .first) (a .count)) (l .loop .x))
+    (choiceAt (a .choices .now) (l .loop .k - 2)) ≡ moveIn (c .move-at .result)
+moved c =
+    let l = c .before .before .before .before in
+    let s = l .before .before .before .before .before in
+    let a = s .args in
+    let net = s .pre .0 in
+    let target-is = prefix-known (a .n) (a .dist .now) (net .within .few-routers) (net .long) (a .at .now) (a .own .now) (a .first) (a .count) (net .slots) (l .before .towards-prefix .ensures) in
+    ap (optionTaken _) (sym (c .before .before .choice .ensures)) ∙ sym (c .move-at .ensures (a .n) (held (a .n) (a .dist .now)) (net .within) (l .loop .inv .inside) target-is)
+
+-- a step leads to a router that is nearer to the target
+went : (c : tie.After-known-told Inv-loop μ-loop) →
+    let l = c .before .before .before .before .before .before .before in
+    let a = l .before .before .before .before .before .args in
+    let z = c .before .taken .given .0 .0 in
+    let d = held (a .n) (a .dist .now) in
+    let target = slotsIn (a .at .now) (a .own .now) (a .first) (a .count) in
+    Takes (options (a .n) (arcsIn (a .from .now) (a .to .now) (a .out .now) (a .back .now) (a .links)) d target) (a .choices .now) (l .loop .k - 2) (l .loop .x) (go z)
+    × (z < a .n) × (towards d target z < towards d target (l .loop .x))
+unfolding moveIn
+went c =
+    let l = c .before .before .before .before .before .before .before in
+    let s = l .before .before .before .before .before in
+    let net = s .pre .0 in
+    let t = moved (c .before .before .before) ∙ ap moveIn (c .before .taken .given .1) in
+    let step = step-nearer (s .args .n) _ (held (s .args .n) (s .args .dist .now)) _ (columns-within _ _ _ _ _ (s .args .n) (net .within)) (net .positive) (l .loop .x) _ t in
+    (t, step .0, step .1)
+
+cast-buffer : tie.Need-cast-buffer Inv-loop μ-loop
+cast-buffer c = record { fits = omega (arith, went c .1, c .before .before .before .before .before .before .before .before .before .before .before .before .pre .0 .within .few-routers) }
+
+slice-write-buffer : tie.Need-slice-write-buffer Inv-loop μ-loop
+slice-write-buffer c = omega (arith, c .before .before .before .before .before .before .before .loop .inv .wrote .same, playing-on (c .before .before .before .before .before .before .before .loop .inv) (c .before .before .before .before .before .before .if1 .left) (went c .0) (went c .1) .0)
+
+add-k : tie.Need-add-k Inv-loop μ-loop
+add-k c = record { fits = omega (arith, playing-on (c .before .before .before .before .before .before .before .loop .inv) (c .before .before .before .before .before .before .if1 .left) (went c .0) (went c .1) .1, c .before .before .before .before .before .before .before .before .before .before .before .before .pre .0 .within .few-routers) }
+
+loop-less : tie.Need-loop-less Inv-loop μ-loop
+loop-less c = went c .2
+
+loop-again : tie.Need-loop-again Inv-loop μ-loop
+loop-again c = playing-on (c .before .before .before .before .before .before .before .loop .inv) (c .before .before .before .before .before .before .if1 .left) (went c .0) (went c .1) .2
+
+same-length : tie.Need-same-length Inv-loop μ-loop
+same-length c = c .before .loop .inv .wrote .same
+
+returns : tie.Need-returns Inv-loop μ-loop
+returns c = λ rs l.
+    playing-ends (c .before .loop .inv) (leg-stops (c .if1 .taken) (c .before .loop .inv .ahead)) l (omega (arith, c .before .before .before .before .before .before .pre .3 .2))
+
+same-length-2 : tie.Need-same-length-2 Inv-loop μ-loop
+same-length-2 c = c .before .before .before .before .before .before .loop .inv .wrote .same
+
+returns-2 : tie.Need-returns-2 Inv-loop μ-loop
+unfolding moveIn
+returns-2 c = λ rs leg.
+    let l = c .before .before .before .before .before .before in
+    playing-ends (l .loop .inv) (leg-delivers (moved (c .before .before) ∙ ap moveIn (c .enum-told .given .1)) (l .loop .inv .ahead)) leg (omega (arith, l .before .before .before .before .before .pre .3 .2))
+
+pub leg-spec : {M : Type 1} → statement M
+leg-spec =
+    tie.close
+    (tie.spec
+    Inv-loop
+    μ-loop
+    towards-prefix-requires
+    loop-holds
+    sub-choice
+    choice-requires
+    move-at-requires
+    enum-known-taken
+    enum-told
+    cast-buffer
+    slice-write-buffer
+    add-k
+    loop-less
+    loop-again
+    same-length
+    returns
+    same-length-2
+    returns-2)

@@ -1,0 +1,24 @@
+-- The legs of a route, as the play goes them: from a router on, each choice byte takes an option, until the leg stops or delivers.
+-- Assumes nothing.
+use Prim.Native.Nat.{ℕ, suc, _*_, _≤_}
+use mathlib.Core.Path.{_≡_}
+use mathlib.Core.List.{List, [], _∷_}
+use lib.ListN.{length}
+use Rattle.lfa.specs.Route.{Move, deliver, go, Takes}
+use Rattle.lfa.specs.Laws.Walk.{Positive}
+use Rattle.distance.specs.Columns.{ColumnsWithin, arcsIn}
+use Rattle.distance.specs.Area.{SlotsWithin}
+
+-- the routers of a leg from x, choice byte number i being the next. It stops at the router `stop` without a choice byte: y on the
+-- first leg, and no router on the second.
+pub data Leg (moves : ℕ → List Move) (choices : List ℕ) (stop : ℕ) : ℕ → ℕ → List ℕ → Type 0 where
+  stopped : {i x : ℕ} → x ≡ stop → Leg moves choices stop i x []
+  delivered : {i x : ℕ} → (x ≡ stop → ⊥) → Takes moves choices i x deliver → Leg moves choices stop i x []
+  onward : {i x z : ℕ} {rs : List ℕ} → (x ≡ stop → ⊥) → Takes moves choices i x (go z) → Leg moves choices stop (suc i) z rs → Leg moves choices stop i x (z ∷ rs)
+
+-- the columns hold a network whose hops all cost something, and the slots of a target; the area is long enough for its distances
+pub record Playable (n cells links : ℕ) (from to out back routers : List ℕ) (first count : ℕ) : Type 0 where
+  pub within : ColumnsWithin n links from to
+  pub positive : Positive (arcsIn from to out back links)
+  pub slots : SlotsWithin n first count routers
+  pub long : n * n ≤ cells

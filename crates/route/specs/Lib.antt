@@ -1,0 +1,4 @@
+pub mod Options
+pub mod Supply
+pub mod Leg
+pub mod Answer

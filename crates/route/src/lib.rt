@@ -1,0 +1,99 @@
+// Played routes: the routers that a packet visits when the pair of a prefix repair carries it, choice bytes deciding between options.
+// The network is known from the file part's answer, the pair and the distances from the repair part's.
+use network_file::load;
+use options::wide;
+use play::play;
+use repair::Refusal;
+use repair::Repair;
+use repair::prefix_repair;
+ghost use mathlib.Core.Path.{_≡_};
+ghost use mathlib.Core.List.{List};
+ghost use Prim.Native.Nat.{ℕ, _<_};
+ghost use lib.ListN.{length};
+ghost use Rattle.lfa.specs.Refusal.{askRoute, answerTo, workAfter, routeAfter};
+ghost use Rattle.repair.specs.Spaces.{protectedIn};
+ghost use Rattle.route.specs.Answer.{playedOf, passedOn};
+
+mod choice;
+mod options;
+mod play;
+
+// The answer of a route call: a refusal, one of the answers of the prefix repair that have no pair, or how many routers were written.
+pub enum Played {
+    Refused(Refusal),
+    Unreachable,
+    Untouched,
+    Written(usize),
+}
+
+// The answers of the prefix repair that have no pair, passed on.
+fn passed_on(answer: Repair) -> Played
+    ensures { λ r. ⌜ playedOf r ≡ passedOn answer ⌝ }
+{
+    match answer {
+        Repair::Refused(refusal) => Played::Refused(refusal),
+        Repair::Unreachable => Played::Unreachable,
+        Repair::Untouched => Played::Untouched,
+        Repair::Pair(_) => Played::Written(0),
+    }
+}
+
+// The repairing router S: the end of the link that the question names.
+fn repairing<'a>(from: &'a [u8; 128], to: &'a [u8; 128], link: usize, end: usize) -> usize
+    requires { ⌜ link < 128 ⌝ }
+    ensures { λ r. ⌜ ((out back : List ℕ) → r ≡ protectedIn (now (from .entry)) (now (to .entry)) out back link end .near) ⌝ }
+{
+    if end == 0 {
+        return wide(from[link]);
+    }
+    wide(to[link])
+}
+
+// Plays the route of the pair that repairs the traffic to a prefix, and writes its routers into the buffer.
+pub fn route(
+    file: &[u8],
+    work: &mut [u32],
+    link: usize,
+    end: usize,
+    prefix: usize,
+    choices: &[u8],
+    buffer: &mut [u8],
+) -> Played
+    ensures { λ r. ⌜ (playedOf r ≡ answerTo (askRoute (now (file .entry)) (length (now (work .entry))) (length (now (buffer .entry))) link end prefix (now (choices .entry))))
+        × (now (work .exit) ≡ workAfter (askRoute (now (file .entry)) (length (now (work .entry))) (length (now (buffer .entry))) link end prefix (now (choices .entry))) (now (work .entry)))
+        × (now (buffer .exit) ≡ routeAfter (askRoute (now (file .entry)) (length (now (work .entry))) (length (now (buffer .entry))) link end prefix (now (choices .entry))) (now (buffer .entry))) ⌝ }
+{
+    let loaded = load(file);
+    let network = loaded.network;
+    let routers = network.routers;
+    if routers * routers <= work.len() && buffer.len() < 2 * routers {
+        return Played::Refused(Refusal::ShortBuffer(2 * routers));
+    }
+    let answer = prefix_repair(file, work, link, end, prefix);
+    let Repair::Pair(pair) = answer else {
+        return passed_on(answer);
+    };
+    let links = network.links;
+    let attached = network.attached;
+    let count = wide(attached[prefix]);
+    let near = repairing(&network.from, &network.to, link, end);
+    let written = play(
+        work,
+        routers,
+        links,
+        &network.from,
+        &network.to,
+        &network.out,
+        &network.back,
+        &network.at,
+        &network.own,
+        8 * prefix,
+        count,
+        choices,
+        near,
+        pair.first,
+        pair.endpoint,
+        buffer,
+    );
+    Played::Written(written)
+}

@@ -1,0 +1,163 @@
+// The options of a walk at a router, and the one that a choice byte takes.
+ghost use mathlib.Core.Path.{_≡_};
+ghost use Prim.Native.Nat.{ℕ, _+_, _≤_, _<_};
+ghost use lib.ListN.{getD};
+ghost use Rattle.lfa.specs.Network.{arc};
+ghost use Rattle.lfa.specs.Space.{setOf};
+ghost use Rattle.lfa.specs.Route.{movesOf, options, optionTaken};
+ghost use Rattle.distance.specs.Columns.{ColumnsWithin, arcsIn};
+ghost use Rattle.distance.specs.Area.{column, SlotsWithin, slotsIn};
+ghost use Rattle.lfa.specs.Distance.{towards};
+ghost use Rattle.route.specs.Options.{moveIn, stepTo, nextBy, deliversBy, membersOf};
+use distance::Distance;
+
+// What an option does: it delivers the packet, or takes it to the next router.
+pub(crate) enum Move {
+    Deliver,
+    Go(usize),
+}
+
+// A router's number, or a count, as an index.
+pub(crate) fn wide(x: u8) -> usize
+    ensures { λ r. ⌜ r ≡ x ⌝ }
+{
+    x as usize
+}
+
+// A link's or an attachment's cost as a distance.
+fn cost_of(c: u16) -> u32
+    ensures { λ r. ⌜ r ≡ c ⌝ }
+{
+    c as u32
+}
+
+// The set of the router that a hop from u to v at this cost leads to, where it is a step of a walk at x, and the empty set where it is
+// not. `to` holds the distances to the target.
+fn step_to(u: u8, v: u8, cost: u16, to: &[u32; 64], x: usize) -> u64
+    requires { ⌜ (v < 64) × (x < 64) ⌝ }
+    ensures { λ r. ⌜ ((l : ℕ) → r ≡ setOf 64 (λ z. stepTo (λ y. getD (now (to .entry)) y 0) x z (arc u v cost l))) ⌝ }
+{
+    let own = to[x];
+    if wide(u) != x {
+        return 0;
+    }
+    if Distance::UNREACHABLE <= own {
+        return 0;
+    }
+    let head = wide(v);
+    if Distance::add(cost_of(cost), to[head]) != own {
+        return 0;
+    }
+    1u64 << head
+}
+
+// The next routers of a walk at x, as a set.
+fn next_routers(
+    links: usize,
+    from: &[u8; 128],
+    to: &[u8; 128],
+    out: &[u16; 128],
+    back: &[u16; 128],
+    target: &[u32; 64],
+    x: usize,
+) -> u64
+    requires { ⌜ ColumnsWithin 64 links (now from) (now to) × (x < 64) ⌝ }
+    ensures { λ r. ⌜ r ≡ setOf 64 (nextBy (λ y. getD (now (target .entry)) y 0) (arcsIn (now (from .entry)) (now (to .entry)) (now (out .entry)) (now (back .entry)) links) x) ⌝ }
+{
+    let mut set: u64 = 0;
+    let mut k = 0;
+    while k < links {
+        set = set | step_to(from[k], to[k], out[k], target, x);
+        set = set | step_to(to[k], from[k], back[k], target, x);
+        k += 1;
+    }
+    set
+}
+
+// Whether x may deliver to the target whose attachments start at slot `first`.
+fn delivers(
+    at: &[u8; 1024],
+    own: &[u16; 1024],
+    first: usize,
+    count: usize,
+    target: &[u32; 64],
+    x: usize,
+) -> bool
+    requires { ⌜ (first + count ≤ 1024) × (x < 64) ⌝ }
+    ensures { λ r. ⌜ r ≡ deliversBy (getD (now (target .entry)) x 0) (slotsIn (now (at .entry)) (now (own .entry)) first count) x ⌝ }
+{
+    let d = target[x];
+    if Distance::UNREACHABLE <= d {
+        return false;
+    }
+    let mut s = 0;
+    while s < count {
+        let k = first + s;
+        if wide(at[k]) == x && cost_of(own[k]) == d {
+            return true;
+        }
+        s += 1;
+    }
+    false
+}
+
+// The member of a set with k members before it, and 0 where the set has none such.
+fn member(set: u64, k: usize) -> usize
+    ensures { λ r. ⌜ r ≡ getD (membersOf set) k 0 ⌝ }
+{
+    let mut left = k;
+    let mut r = 0;
+    while r < 64 {
+        if (set >> r) & 1 == 1 {
+            if left == 0 {
+                return r;
+            }
+            left -= 1;
+        }
+        r += 1;
+    }
+    0
+}
+
+// The option that a choice byte takes: delivery stands first, then the next routers ascending.
+fn option_taken(deliver: bool, next: u64, byte: u8) -> Move
+    ensures { λ r. ⌜ moveIn r ≡ optionTaken (movesOf deliver (membersOf next)) byte ⌝ }
+{
+    let steps = u64::count_ones(next) as usize;
+    if !deliver {
+        if steps == 0 {
+            return Move::Deliver;
+        }
+        return Move::Go(member(next, wide(byte) % steps));
+    }
+    let number = wide(byte) % (steps + 1);
+    if number == 0 {
+        return Move::Deliver;
+    }
+    Move::Go(member(next, number - 1))
+}
+
+// The option that a choice byte takes at router x.
+pub(crate) fn move_at<'a>(
+    links: usize,
+    from: &'a [u8; 128],
+    to: &'a [u8; 128],
+    out: &'a [u16; 128],
+    back: &'a [u16; 128],
+    at: &'a [u8; 1024],
+    own: &'a [u16; 1024],
+    first: usize,
+    count: usize,
+    target: &'a [u32; 64],
+    x: usize,
+    byte: u8,
+) -> Move
+    requires { ⌜ ((n : ℕ) × ColumnsWithin n links (now from) (now to) × (first + count ≤ 1024) × (x < n)) ⌝ }
+    ensures { λ r. ⌜ ((n : ℕ) (d : ℕ → ℕ → ℕ) → ColumnsWithin n links (now (from .entry)) (now (to .entry)) → x < n
+        → now (target .entry) ≡ column n (towards d (slotsIn (now (at .entry)) (now (own .entry)) first count))
+        → moveIn r ≡ optionTaken (options n (arcsIn (now (from .entry)) (now (to .entry)) (now (out .entry)) (now (back .entry)) links) d (slotsIn (now (at .entry)) (now (own .entry)) first count) x) byte) ⌝ }
+{
+    let next = next_routers(links, from, to, out, back, target, x);
+    let deliver = delivers(at, own, first, count, target, x);
+    option_taken(deliver, next, byte)
+}

@@ -1,0 +1,144 @@
+// The play of a route: it writes the repairing router and the first hop, goes the leg through the tunnel, and then the leg from the
+// endpoint on to delivery.
+use crate::choice::choice;
+use crate::options::Move;
+use crate::options::move_at;
+use distance::towards_prefix;
+ghost use mathlib.Core.Path.{_≡_};
+ghost use mathlib.Core.List.{List, _++_};
+ghost use Prim.Native.Nat.{ℕ, _+_, _-_, _*_, _≤_, _<_};
+ghost use lib.ListN.{length, take, drop};
+ghost use Rattle.lfa.specs.Route.{options, NamedRoute};
+ghost use Rattle.distance.specs.Columns.{arcsIn};
+ghost use Rattle.distance.specs.Area.{held, slotsIn};
+ghost use Rattle.route.specs.Leg.{Leg, Playable};
+
+// Goes one leg from router `start`, with `written` routers in the buffer before, and returns how many are in it then. The first two
+// routers of a route take no choice byte, so that the byte after k routers is number k - 2. The leg ends at the router `stop`, or where
+// an option delivers; with each step the distance to the target falls.
+fn leg<'a>(
+    dist: &[u32],
+    n: usize,
+    links: usize,
+    from: &'a [u8; 128],
+    to: &'a [u8; 128],
+    out: &'a [u16; 128],
+    back: &'a [u16; 128],
+    at: &'a [u8; 1024],
+    own: &'a [u16; 1024],
+    first: usize,
+    count: usize,
+    choices: &[u8],
+    stop: usize,
+    start: usize,
+    written: usize,
+    buffer: &mut [u8],
+) -> usize
+    requires { ⌜ Playable n (length (now dist)) links (now from) (now to) (now out) (now back) (now at) first count × (2 ≤ written) × (start < n)
+        × ((rs : List ℕ) × Leg (options n (arcsIn (now from) (now to) (now out) (now back) links) (held n (now dist)) (slotsIn (now at) (now own) first count)) (now choices) stop (written - 2) start rs
+        × (written + length rs ≤ length (now buffer)) × (written + length rs ≤ 2 * n)) ⌝ }
+    ensures { λ r. ⌜ ((rs : List ℕ) → Leg (options n (arcsIn (now (from .entry)) (now (to .entry)) (now (out .entry)) (now (back .entry)) links) (held n (now (dist .entry)))
+        (slotsIn (now (at .entry)) (now (own .entry)) first count)) (now (choices .entry)) stop (written - 2) start rs
+        → (r ≡ written + length rs) × (now (buffer .exit) ≡ (take written (now (buffer .entry)) ++ rs) ++ drop r (now (buffer .entry)))) ⌝ }
+{
+    let target = towards_prefix(dist, n, at, own, first, count);
+    let mut x = start;
+    let mut k = written;
+    let end = loop {
+        if x == stop {
+            break k;
+        }
+        let byte = choice(choices, k - 2);
+        let taken = move_at(
+            links,
+            from,
+            to,
+            out,
+            back,
+            at,
+            own,
+            first,
+            count,
+            &target,
+            x,
+            byte,
+        );
+        let Move::Go(z) = taken else {
+            break k;
+        };
+        buffer[k] = z as u8;
+        k += 1;
+        x = z;
+    };
+    end
+}
+
+// Plays the route of the pair of a first hop and an endpoint: S, the leg from the first hop to the endpoint, and the leg from the
+// endpoint to delivery. The tunnel's target is the endpoint, as the single attachment of cost 0.
+pub(crate) fn play<'a>(
+    dist: &[u32],
+    n: usize,
+    links: usize,
+    from: &'a [u8; 128],
+    to: &'a [u8; 128],
+    out: &'a [u16; 128],
+    back: &'a [u16; 128],
+    at: &'a [u8; 1024],
+    own: &'a [u16; 1024],
+    first: usize,
+    count: usize,
+    choices: &[u8],
+    near: usize,
+    hop: usize,
+    endpoint: usize,
+    buffer: &mut [u8],
+) -> usize
+    requires { ⌜ Playable n (length (now dist)) links (now from) (now to) (now out) (now back) (now at) first count × (near < n) × (hop < n) × (endpoint < n)
+        × ((route : List ℕ) × NamedRoute n (arcsIn (now from) (now to) (now out) (now back) links) (held n (now dist)) (slotsIn (now at) (now own) first count) (now choices) near hop endpoint route
+        × (length route ≤ length (now buffer)) × (length route ≤ 2 * n)) ⌝ }
+    ensures { λ r. ⌜ ((route : List ℕ) → NamedRoute n (arcsIn (now (from .entry)) (now (to .entry)) (now (out .entry)) (now (back .entry)) links) (held n (now (dist .entry)))
+        (slotsIn (now (at .entry)) (now (own .entry)) first count) (now (choices .entry)) near hop endpoint route
+        → (r ≡ length route) × (now (buffer .exit) ≡ route ++ drop r (now (buffer .entry)))) ⌝ }
+{
+    let mut tunnel = [0u8; 1024];
+    let free = [0u16; 1024];
+    tunnel[0] = endpoint as u8;
+    buffer[0] = near as u8;
+    buffer[1] = hop as u8;
+    let arrived = leg(
+        dist,
+        n,
+        links,
+        from,
+        to,
+        out,
+        back,
+        &tunnel,
+        &free,
+        0,
+        1,
+        choices,
+        endpoint,
+        hop,
+        2,
+        buffer,
+    );
+    leg(
+        dist,
+        n,
+        links,
+        from,
+        to,
+        out,
+        back,
+        at,
+        own,
+        first,
+        count,
+        choices,
+        64,
+        endpoint,
+        arrived,
+        buffer,
+    )
+}
