@@ -1,6 +1,5 @@
 -- The columns of a network: its arcs held from them, and its distances in the area.
 -- Assumes nothing.
-use Rattle.distance.specs.Laws.Columns.{columns-within, arcs-columns}
 use Prim.Native.Nat.{ℕ, _*_, _≤_}
 use mathlib.Core.Path.{_≡_, sym, subst}
 use mathlib.Core.List.{List}
@@ -8,6 +7,7 @@ use native.Mathlib.Omega.{arith}
 use lib.ListN.{length}
 use Rattle.lfa.specs.Network.{Network, arcs}
 use Rattle.lfa.specs.Distance.{filled}
+use Rattle.distance.specs.Laws.Columns.{columns-within, arcs-columns}
 use Rattle.distance.specs.Columns.{arcsIn, ColumnsWithin, InColumns}
 use Rattle.distance.specs.Leaving.{ArcsHeld, LastHeld}
 use Rattle.distance.specs.Search.{ArcsReady, RowsFilled}

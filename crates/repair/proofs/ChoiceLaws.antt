@@ -8,9 +8,9 @@ use mathlib.Core.List.{List, [], _∷_, _++_, map, map-append, append-nil}
 use lib.Dec.{ltb, leb}
 use lib.ListN.{getD}
 use lib.Bits.{bitAnd}
-use borrow.Author.Tests.{eqb-false}
 use types.Run.{OneOf}
 use denote.Enum.Declared.{tagOf}
+use borrow.Author.Tests.{eqb-false}
 use Rattle.lfa.specs.Lists.{below, keepIf, select, flat}
 use Rattle.lfa.specs.Network.{Target}
 use Rattle.lfa.specs.Repair.{Pair, pair, Keys, key, keysOf, pairKey, noLater, earlier, choose, Outcome, noneServes, outcomeOf}

@@ -30,10 +30,10 @@ use Rattle.lfa.specs.Laws.Pair.{firsts-give}
 use Rattle.lfa.specs.Laws.Repair.{may-gives, may-make}
 use Rattle.distance.specs.Area.{held, column}
 use Rattle.distance.specs.Laws.Area.{column-at}
+use Rattle.distance.specs.Laws.List.{any-same, select-same}
 use Rattle.repair.specs.Known.{Readable, Known}
 use Rattle.repair.specs.Spaces.{clears, clearsTo, RoutersWithin, routersIn, someClears, crossesOut, firstsIn}
 use Rattle.repair.specs.Choice.{outcomeFor, firstOf, keysAt, mayEnd, hopKeys, endsOf, keysOfHop, columnKeys}
-use Rattle.distance.specs.Laws.List.{any-same, select-same}
 use Rattle.repair.proofs.ListLaws.{and-reorder, any-map, select-select, select-map, map-same, select-flat, map-flat}
 use Rattle.repair.proofs.ChoiceLaws.{first-chosen}
 

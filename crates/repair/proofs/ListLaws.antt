@@ -1,6 +1,5 @@
 -- Laws of the definitions that all crates share: lists made by selecting, sets of routers, and the choice of the first key.
 -- Assumes nothing.
-use Rattle.distance.specs.Laws.List.{select-append}
 use Prim.Native.Nat.{ℕ, _+_, _*_, _%_, _^_, _<_}
 use mathlib.Core.Path.{_≡_, refl, sym, ap, ap₂, _∙_, fun-ext}
 use mathlib.Core.Bool.{Bool, true, false, _&&_, _||_}
@@ -18,6 +17,7 @@ use Rattle.lfa.specs.Lists.{keepIf, select, anyOf, flat, one}
 use Rattle.lfa.specs.Network.{Arc, arc}
 use Rattle.lfa.specs.Space.{Protected, first, isFirst, firstOver, firstHops, setOf}
 use Rattle.lfa.specs.Laws.Set.{setOf-lt}
+use Rattle.distance.specs.Laws.List.{select-append}
 
 -- ---- lists, one element more
 

@@ -1,6 +1,5 @@
 -- The answers of the space and repair calls, return by return.
 -- Assumes nothing.
-use Rattle.repair.specs.Laws.Named.{routers-same, hops-are, held-is, prefix-target, link-in, end-in, link-exists, protected-is}
 use Prim.Native.Nat.{ℕ, _*_, _≤_, _<_}
 use mathlib.Core.Path.{_≡_, sym, ap, _∙_}
 use mathlib.Core.Bool.{true, _&&_}
@@ -16,8 +15,9 @@ use Rattle.lfa.specs.Refusal.{set, askSpace, askLink, askPrefix, repairAnswer, 
 use Rattle.lfa.specs.Laws.Asked.{space-answer, space-work, link-answer, link-searched, prefix-answer, prefix-searched, search-fills}
 use Rattle.network_file.specs.declared.network.Network.{Network}
 use Rattle.distance.specs.Columns.{arcsIn}
-use Rattle.repair.specs.Spaces.{protectedIn}
 use Rattle.distance.specs.Area.{held, slotsIn}
+use Rattle.repair.specs.Laws.Named.{routers-same, hops-are, held-is, prefix-target, link-in, end-in, link-exists, protected-is}
+use Rattle.repair.specs.Spaces.{protectedIn}
 use Rattle.repair.specs.Known.{Known}
 use Rattle.repair.specs.Asked.{Taken}
 use Rattle.repair.specs.Laws.Loaded.{limits, routers-are, links-are, prefixes-are}

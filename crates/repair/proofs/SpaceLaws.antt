@@ -21,10 +21,10 @@ use Rattle.lfa.specs.Laws.Arrive.{one-most}
 use Rattle.lfa.specs.Laws.Counting.{map-below-same}
 use Rattle.lfa.specs.Space.{Protected, FirstHop, first, isFirst, firstHops, setOf}
 use Rattle.distance.specs.Columns.{linksIn, arcsIn}
-use Rattle.repair.specs.Spaces.{belowBoth, clears, clearsTo, routersIn, someClears, leavesNear, crossesOut, firstsIn}
 use Rattle.distance.specs.Laws.List.{map-below-more, any-more}
 use Rattle.distance.specs.Laws.Set.{or-setOf, setOf-none}
 use Rattle.distance.specs.Laws.Columns.{arcsIn-more}
+use Rattle.repair.specs.Spaces.{belowBoth, clears, clearsTo, routersIn, someClears, leavesNear, crossesOut, firstsIn}
 use Rattle.repair.proofs.ListLaws.{firsts-append, firsts-two}
 
 -- ---- two tests, the second tried where the first passes

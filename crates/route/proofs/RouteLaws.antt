@@ -1,19 +1,6 @@
 -- The route call beside the prefix repair question: the rows are the same but for row 11; answers without a pair are passed on and
 -- write nothing; and where there is a pair, the route that the choice bytes name is written.
 -- Assumes nothing.
-use Rattle.lfa.specs.Laws.Work.{work-length}
-use Rattle.repair.specs.Spaces.{protectedIn}
-use Rattle.distance.specs.Columns.{arcsIn}
-use Rattle.distance.specs.Area.{held, slotsIn}
-use Rattle.distance.specs.Laws.Columns.{limits-positive}
-use Rattle.repair.specs.Laws.Named.{routers-same, hops-are, held-is, prefix-slots, prefix-target, protected-is}
-use Rattle.route.specs.Leg.{Playable}
-use types.Run.{OneOf, miss}
-use denote.Enum.Declared.{tagOf}
-use Rattle.repair.proofs.Repair.{the-type}
-use Rattle.lfa.specs.Laws.Accepted.{accepted-sound, accepted-distances, accepted-named, link-count}
-use Rattle.lfa.specs.Laws.Repair.{IsFirstPair, PrefixMeans, prefix-means}
-use Rattle.lfa.specs.Laws.Route.{route-named, route-walks}
 use Prim.Native.Nat.{ℕ, _*_, _≤_, _<_}
 use mathlib.Core.Path.{_≡_, refl, sym, ap, _∙_, subst}
 use mathlib.Core.Logic.{_⊎_, inl, inr}
@@ -23,7 +10,13 @@ use mathlib.Core.List.{List, [], _∷_, _++_}
 use native.Mathlib.Omega.{arith}
 use lib.Dec.{ltb, leb}
 use lib.ListN.{length, getD, drop}
+use types.Run.{OneOf, miss}
+use denote.Enum.Declared.{tagOf}
 use borrow.Author.Tests.{ltb-true, leb-true, lt-leb, le-leb, lt-ltb}
+use Rattle.lfa.specs.Laws.Work.{work-length}
+use Rattle.lfa.specs.Laws.Accepted.{accepted-sound, accepted-distances, accepted-named, link-count}
+use Rattle.lfa.specs.Laws.Repair.{IsFirstPair, PrefixMeans, prefix-means}
+use Rattle.lfa.specs.Laws.Route.{route-named, route-walks}
 use Rattle.lfa.specs.Lists.{unless}
 use Rattle.lfa.specs.Network.{Arc, arcs, Target}
 use Rattle.lfa.specs.File.{Bytes, byteAt, routersOf, linksOf, prefixesOf, networkOf}
@@ -40,6 +33,12 @@ use Rattle.lfa.specs.Laws.Asked.{search-fills, prefix-searched, area-enough, bu
 use Rattle.network_file.specs.declared.network.Network.{Network}
 use Rattle.network_file.specs.Struct.{structOf}
 use Rattle.network_file.specs.Load.{faultRow, faultOf}
+use Rattle.distance.specs.Columns.{arcsIn}
+use Rattle.distance.specs.Area.{held, slotsIn}
+use Rattle.distance.specs.Laws.Columns.{limits-positive}
+use Rattle.repair.specs.Spaces.{protectedIn}
+use Rattle.repair.specs.Laws.Named.{routers-same, hops-are, held-is, prefix-slots, prefix-target, protected-is}
+use Rattle.repair.proofs.Repair.{the-type}
 use Rattle.repair.specs.Answer.{refusalAnswer, repairOf}
 use Rattle.repair.specs.Asked.{Taken}
 use Rattle.repair.specs.Laws.Loaded.{routers-are, links-are, prefixes-are, columns-within, limits}
@@ -47,6 +46,7 @@ use Rattle.repair.specs.declared.Refusal.{Refusal}
 use Rattle.repair.specs.declared.Refusal.the-variants.{File, ShortArea, ShortBuffer, NoSuchLink, NoSuchPrefix, NoPair}
 use Rattle.repair.specs.declared.Repair.{Repair}
 use Rattle.repair.specs.declared.Repair.the-variants as answer
+use Rattle.route.specs.Leg.{Playable}
 use Rattle.route.specs.Answer.{passedOn}
 
 -- ---- the network that the file part hands over

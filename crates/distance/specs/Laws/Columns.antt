@@ -1,21 +1,21 @@
 -- Laws of the columns of a network.
 -- Assumes nothing.
-use Rattle.lfa.specs.Laws.Walk.{Positive}
 use Prim.Native.Nat.{suc, _+_, ℕ, _<_}
 use mathlib.Core.Path.{_∙_, subst, _≡_, sym, ap}
 use mathlib.Core.Logic.{inl, inr}
 use mathlib.Core.List.{[], _∷_, _++_, List, map, List·Memᴰ, Memᴰ·cast}
 use native.Mathlib.Nat.{add-zero}
+use native.Mathlib.Omega.{arith}
+use lib.ListN.{length, getD}
+use Rattle.lfa.specs.Laws.Walk.{Positive}
 use Rattle.lfa.specs.Network.{Arc, arc, Link, link, Network, arcsFrom, arcs}
 use Rattle.lfa.specs.Laws.Arrive.{Within}
 use Rattle.lfa.specs.Laws.Network.{arcs-give, Direction}
-use Rattle.distance.specs.Laws.List.{map-below-more}
-use native.Mathlib.Omega.{arith}
-use lib.ListN.{length, getD}
 use Rattle.lfa.specs.Lists.{below}
 use Rattle.lfa.specs.FileOf.{WithinLimits, LinkWithin}
 use Rattle.lfa.specs.Laws.List.{getD-in}
 use Rattle.lfa.specs.Laws.Counting.{length-map-below, map-below-at}
+use Rattle.distance.specs.Laws.List.{map-below-more}
 use Rattle.distance.specs.Columns.{linksIn, arcsIn, ColumnsWithin, InColumns}
 
 -- columns that hold the links of a network within the limits

@@ -1,13 +1,13 @@
 -- Laws of lists made by counting up, one element more, and of padding.
 -- Assumes nothing.
+use Prim.Native.Nat.{ℕ, zero, suc, _+_, _-_, _<_}
 use mathlib.Core.Path.{refl, ap₂, _≡_, ap, _∙_}
 use mathlib.Core.Bool.{Bool, true, false, _||_}
 use mathlib.Core.List.{[], List·Memᴰ, List·Memᴰ·head, List·Memᴰ·tail, List, _∷_, _++_, map, map-append}
-use Rattle.lfa.specs.Lists.{keepIf, select, anyOf, countUp, below}
-use Prim.Native.Nat.{ℕ, zero, suc, _+_, _-_, _<_}
 use native.Mathlib.Numerals.{add-one}
 use native.Mathlib.Omega.{arith}
 use lib.ListN.{length, getD, replicate, List·getD-append}
+use Rattle.lfa.specs.Lists.{keepIf, select, anyOf, countUp, below}
 use Rattle.lfa.specs.FileOf.{pad}
 
 -- ---- counting up

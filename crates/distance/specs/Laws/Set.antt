@@ -5,14 +5,14 @@ use mathlib.Core.Path.{sym, ap₂, _≡_, refl, ap, _∙_}
 use mathlib.Core.Bool.{Bool, true, false, _||_}
 use native.Mathlib.Nat.{one-mul, div-eq-of-lt, mod-eq-of-lt, not-suc-le-zero, zero-lt-suc, mod-lt, le-of-suc-le-suc}
 use native.Mathlib.Decide.{decLt}
+use native.Mathlib.Omega.{arith}
 use lib.Pow.{pow-lt, pow-add, shl-shr}
 use lib.Bits.{or-lt, bitAnd, and-mask, bitOr, or-step, or-shr}
+use lib.Dec.{eqb}
+use lib.Arith.{digits-mod}
 use borrow.Author.Tests.{eq-eqb, ne-eqb}
 use Rattle.lfa.specs.Space.{setOf, has}
 use Rattle.lfa.specs.Laws.Set.{setOf-lt, setOf-has, setOf-same, has-setOf}
-use native.Mathlib.Omega.{arith}
-use lib.Dec.{eqb}
-use lib.Arith.{digits-mod}
 
 or-low : (a b : ℕ) → bitOr a b % 2 ≡ max (a % 2) (b % 2)
 or-low a b = ap (λ (x : ℕ). x % 2) (or-step a b) ∙ digits-mod (bitOr (a / 2) (b / 2)) (omega (arith, mod-lt a (zero-lt-suc 1), mod-lt b (zero-lt-suc 1)))

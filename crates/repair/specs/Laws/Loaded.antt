@@ -23,8 +23,8 @@ use Rattle.network_file.specs.Struct.{fromOf, toOf, outOf, backOf, linkColumn, 
 use Rattle.network_file.specs.Load.{faultRow, faultOf, answerOf}
 use Rattle.network_file.specs.declared.network.Network as struct
 use Rattle.distance.specs.Columns.{linksIn, ColumnsWithin, InColumns}
-use Rattle.repair.specs.Asked.{Taken}
 use Rattle.distance.specs.Laws.Columns.{limits-columns}
+use Rattle.repair.specs.Asked.{Taken}
 
 -- ---- columns
 

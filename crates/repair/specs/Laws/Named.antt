@@ -17,13 +17,13 @@ use Rattle.lfa.specs.Laws.Test.{and-left, and-right}
 use Rattle.network_file.specs.declared.network.Network.{Network}
 use Rattle.network_file.specs.Struct.{structOf}
 use Rattle.distance.specs.Columns.{arcsIn}
-use Rattle.repair.specs.Spaces.{protectedIn}
 use Rattle.distance.specs.Area.{held, SlotsWithin, slotsIn}
+use Rattle.distance.specs.Laws.Area.{held-filled}
+use Rattle.distance.specs.Laws.Columns.{arcs-columns}
+use Rattle.repair.specs.Spaces.{protectedIn}
 use Rattle.repair.specs.Asked.{Taken}
 use Rattle.repair.specs.Laws.Loaded.{limits, network-columns, routers-are, struct-link}
 use Rattle.repair.specs.Laws.Slot.{slots-prefix, slots-within}
-use Rattle.distance.specs.Laws.Area.{held-filled}
-use Rattle.distance.specs.Laws.Columns.{arcs-columns}
 
 -- ---- the network
 

@@ -1,7 +1,8 @@
+-- `route::passed_on` meets its contract, case by case.
 -- Assumes nothing.
+use borrow.Author.Needs.{needs}
 use Rattle.repair.specs.Answer.{refusalAnswer}
 use Rattle.route.specs.Answer.{playedOf, passedOn}
-use borrow.Author.Needs.{needs}
 use Rattle.route.proofs.passed_on.Statement.{statement}
 use Rattle.route.proofs.passed_on.Tie as tie
 

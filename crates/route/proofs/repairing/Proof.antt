@@ -1,10 +1,11 @@
+-- `route::repairing` meets its contract. End 0 is the link's first router, and every other end its second.
 -- Assumes nothing.
 use Prim.Native.Nat.{ℕ, zero, suc}
 use mathlib.Core.Path.{_≡_, refl, _∙_}
+use borrow.Author.Needs.{needs}
 use Rattle.lfa.specs.Network.{link}
 use Rattle.lfa.specs.Space.{protectedBy}
 use Rattle.repair.specs.Spaces.{protectedIn}
-use borrow.Author.Needs.{needs}
 use Rattle.route.proofs.repairing.Statement.{statement}
 use Rattle.route.proofs.repairing.Tie as tie
 

@@ -1,14 +1,17 @@
+-- `route::route` meets its contract. Row 11 is decided beside the rows of the prefix repair question, whose answer then says the
+-- rest: without a pair it is passed on, and with one the route that the choice bytes name is played.
 -- Assumes nothing.
 use Prim.Native.Nat.{ℕ, _*_, _≤_, _<_}
-use borrow.Author.Tests.{ltb-true, ltb-false}
 use mathlib.Core.Path.{_≡_, sym, ap, _∙_}
-use native.Mathlib.Nat.{mul-le-mul}
 use mathlib.Core.Logic.{_⊎_, inl, inr, ⊎-elim}
-use native.Mathlib.Omega.{arith}
 use mathlib.Core.Bool.{true, _&&_}
-use lib.Dec.{ltb, leb}
 use mathlib.Core.List.{_++_}
+use native.Mathlib.Nat.{mul-le-mul}
+use native.Mathlib.Omega.{arith}
+use lib.Dec.{ltb, leb}
 use lib.ListN.{getD, length, drop}
+use borrow.Author.Tests.{ltb-true, ltb-false}
+use borrow.Author.Needs.{needs}
 use Rattle.lfa.specs.File.{routersOf}
 use Rattle.lfa.specs.Refusal.{repair, played, askPrefix, askRoute, answerTo, refusalOf}
 use Rattle.repair.specs.Answer.{refusalAnswer, repairOf}
@@ -17,7 +20,6 @@ use Rattle.repair.specs.Laws.Loaded.{columns-within}
 use Rattle.repair.specs.Laws.Named.{prefix-cell, link-in}
 use Rattle.route.specs.Answer.{playedOf}
 use Rattle.route.proofs.RouteLaws.{TheRoute, played-route, play-ready, route-answered, buffer-written, area-long, buffer-long, prefix-handed, link-handed, not-pair, loaded-few, loaded-some, loaded-accepted, buffer-short, alike, work-same, passed, pair-found, file-loaded}
-use borrow.Author.Needs.{needs}
 use Rattle.route.proofs.route.Statement.{statement}
 use Rattle.route.proofs.route.Tie as tie
 

@@ -1,3 +1,4 @@
+-- `route::options::delivers` meets its contract. The loop's invariant: no slot passed is the router's at this cost.
 -- Assumes nothing.
 use Prim.Native.Nat.{_+_, _-_, _≤_}
 use mathlib.Core.Path.{_≡_, sym, _∙_}

@@ -1,10 +1,11 @@
+-- `route::options::member` meets its contract. The loop's invariant: the member sought is the one with `left` members before it from r on.
 -- Assumes nothing.
 use Prim.Native.Nat.{_-_, _≤_}
 use mathlib.Core.Path.{_≡_}
 use mathlib.Core.Logic.{⊎-elim}
 use native.Mathlib.Omega.{arith}
-use borrow.Author.Needs.{needs}
 use lib.ListN.{getD}
+use borrow.Author.Needs.{needs}
 use Rattle.route.specs.Options.{membersOf}
 use Rattle.route.proofs.OptionLaws.{from, from-all, member-found, member-passed, member-other, member-none}
 use Rattle.route.proofs.options.member.Statement.{statement}

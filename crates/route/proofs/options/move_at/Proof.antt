@@ -1,11 +1,12 @@
+-- `route::options::move_at` meets its contract. The options over the columns are document 01's, since the column holds the distances.
 -- Assumes nothing.
 use mathlib.Core.Path.{ap, _∙_}
 use mathlib.Core.List.{List}
 use native.Mathlib.Omega.{arith}
+use borrow.Author.Needs.{needs}
 use Rattle.lfa.specs.Route.{Move, optionTaken}
 use Rattle.distance.specs.Laws.Columns.{within-64, columns-within}
 use Rattle.route.proofs.OptionLaws.{options-same}
-use borrow.Author.Needs.{needs}
 use Rattle.route.proofs.options.move_at.Statement.{statement}
 use Rattle.route.proofs.options.move_at.Tie as tie
 

@@ -1,9 +1,10 @@
+-- `route::options::next_routers` meets its contract. The loop's invariant: the set holds the next routers over the links passed.
 -- Assumes nothing.
 use Prim.Native.Nat.{ℕ, _-_, _≤_}
 use mathlib.Core.Path.{_≡_, ap, _∙_}
 use native.Mathlib.Omega.{arith}
-use borrow.Author.Needs.{needs}
 use lib.ListN.{getD}
+use borrow.Author.Needs.{needs}
 use Rattle.lfa.specs.Space.{setOf}
 use Rattle.distance.specs.Columns.{arcsIn}
 use Rattle.route.specs.Options.{nextBy}

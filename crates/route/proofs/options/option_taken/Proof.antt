@@ -1,3 +1,4 @@
+-- `route::options::option_taken` meets its contract. Delivery, where there is one, is option 0, and moves the others up by one.
 -- Assumes nothing.
 use Prim.Native.Nat.{ℕ, _+_, _-_, _%_}
 use mathlib.Core.Path.{sym, ap, _∙_}
@@ -5,9 +6,9 @@ use native.Mathlib.Omega.{arith}
 use lib.Count.{ones}
 use lib.ListN.{getD}
 use borrow.Author.Tests.{not-true, not-false}
+use borrow.Author.Needs.{needs}
 use Rattle.route.specs.Options.{moveIn, membersOf}
 use Rattle.route.proofs.OptionLaws.{few-ones, members-count, taken-none, taken-step, taken-delivery, taken-later}
-use borrow.Author.Needs.{needs}
 use Rattle.route.proofs.options.option_taken.Statement.{statement}
 use Rattle.route.proofs.options.option_taken.Tie as tie
 

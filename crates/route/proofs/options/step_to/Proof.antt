@@ -1,7 +1,8 @@
+-- `route::options::step_to` meets its contract. Where a test fails the hop is no step, and its set is empty.
 -- Assumes nothing.
 use mathlib.Core.Path.{sym, _∙_}
-use Rattle.route.proofs.OptionLaws.{leaves-other, not-reached, not-tight, stepped}
 use borrow.Author.Needs.{needs}
+use Rattle.route.proofs.OptionLaws.{leaves-other, not-reached, not-tight, stepped}
 use Rattle.route.proofs.options.step_to.Statement.{statement}
 use Rattle.route.proofs.options.step_to.Tie as tie
 

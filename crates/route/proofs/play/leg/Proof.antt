@@ -1,3 +1,5 @@
+-- `route::play::leg` meets its contract. The loop's invariant: what is written and what is ahead make the leg from its start; each
+-- step is nearer to the target, which is what makes the loop end.
 -- Assumes nothing.
 use Prim.Native.Nat.{_-_, _<_}
 use mathlib.Core.Path.{_≡_, sym, ap, _∙_}

@@ -1,14 +1,16 @@
+-- `route::play::play` meets its contract. The two legs of the named route are played one after the other, and the second starts where
+-- the first has left the buffer.
 -- Assumes nothing.
 use Prim.Native.Nat.{ℕ, _+_, _≤_}
 use mathlib.Core.Path.{_≡_, sym, ap, _∙_}
-use native.Mathlib.Omega.{arith}
 use mathlib.Core.List.{List, _++_}
+use native.Mathlib.Omega.{arith}
 use lib.ListN.{length, set, take, drop, length-set}
+use borrow.Author.Needs.{needs}
 use Rattle.lfa.specs.Route.{NamedRoute}
 use Rattle.distance.specs.Columns.{arcsIn}
 use Rattle.distance.specs.Area.{held, slotsIn}
 use Rattle.route.proofs.PlayLaws.{tunnel-playable, route-length, tunnel-leg, rest-leg, leg-long, written-all}
-use borrow.Author.Needs.{needs}
 use Rattle.route.proofs.play.play.Statement.{statement}
 use Rattle.route.proofs.play.play.Tie as tie
 
