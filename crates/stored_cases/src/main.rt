@@ -4,17 +4,20 @@ use distance::print_distances;
 use print::next_case;
 use reading::print_reading;
 use repairs::print_repairs;
+use routes::print_routes;
 
 mod distance;
 mod print;
 mod reading;
 mod repairs;
+mod routes;
 
 // Prints the sections of a file.
 fn print_sections(file: &[u8]) {
     print_reading(file);
     print_distances(file);
     print_repairs(file);
+    print_routes(file);
 }
 
 // Reads case k and prints its sections; says whether there was one.

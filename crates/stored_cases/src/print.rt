@@ -9,21 +9,25 @@ pub(crate) fn number(n: usize) {
     io::print_decimal(1, n as u64);
 }
 
+// Prints a byte as a number.
+pub(crate) fn byte(x: u8) {
+    number(x as usize);
+}
+
 // Prints the end of a line.
 pub(crate) fn end() {
     io::write_all(1, b"\n");
 }
 
-// Prints the line of a refusal: the number of the row that applies, and the value that it returns.
+// Prints a refusal: the number of the row that applies, and the value that it returns.
 fn refused(row: usize, value: usize) {
     io::write_all(1, b"refused");
     number(row);
     number(value);
-    end();
 }
 
-// Prints the line of a file that is turned away.
-pub(crate) fn print_fault(fault: Fault) {
+// Prints why a file is turned away.
+fn fault_words(fault: Fault) {
     match fault {
         Fault::Length => refused(1, 0),
         Fault::Check(i) => refused(2, i),
@@ -37,16 +41,28 @@ pub(crate) fn print_fault(fault: Fault) {
     }
 }
 
-// Prints the line of a question that is turned away.
-pub(crate) fn print_refusal(refusal: Refusal) {
+// Prints why a question is turned away.
+pub(crate) fn refusal_words(refusal: Refusal) {
     match refusal {
-        Refusal::File(fault) => print_fault(fault),
+        Refusal::File(fault) => fault_words(fault),
         Refusal::ShortArea(n) => refused(10, n),
         Refusal::ShortBuffer(n) => refused(11, n),
         Refusal::NoSuchLink(n) => refused(12, n),
         Refusal::NoSuchPrefix(n) => refused(13, n),
         Refusal::NoPair => refused(14, 0),
     }
+}
+
+// Prints the line of a file that is turned away.
+pub(crate) fn print_fault(fault: Fault) {
+    fault_words(fault);
+    end();
+}
+
+// Prints the line of a question that is turned away.
+pub(crate) fn print_refusal(refusal: Refusal) {
+    refusal_words(refusal);
+    end();
 }
 
 // A case as it was read: whether there was one, and how many bytes its file has.

@@ -1,4 +1,5 @@
 // The section of the reader: the network that it makes of a file, or why it refuses the file, and the parts of some entries.
+use super::print::byte;
 use super::print::end;
 use super::print::number;
 use super::print::print_fault;
@@ -7,11 +8,6 @@ use network_file::link_entry;
 use network_file::load;
 use network_file::network::Network;
 use network_file::prefix_entry;
-
-// Prints a byte as a number.
-fn byte(x: u8) {
-    number(x as usize);
-}
 
 // Prints a cost as a number.
 fn cost(x: u16) {

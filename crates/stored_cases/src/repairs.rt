@@ -170,8 +170,8 @@ fn print_sums(file: &[u8], work: &mut [u32], links: usize, prefixes: usize) {
     }
 }
 
-// Whether every prefix repair is printed: links times prefixes is at most 2,000.
-fn few(links: usize, prefixes: usize) -> bool {
+// Whether every prefix repair is printed and every route asked for: links times prefixes is at most 2,000.
+pub(crate) fn few(links: usize, prefixes: usize) -> bool {
     if prefixes == 0 {
         return true;
     }

@@ -43,6 +43,11 @@ pub fn answered(opened: &Opened, lent: &Buffers, label: &str, question: &Questio
     format!("{label} {}", words::short(&opened.ask(question, lent)))
 }
 
+/// The word for what a call leaves of a buffer that it is not to change.
+pub fn kept(as_before: bool) -> &'static str {
+    if as_before { "kept" } else { "changed" }
+}
+
 /// Lines as a text, a newline after each.
 pub fn text(lines: &[String]) -> String {
     lines.iter().map(|line| format!("{line}\n")).collect()

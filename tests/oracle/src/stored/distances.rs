@@ -19,7 +19,7 @@
 //! A refused file counts as one of no router: `later` shows the cells 0 and 1,
 //! and the second work area has no cell.
 
-use super::common::{network, text};
+use super::common::{kept, network, text};
 use crate::answer::{Buffers, Opened, Question};
 use crate::fault::Context;
 use crate::words;
@@ -43,7 +43,7 @@ pub fn lines(ctx: &Context, file: &[u8]) -> String {
     let short = work_area(needed.saturating_sub(1));
     let outcome = opened.ask(&Question::Distances, &short);
     lines.push(words::short(&outcome));
-    lines.push(if outcome.left == short { "kept" } else { "changed" }.to_string());
+    lines.push(kept(outcome.left == short).to_string());
     text(&lines)
 }
 

@@ -45,9 +45,9 @@ const PLAN: Section = Section { name: "plan", lines: plan_text };
 /// The sections about a stored case, in their order.
 pub const SECTIONS: &[Section] = &[READING, DISTANCES, REPAIRS, ROUTES];
 
-/// All programs. No program prints the routes yet.
+/// All programs.
 pub const PROGRAMS: &[Program] = &[
-    Program { name: "stored_cases", reads: Reads::Cases, sections: &[READING, DISTANCES, REPAIRS] },
+    Program { name: "stored_cases", reads: Reads::Cases, sections: SECTIONS },
     Program { name: "plan", reads: Reads::Example("ring4"), sections: &[PLAN] },
 ];
 

@@ -4,28 +4,32 @@
 //! asked about:
 //!
 //! ```text
-//! route LINK END PREFIX STRING ANSWER            every choice string
+//! route LINK END PREFIX STRING ANSWER LATER      every choice string
 //! ```
 //!
-//! The links are those of the repairs. Every prefix is asked about if L
-//! times the number of prefixes is at most 2,000, otherwise every 16th from 0
-//! on. The choice strings are those of the batch, by their numbers 0 to 4.
-//! After them comes one question with a route buffer of 2 x N - 1 bytes:
+//! Every link and every prefix is asked about if L times the number of prefixes
+//! is at most 2,000, otherwise the links 0, 1, 64 and 127, be they in range or
+//! not, and every 16th prefix from 0 on. The choice strings are those of the
+//! batch, by their numbers 0 to 4. After them comes one question with a route
+//! buffer of 2 x N - 1 bytes:
 //!
 //! ```text
-//! short-route 0 0 0 0 ANSWER
+//! short-route 0 0 0 0 ANSWER LATER
 //! ```
 //!
 //! A refused file counts as one of no router, and its short buffer has no byte.
 //!
 //! An answer is `refused NUMBER VALUE`, `unreachable`, `untouched` or
 //! `count COUNT route ROUTER ...`. The work area has 4,096 cells, the route
-//! buffer otherwise 128 bytes.
+//! buffer otherwise 128 bytes, each of them 255 before a call. LATER is `kept`
+//! if every byte after the written ones is 255 still, otherwise `changed`; no
+//! byte is to be written unless the answer is a count.
 
-use super::common::{answered, link_ends, network, route_prefixes, text};
-use crate::answer::{Opened, Question};
+use super::common::{kept, link_ends, network, route_prefixes, text};
+use crate::answer::{Answer, Buffers, Opened, Question};
 use crate::batch::{choice_strings, enough};
 use crate::fault::Context;
+use crate::words;
 
 /// What is printed for a file.
 pub fn lines(ctx: &Context, file: &[u8]) -> String {
@@ -38,13 +42,26 @@ pub fn lines(ctx: &Context, file: &[u8]) -> String {
             for (string, choices) in choice_strings().into_iter().enumerate() {
                 let label = format!("route {link} {end} {prefix} {string}");
                 let question = Question::Route { link, end, prefix, choices };
-                lines.push(answered(&opened, &lent, &label, &question));
+                lines.push(played(&opened, &lent, &label, &question));
             }
         }
     }
     let mut short = enough();
     short.route.truncate((2 * usize::from(network.routers)).saturating_sub(1));
     let question = Question::Route { link: 0, end: 0, prefix: 0, choices: Vec::new() };
-    lines.push(answered(&opened, &short, "short-route 0 0 0 0", &question));
+    lines.push(played(&opened, &short, "short-route 0 0 0 0", &question));
     text(&lines)
+}
+
+/// The line of a question: its name, its numbers, its answer, and whether the
+/// bytes after the written ones are kept.
+fn played(opened: &Opened, lent: &Buffers, label: &str, question: &Question) -> String {
+    let outcome = opened.ask(question, lent);
+    let written = match outcome.answer {
+        Answer::Count(count) => count,
+        _ => 0,
+    };
+    let later = outcome.left.route.iter().skip(written);
+    let later = kept(later.eq(lent.route.iter().skip(written)));
+    format!("{label} {} {later}", words::short(&outcome))
 }

@@ -48,9 +48,8 @@ fn an_output_numbers_its_cases_and_has_the_sections_in_their_order() {
     let case = |file: Vec<u8>| Case { name: String::new(), file };
     let (one, two) = (case(write(&ring(3))), case(Vec::new()));
     let output = program("stored_cases").output(&Context::sound(), &[&one, &two]);
-    let all = |file: &[u8]| {
-        prints("reading", file) + &prints("distances", file) + &prints("repairs", file)
-    };
+    let names = ["reading", "distances", "repairs", "routes"];
+    let all = |file: &[u8]| names.map(|name| prints(name, file)).concat();
     assert_eq!(output, format!("case 0\n{}case 1\n{}", all(&one.file), all(&two.file)));
 }
 
@@ -171,12 +170,28 @@ fn the_section_of_routes() {
         ("2 1", "untouched"),
     ] {
         for string in 0..5 {
-            expected += &format!("route {link_end} 0 {string} {answer}\n");
+            expected += &format!("route {link_end} 0 {string} {answer} kept\n");
         }
     }
-    expected += "short-route 0 0 0 0 refused 11 6\n";
+    expected += "short-route 0 0 0 0 refused 11 6 kept\n";
     assert_eq!(text, expected);
-    assert_eq!(prints("routes", &[]), "short-route 0 0 0 0 refused 1 0\n");
+    assert_eq!(prints("routes", &[]), "short-route 0 0 0 0 refused 1 0 kept\n");
+}
+
+#[test]
+fn the_section_of_routes_shows_bytes_that_are_not_kept() {
+    let file = write(&two_routers().prefix(&[(1, 0)]));
+    let changed = |fault, file: &[u8]| {
+        let section = Section::named("routes").expect("a section");
+        let text = (section.lines)(&Context::with(&[fault]), file);
+        text.lines().filter(|line| line.ends_with(" changed")).count()
+    };
+    // Five times refusal 14, five times untouched, and once refusal 11.
+    assert_eq!(changed(Fault::NothingPlayedWrites, &file), 10);
+    assert_eq!(changed(Fault::RefusalTouchesBuffers, &file), 1);
+    assert_eq!(changed(Fault::LaterBytesTouched, &file), 0);
+    let file = write(&ring(3).prefix(&[(1, 0)]));
+    assert_eq!(changed(Fault::LaterBytesTouched, &file), 10);
 }
 
 #[test]
@@ -211,9 +226,9 @@ fn lines_known_by_hand() {
         ("ring_4", "repairs", "link-repair 0 0 pair 3 2 3 2"),
         ("ring_4_prefix", "repairs", "prefix-repair 0 0 0 pair 3 3 1 1"),
         ("ring_4_prefix", "repairs", "prefix-repair 1 1 0 untouched"),
-        ("ring_4_prefix", "routes", "route 0 0 0 0 count 3 route 0 3 2"),
+        ("ring_4_prefix", "routes", "route 0 0 0 0 count 3 route 0 3 2 kept"),
         ("ring_5", "repairs", "link-repair 0 0 pair 4 2 3 3"),
-        ("ring_5_prefix", "routes", "route 0 0 0 0 count 5 route 0 4 3 2 1"),
+        ("ring_5_prefix", "routes", "route 0 0 0 0 count 5 route 0 4 3 2 1 kept"),
         ("ring_3", "repairs", "link-repair 0 0 pair 2 2 1 1"),
         ("ring_3_dear_back", "repairs", "link-repair 0 0 refused 14 0"),
         ("ring_4_dear_link", "repairs", "link-repair 0 0 refused 14 0"),
@@ -229,8 +244,8 @@ fn lines_known_by_hand() {
         ("source_000_figure_3", "repairs", "link-repair 1 0 pair 0 3 2 1005"),
         // R2 is the only endpoint; with the link N-E the neighbour N repairs.
         ("source_001_figure_1", "repairs", "link-repair 0 0 pair 1 3 3 3"),
-        ("source_001_figure_1", "routes", "route 0 0 2 0 count 7 route 0 1 2 3 4 5 6"),
-        ("source_001_figure_1", "routes", "route 0 0 3 0 count 6 route 0 1 2 3 4 7"),
+        ("source_001_figure_1", "routes", "route 0 0 2 0 count 7 route 0 1 2 3 4 5 6 kept"),
+        ("source_001_figure_1", "routes", "route 0 0 3 0 count 6 route 0 1 2 3 4 7 kept"),
         ("source_001_figure_2", "repairs", "link-repair 0 0 pair 1 1 1 1"),
         // C protects the link S-E, and A is the better one for the prefix.
         ("source_002_figure_3", "repairs", "link-repair 0 0 pair 4 4 1 5"),
@@ -251,17 +266,17 @@ fn lines_known_by_hand() {
         // Q holds the routers from 1 to 32, extended P those from 32 on and 0.
         ("ring_64", "repairs", "link-repair 0 0 pair 63 32 3 32"),
         ("there_and_back", "repairs", "prefix-repair 0 0 0 pair 2 4 3 15"),
-        ("there_and_back", "routes", "route 0 0 0 4 count 5 route 0 2 3 4 3"),
+        ("there_and_back", "routes", "route 0 0 0 4 count 5 route 0 2 3 4 3 kept"),
         // Three hops away from S along the ring, two from E.
         ("ring_6_costs_65535", "repairs", "link-repair 0 0 pair 5 3 3 196605"),
         // From 4 on every step leads right or down, the lower number first.
-        ("grid", "routes", "route 0 0 0 0 count 7 route 0 4 5 6 7 11 15"),
-        ("grid", "routes", "route 0 0 0 1 count 7 route 0 4 8 9 10 11 15"),
-        ("grid", "routes", "route 0 0 0 2 count 7 route 0 4 8 12 13 14 15"),
+        ("grid", "routes", "route 0 0 0 0 count 7 route 0 4 5 6 7 11 15 kept"),
+        ("grid", "routes", "route 0 0 0 1 count 7 route 0 4 8 9 10 11 15 kept"),
+        ("grid", "routes", "route 0 0 0 2 count 7 route 0 4 8 12 13 14 15 kept"),
         // Prefix 1 is as far over 10 as over 15. At 10 delivery stands first.
-        ("grid", "routes", "route 0 0 1 1 count 5 route 0 4 8 9 10"),
-        ("grid", "routes", "route 0 0 1 3 count 5 route 0 4 5 9 10"),
-        ("grid", "routes", "route 0 0 1 4 count 7 route 0 4 8 9 13 14 15"),
+        ("grid", "routes", "route 0 0 1 1 count 5 route 0 4 8 9 10 kept"),
+        ("grid", "routes", "route 0 0 1 3 count 5 route 0 4 5 9 10 kept"),
+        ("grid", "routes", "route 0 0 1 4 count 7 route 0 4 8 9 13 14 15 kept"),
     ];
     let cases = stored_cases();
     for (name, section, line) in known {
@@ -285,7 +300,7 @@ fn what_plan_prints() {
 
 /// Faults that no section and no stored plan shows: none asks for what they
 /// change.
-const NOT_SHOWN: [Fault; 9] = [
+const NOT_SHOWN: [Fault; 7] = [
     // No section prints the work area after a repair call.
     Fault::FilledBeforeQuestion,
     Fault::UntouchedLeavesWorkArea,
@@ -293,9 +308,6 @@ const NOT_SHOWN: [Fault; 9] = [
     // None asks for the size of a set.
     Fault::SizeOfComplement,
     Fault::SizeOf32Bits,
-    // None prints the route buffer but for the routers of a route.
-    Fault::LaterBytesTouched,
-    Fault::NothingPlayedWrites,
     // The plan of ring 4 has a pair in every line.
     Fault::PlanNoneOnce,
     // None lends a work area and a route buffer that are both too short.
