@@ -1,5 +1,8 @@
 // What the sections share: reading the next case from standard input, and printing numbers and refusals.
 use network_file::Fault;
+use refusal::Row;
+use refusal::file_row;
+use refusal::question_row;
 use repair::Refusal;
 ghost use Rattle.io.specs.Counts.{Counts};
 
@@ -20,42 +23,20 @@ pub(crate) fn end() {
 }
 
 // Prints a refusal: the number of the row that applies, and the value that it returns.
-fn refused(row: usize, value: usize) {
+fn refused(row: Row) {
     io::write_all(1, b"refused");
-    number(row);
-    number(value);
-}
-
-// Prints why a file is turned away.
-fn fault_words(fault: Fault) {
-    match fault {
-        Fault::Length => refused(1, 0),
-        Fault::Check(i) => refused(2, i),
-        Fault::Head => refused(3, 0),
-        Fault::BlockCount(n) => refused(4, n),
-        Fault::Block(i) => refused(5, i),
-        Fault::Link(k) => refused(6, k),
-        Fault::ParallelLink(k) => refused(7, k),
-        Fault::Prefix(p) => refused(8, p),
-        Fault::RouterTwice(p) => refused(9, p),
-    }
+    number(row.number);
+    number(row.value);
 }
 
 // Prints why a question is turned away.
 pub(crate) fn refusal_words(refusal: Refusal) {
-    match refusal {
-        Refusal::File(fault) => fault_words(fault),
-        Refusal::ShortArea(n) => refused(10, n),
-        Refusal::ShortBuffer(n) => refused(11, n),
-        Refusal::NoSuchLink(n) => refused(12, n),
-        Refusal::NoSuchPrefix(n) => refused(13, n),
-        Refusal::NoPair => refused(14, 0),
-    }
+    refused(question_row(refusal));
 }
 
 // Prints the line of a file that is turned away.
 pub(crate) fn print_fault(fault: Fault) {
-    fault_words(fault);
+    refused(file_row(fault));
     end();
 }
 

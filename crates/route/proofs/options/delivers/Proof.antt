@@ -3,10 +3,13 @@
 use Prim.Native.Nat.{_+_, _-_, _≤_}
 use mathlib.Core.Path.{_≡_, sym, _∙_}
 use mathlib.Core.Logic.{⊎-elim}
+use mathlib.Core.Bool.{false}
 use native.Mathlib.Omega.{arith}
 use lib.ListN.{getD}
 use borrow.Author.Tests.{eqb-true, eqb-false}
 use borrow.Author.Needs.{needs}
+use Rattle.lfa.specs.Network.{at as attachment}
+use Rattle.lfa.specs.Route.{attachedAt}
 use Rattle.route.proofs.OptionLaws.{never-delivers, NoneBefore, none-yet, none-here, other-router, other-cost, delivers-here, delivers-nowhere}
 use Rattle.route.proofs.options.delivers.Statement.{statement}
 use Rattle.route.proofs.options.delivers.Tie as tie
@@ -65,7 +68,13 @@ loop-again : tie.Need-loop-again Inv-loop μ-loop
 loop-again c =
     let at-loop = c .before .before .before .before in
     let a = at-loop .before .before .before .args in
-    (omega arith, none-here _ _ _ _ _ _ (at-loop .loop .inv .1) (⊎-elim (λ w. other-cost (a .at .now) (a .own .now) (a .first) (a .x) _ (at-loop .loop .s) (λ e. eqb-false _ _ (w .3 .left) (w .2 .ensures ∙ e))) (λ w. other-router (a .at .now) (a .own .now) (a .first) (a .x) _ (at-loop .loop .s) (λ e. w .left (c .before .wide .ensures ∙ e))) (c .if2 .came)))
+    let k = a .first + at-loop .loop .s in (
+      omega arith,
+      none-here _ _ _ _ _ _ (at-loop .loop .inv .1)
+          (⊎-elim {C = attachedAt (a .x) (getD (a .target .now) (a .x) 0) (attachment (getD (a .at .now) k 0) (getD (a .own .now) k 0)) ≡ false}
+          (λ w. other-cost (a .at .now) (a .own .now) (a .first) (a .x) _ (at-loop .loop .s) (λ e. eqb-false _ _ (w .3 .left) (w .2 .ensures ∙ e)))
+          (λ w. other-router (a .at .now) (a .own .now) (a .first) (a .x) _ (at-loop .loop .s) (λ e. w .left (c .before .wide .ensures ∙ e))) (c .if2 .came)),
+    )
 
 returns-3 : tie.Need-returns-3 Inv-loop μ-loop
 returns-3 c =

@@ -1,0 +1,90 @@
+-- `refusal::question_row` meets its contract: each refusal by its own row.
+-- Assumes nothing.
+use Rattle.lfa.specs.Refusal.{leavesAll, entryOf, refusal}
+use Rattle.repair.specs.Answer.{refusalAnswer}
+use borrow.Author.Needs.{needs}
+use Rattle.refusal.proofs.question_row.Statement.{statement}
+use Rattle.refusal.proofs.question_row.Tie as tie
+
+enum-known-refusal : tie.Need-enum-known-refusal
+enum-known-refusal c = search needs
+
+file-row-requires : tie.Need-file-row-requires
+file-row-requires c κs = search needs
+
+enum-known-refusal-2 : tie.Need-enum-known-refusal-2
+enum-known-refusal-2 c = search needs
+
+numbered-requires : tie.Need-numbered-requires
+numbered-requires c κs = search needs
+
+enum-known-refusal-3 : tie.Need-enum-known-refusal-3
+enum-known-refusal-3 c = search needs
+
+numbered-requires-2 : tie.Need-numbered-requires-2
+numbered-requires-2 c κs = search needs
+
+enum-known-refusal-4 : tie.Need-enum-known-refusal-4
+enum-known-refusal-4 c = search needs
+
+numbered-requires-3 : tie.Need-numbered-requires-3
+numbered-requires-3 c κs = search needs
+
+enum-known-refusal-5 : tie.Need-enum-known-refusal-5
+enum-known-refusal-5 c = search needs
+
+numbered-requires-4 : tie.Need-numbered-requires-4
+numbered-requires-4 c κs = search needs
+
+enum-told : tie.Need-enum-told
+enum-told c = search needs
+
+numbered-requires-5 : tie.Need-numbered-requires-5
+numbered-requires-5 c κs = search needs
+
+returns : tie.Need-returns
+unfolding refusalAnswer refusal entryOf leavesAll
+returns c = rw (c .before .before .refusal .given .1) (c .file-row .ensures)
+
+returns-2 : tie.Need-returns-2
+unfolding refusalAnswer refusal entryOf leavesAll
+returns-2 c = rw (c .before .before .refusal2 .given .1) (c .numbered .ensures)
+
+returns-3 : tie.Need-returns-3
+unfolding refusalAnswer refusal entryOf leavesAll
+returns-3 c = rw (c .before .before .refusal3 .given .1) (c .numbered2 .ensures)
+
+returns-4 : tie.Need-returns-4
+unfolding refusalAnswer refusal entryOf leavesAll
+returns-4 c = rw (c .before .before .refusal4 .given .1) (c .numbered3 .ensures)
+
+returns-5 : tie.Need-returns-5
+unfolding refusalAnswer refusal entryOf leavesAll
+returns-5 c = rw (c .before .before .refusal5 .given .1) (c .numbered4 .ensures)
+
+returns-6 : tie.Need-returns-6
+unfolding refusalAnswer refusal entryOf leavesAll
+returns-6 c = rw (c .before .enum-told .given .1) (c .numbered5 .ensures)
+
+pub question-row-spec : {M : Type 1} → statement M
+question-row-spec =
+    tie.close
+    (tie.spec
+    enum-known-refusal
+    file-row-requires
+    enum-known-refusal-2
+    numbered-requires
+    enum-known-refusal-3
+    numbered-requires-2
+    enum-known-refusal-4
+    numbered-requires-3
+    enum-known-refusal-5
+    numbered-requires-4
+    enum-told
+    numbered-requires-5
+    returns
+    returns-2
+    returns-3
+    returns-4
+    returns-5
+    returns-6)
