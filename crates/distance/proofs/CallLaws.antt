@@ -1,30 +1,24 @@
 -- The answers of the public functions, return by return, and what the tests before them tell.
 -- Assumes nothing.
-use Prim.Native.Nat.{ℕ, _+_, _*_, _≤_, _<_}
-use mathlib.Core.Path.{_≡_, refl, sym, ap, _∙_}
-use mathlib.Core.Bool.{Bool, true, false, _&&_, true≢false}
+use Prim.Native.Nat.{ℕ, _*_, _≤_, _<_}
+use mathlib.Core.Path.{_≡_, refl, sym, _∙_}
+use mathlib.Core.Bool.{Bool, true, false, _&&_}
 use mathlib.Core.Logic.{_⊎_, inl, inr}
 use mathlib.Core.List.{List}
-use native.Mathlib.Omega.{arith}
-use native.Mathlib.Decide.{ℕ-discrete}
 use lib.Dec.{ltb, leb}
 use lib.ListN.{length, getD, replicate}
-use borrow.Author.Tests.{ltb-true, leb-true, le-leb, lt-leb, le-ltb}
-use Rattle.lfa.specs.Lists.{everyBelow}
+use borrow.Author.Tests.{ltb-true, leb-true, le-leb, lt-leb}
 use Rattle.lfa.specs.Network.{Network, router}
 use Rattle.lfa.specs.Distance.{towards, filled}
 use Rattle.lfa.specs.Laws.Test.{and-left, and-right, and-make, fails-left, fails-right}
 use Rattle.lfa.specs.Laws.List.{every-gives, every-make}
 use Rattle.distance.specs.Columns.{ColumnsWithin, InColumns, networkIn}
 use Rattle.distance.specs.Area.{held, column, SlotsWithin, slotsIn}
-use Rattle.distance.specs.Calls.{cellsFit, joins, linksFit, attaches, slotsFit, areaFilled, routerColumn, prefixColumn}
+use Rattle.distance.specs.Calls.{cellsFit, joins, linksFit, slotsFit, areaFilled, routerColumn, prefixColumn}
+use Rattle.distance.specs.Laws.List.{every-fails}
 use Rattle.distance.specs.Laws.Calls.{filled-columns, router-known, prefix-known}
 
 -- ---- what a test that passed tells
-
-pub cells-give : (n cells : ℕ) → cellsFit n cells ≡ true → (n ≤ 64) × (n * n ≤ cells)
-unfolding cellsFit
-cells-give n cells e = (leb-true n 64 (and-left _ _ e), leb-true (n * n) cells (and-right (leb n 64) _ e))
 
 pub links-give : (n links : ℕ) (from to : List ℕ) → n ≤ 64 → linksFit n links from to ≡ true → ColumnsWithin n links from to
 unfolding linksFit
@@ -37,32 +31,7 @@ links-give n links from to few e =
       to-in = λ k h. ltb-true _ _ (and-right (ltb (getD from k 0) n) _ (each k h));
     }
 
-pub slots-give : (n first count : ℕ) (routers : List ℕ) → slotsFit n first count routers ≡ true → SlotsWithin n first count routers
-unfolding slotsFit
-slots-give n first count routers e = record {
-  few = leb-true _ 1024 (and-left _ _ e);
-  router-in = λ s h. ltb-true _ _ (every-gives (attaches n first routers) count (and-right (leb (first + count) 1024) _ e) s h);
-}
-
--- ---- a test over numbers that are counted up
-
--- one of them fails
-every-fails : (p : ℕ → Bool) (n k : ℕ) → k < n → p k ≡ false → everyBelow p n ≡ false
-every-fails p n k h e = go (everyBelow p n) refl
-  where
-    go : (b : Bool) → everyBelow p n ≡ b → b ≡ false
-    go true f = absurd (true≢false (cc (every-gives p n f k h, e)))
-    go false f = refl
-
--- and one number more passes
-pub every-more : (p : ℕ → Bool) (k : ℕ) → ((j : ℕ) → j < k → p j ≡ true) → p k ≡ true → (j : ℕ) → j < k + 1 → p j ≡ true
-every-more p k before this j h = go (ℕ-discrete j k)
-  where
-    go : Dec (j ≡ k) → p j ≡ true
-    go (yes e) = ap p e ∙ this
-    go (no e) = before j (omega arith)
-
--- ---- the tests, return by return
+-- ---- the test of the links, return by return
 
 module _ (n links : ℕ) (from to : List ℕ) where
   pub links-many : 128 < links → false ≡ linksFit n links from to
@@ -76,19 +45,6 @@ module _ (n links : ℕ) (from to : List ℕ) where
   pub links-pass : links ≤ 128 → ((k : ℕ) → k < links → joins n from to k ≡ true) → true ≡ linksFit n links from to
   unfolding linksFit
   links-pass h each = sym (and-make _ _ (le-leb links 128 h) (every-make (joins n from to) links each))
-
-module _ (n first count : ℕ) (routers : List ℕ) where
-  pub slots-many : 1024 < first + count → false ≡ slotsFit n first count routers
-  unfolding slotsFit
-  slots-many h = sym (fails-left _ _ (lt-leb (first + count) 1024 h))
-
-  pub slot-fails : (s : ℕ) → s < count → n ≤ getD routers (first + s) 0 → false ≡ slotsFit n first count routers
-  unfolding slotsFit
-  slot-fails s h e = sym (fails-right (leb (first + count) 1024) _ (every-fails (attaches n first routers) count s h (le-ltb _ _ e)))
-
-  pub slots-pass : first + count ≤ 1024 → ((s : ℕ) → s < count → attaches n first routers s ≡ true) → true ≡ slotsFit n first count routers
-  unfolding slotsFit
-  slots-pass h each = sym (and-make _ _ (le-leb (first + count) 1024 h) (every-make (attaches n first routers) count each))
 
 -- ---- the answers where one of two tests fails
 

@@ -1,7 +1,2 @@
-pub mod ListLaws
-pub mod AreaLaws
-pub mod SpaceLaws
-pub mod ChoiceLaws
-pub mod KnownLaws
 pub mod QuestionLaws
 pub mod RepairLaws

@@ -2,14 +2,14 @@
 use crate::Pair;
 use crate::Refusal;
 use crate::Repair;
-use crate::search::Chosen;
-use crate::search::Found;
-use crate::search::PrefixFound;
+use search::Chosen;
+use search::Found;
+use search::PrefixFound;
 ghost use mathlib.Core.Path.{_≡_};
 ghost use mathlib.Core.Option.{some};
 ghost use Rattle.lfa.specs.Refusal.{repairAnswer};
 ghost use Rattle.repair.specs.Answer.{repairOf};
-ghost use Rattle.repair.specs.Choice.{keysIn, foundIn, outcomeFor, prefixFoundIn};
+ghost use Rattle.search.specs.Choice.{keysIn, foundIn, outcomeFor, prefixFoundIn};
 
 // The pair that was chosen.
 fn paired(pair: Chosen) -> Repair

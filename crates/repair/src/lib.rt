@@ -1,5 +1,5 @@
-// The repair part: distances, spaces and repairs of the network that the file part hands over. The file is only passed on, and the
-// distances are those of the distance part.
+// The repair part: distances, spaces and repairs of the network that the file part hands over. The file is only passed on, the
+// distances are those of the distance part, and the spaces and pairs those of the search part.
 use answer::link_answer;
 use answer::prefix_answer;
 use distance::fill;
@@ -7,23 +7,19 @@ use network_file::Fault;
 use question::Turned;
 use question::ask;
 use question::named;
-use question::prepare;
-use search::link_found;
-use search::prefix_found;
-use space::Which;
-use space::space_of;
-use space::wide;
+use search::Which;
+use search::link_pair;
+use search::prefix_pair;
+use search::space_in;
 ghost use mathlib.Core.Path.{_≡_};
 ghost use lib.ListN.{length};
 ghost use Rattle.lfa.specs.Space.{pSpace, extendedP, qSpace, sizeOf};
 ghost use Rattle.lfa.specs.Refusal.{filling, askSpace, askLink, askPrefix, answerTo, workAfter};
-ghost use Rattle.repair.specs.Spaces.{spaceNamed};
+ghost use Rattle.search.specs.Spaces.{spaceNamed};
 ghost use Rattle.repair.specs.Answer.{filledAnswer, repairOf, spaceAnswer};
 
 mod answer;
 mod question;
-mod search;
-mod space;
 
 // What turns a question away: rows 1 to 9 as the file part tells them, and rows 10 to 14 with the value that each returns.
 pub enum Refusal {
@@ -98,22 +94,11 @@ pub fn link_repair(file: &[u8], work: &mut [u32], link: usize, end: usize) -> Re
         return Repair::Refused(refusal);
     }
     let network = asked.network;
-    let routers = network.routers;
     let links = network.links;
     if !named(links, link, end) {
         return Repair::Refused(Refusal::NoSuchLink(links));
     }
-    let protected = prepare(network, link, end, work);
-    let found = link_found(
-        work,
-        routers,
-        links,
-        &network.from,
-        &network.to,
-        &network.out,
-        &network.back,
-        protected,
-    );
+    let found = link_pair(network, link, end, work);
     link_answer(found)
 }
 
@@ -134,7 +119,6 @@ pub fn prefix_repair(
         return Repair::Refused(refusal);
     }
     let network = asked.network;
-    let routers = network.routers;
     let links = network.links;
     let prefixes = network.prefixes;
     if !named(links, link, end) {
@@ -143,23 +127,7 @@ pub fn prefix_repair(
     if prefixes <= prefix {
         return Repair::Refused(Refusal::NoSuchPrefix(prefixes));
     }
-    let attached = network.attached;
-    let count = wide(attached[prefix]);
-    let protected = prepare(network, link, end, work);
-    let found = prefix_found(
-        work,
-        routers,
-        links,
-        &network.from,
-        &network.to,
-        &network.out,
-        &network.back,
-        protected,
-        &network.at,
-        &network.own,
-        8 * prefix,
-        count,
-    );
+    let found = prefix_pair(network, link, end, prefix, work);
     prefix_answer(found)
 }
 
@@ -174,23 +142,11 @@ fn ask_space(file: &[u8], work: &mut [u32], link: usize, end: usize, which: Whic
         return SpaceAnswer::Refused(refusal);
     }
     let network = asked.network;
-    let routers = network.routers;
     let links = network.links;
     if !named(links, link, end) {
         return SpaceAnswer::Refused(Refusal::NoSuchLink(links));
     }
-    let protected = prepare(network, link, end, work);
-    let set = space_of(
-        which,
-        work,
-        routers,
-        links,
-        &network.from,
-        &network.to,
-        &network.out,
-        &network.back,
-        protected,
-    );
+    let set = space_in(which, network, link, end, work);
     SpaceAnswer::Set(set)
 }
 

@@ -36,7 +36,7 @@ use Rattle.network_file.specs.Load.{faultRow, faultOf}
 use Rattle.distance.specs.Columns.{arcsIn}
 use Rattle.distance.specs.Area.{held, slotsIn}
 use Rattle.distance.specs.Laws.Columns.{limits-positive}
-use Rattle.repair.specs.Spaces.{protectedIn}
+use Rattle.search.specs.Spaces.{protectedIn}
 use Rattle.repair.specs.Laws.Named.{routers-same, hops-are, held-is, prefix-slots, prefix-target, protected-is}
 use Rattle.repair.proofs.Repair.{the-type}
 use Rattle.repair.specs.Answer.{refusalAnswer, repairOf}

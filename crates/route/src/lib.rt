@@ -11,7 +11,7 @@ ghost use mathlib.Core.List.{List};
 ghost use Prim.Native.Nat.{ℕ, _<_};
 ghost use lib.ListN.{length};
 ghost use Rattle.lfa.specs.Refusal.{askRoute, answerTo, workAfter, routeAfter};
-ghost use Rattle.repair.specs.Spaces.{protectedIn};
+ghost use Rattle.search.specs.Spaces.{protectedIn};
 ghost use Rattle.route.specs.Answer.{playedOf, passedOn};
 
 mod choice;

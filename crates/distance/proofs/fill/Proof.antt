@@ -8,7 +8,8 @@ use borrow.Author.Tests.{not-true, not-false}
 use borrow.Author.Needs.{needs}
 use Rattle.distance.specs.Columns.{ColumnsWithin}
 use Rattle.distance.specs.Calls.{cellsFit}
-use Rattle.distance.proofs.CallLaws.{cells-give, links-give, area-left, area-found}
+use Rattle.distance.specs.Laws.Calls.{cells-give}
+use Rattle.distance.proofs.CallLaws.{links-give, area-left, area-found}
 use Rattle.distance.proofs.fill.Statement.{statement}
 use Rattle.distance.proofs.fill.Tie as tie
 

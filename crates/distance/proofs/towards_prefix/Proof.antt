@@ -8,7 +8,8 @@ use borrow.Author.Tests.{not-true, not-false}
 use borrow.Author.Needs.{needs}
 use Rattle.distance.specs.Area.{SlotsWithin}
 use Rattle.distance.specs.Calls.{cellsFit}
-use Rattle.distance.proofs.CallLaws.{cells-give, slots-give, prefix-none, prefix-found}
+use Rattle.distance.specs.Laws.Calls.{cells-give, slots-give}
+use Rattle.distance.proofs.CallLaws.{prefix-none, prefix-found}
 use Rattle.distance.proofs.towards_prefix.Statement.{statement}
 use Rattle.distance.proofs.towards_prefix.Tie as tie
 

@@ -10,32 +10,34 @@ use lib.ListN.{length, getD}
 use Rattle.lfa.specs.Laws.Walk.{Positive}
 use Rattle.lfa.specs.Network.{Arc, arc, Link, link, Network, arcsFrom, arcs}
 use Rattle.lfa.specs.Laws.Arrive.{Within}
-use Rattle.lfa.specs.Laws.Network.{arcs-give, Direction}
+use Rattle.lfa.specs.Laws.Network.{arcs-give, Direction, LinkSound, LinksSound, limits-links}
 use Rattle.lfa.specs.Lists.{below}
-use Rattle.lfa.specs.FileOf.{WithinLimits, LinkWithin}
+use Rattle.lfa.specs.FileOf.{WithinLimits}
 use Rattle.lfa.specs.Laws.List.{getD-in}
 use Rattle.lfa.specs.Laws.Counting.{length-map-below, map-below-at}
 use Rattle.distance.specs.Laws.List.{map-below-more}
 use Rattle.distance.specs.Columns.{linksIn, arcsIn, ColumnsWithin, InColumns}
+
+-- link k of the columns is a link between routers, where the network's links are
+pub link-held : {net : Network} {n links : ℕ} {from to out back : List ℕ} → LinksSound net → InColumns net n links from to out back → (k : ℕ) → k < links →
+    LinkSound n (getD from k 0) (getD to k 0) (getD out k 0) (getD back k 0)
+unfolding linksIn
+link-held {net} {n} {links} {from} {to} {out} {back} sound c k h =
+    let f : ℕ → Link = λ k. link (getD from k 0) (getD to k 0) (getD out k 0) (getD back k 0) in
+    let m : List·Memᴰ (f k) (map f (below links)) = Memᴰ·cast (sym (map-below-at f (link 0 0 0 0) links k h))
+    (getD-in (map f (below links)) k (link 0 0 0 0) (omega (arith, length-map-below f links))) in
+    let w : LinkSound (net .routers) (getD from k 0) (getD to k 0) (getD out k 0) (getD back k 0) = sound .link-sound (rw (c .links-are) m) in
+    rw (c .routers-are) at w
 
 -- columns that hold the links of a network within the limits
 pub limits-columns : {net : Network} {n links : ℕ} {from to out back : List ℕ} → WithinLimits net → InColumns net n links from to out back → ColumnsWithin n links from to
 unfolding linksIn
 limits-columns {net} {n} {links} {from} {to} {out} {back} limits c = record {
   few-routers = omega (arith, limits .few-routers, c .routers-are);
-  few-links = omega (arith, limits .few-links, ap length (c .links-are), length-map-below f links);
-  from-in = λ k h. omega (arith, each k h .a-in, c .routers-are);
-  to-in = λ k h. omega (arith, each k h .b-in, c .routers-are);
+  few-links = omega (arith, limits .few-links, ap length (c .links-are), length-map-below (λ k. link (getD from k 0) (getD to k 0) (getD out k 0) (getD back k 0)) links);
+  from-in = λ k h. link-held (limits-links limits) c k h .a-in;
+  to-in = λ k h. link-held (limits-links limits) c k h .b-in;
 }
-  where
-    f : ℕ → Link
-    f k = link (getD from k 0) (getD to k 0) (getD out k 0) (getD back k 0)
-
-    each : (k : ℕ) → k < links → LinkWithin (net .routers) (getD from k 0) (getD to k 0) (getD out k 0) (getD back k 0)
-    each k h =
-        let m : List·Memᴰ (f k) (map f (below links)) = Memᴰ·cast (sym (map-below-at f (link 0 0 0 0) links k h))
-        (getD-in (map f (below links)) k (link 0 0 0 0) (omega (arith, length-map-below f links))) in
-        limits .link-within (rw (c .links-are) m)
 
 -- the arcs of a network are those of its columns
 pub arcs-columns : {net : Network} {routers links : ℕ} {from to out back : List ℕ} → InColumns net routers links from to out back → arcs net ≡ arcsIn from to out back links

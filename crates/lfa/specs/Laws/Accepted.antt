@@ -17,7 +17,7 @@ use Rattle.lfa.specs.Refusal.{loading, Decided, refusalOf, Accepted, net
 use Rattle.lfa.specs.Laws.List.{getD-in}
 use Rattle.lfa.specs.Laws.Bound.{Sound, Capped}
 use Rattle.lfa.specs.Laws.Avoid.{Named}
-use Rattle.lfa.specs.Laws.Network.{limits-sound, limits-distances, limits-named}
+use Rattle.lfa.specs.Laws.Network.{limits-links, limits-sound, limits-distances, limits-named}
 use Rattle.lfa.specs.Laws.Rows.{accepted-load, accepted-passes, passes-accepted}
 use Rattle.lfa.specs.Laws.File.Passes.{AreBytes}
 use Rattle.lfa.specs.Laws.File.Within.{links-length, prefixes-length, passes-within}
@@ -55,13 +55,13 @@ module _ (b : Bytes) (a : Accepted b) where
   accepted-limits = passes-within b bytes (accepted-passes b a)
 
   pub accepted-sound : Sound (networkOf b .routers) (arcs (networkOf b))
-  accepted-sound = limits-sound (networkOf b) accepted-limits
+  accepted-sound = limits-sound (networkOf b) (limits-links accepted-limits)
 
   pub accepted-distances : LeastCosts (arcs (networkOf b)) (distanceIn (distances (networkOf b)))
-  accepted-distances = limits-distances (networkOf b) accepted-limits
+  accepted-distances = limits-distances (networkOf b) (limits-links accepted-limits)
 
   pub accepted-named : (l e : ℕ) → l < length (networkOf b .links) → Named (arcs (networkOf b)) (protected (networkOf b) l e)
-  accepted-named l e h = limits-named (networkOf b) accepted-limits l e h
+  accepted-named l e h = limits-named (networkOf b) (limits-links accepted-limits) l e h
 
   pub accepted-capped : (p : ℕ) → p < length (networkOf b .prefixes) → Capped (getD (networkOf b .prefixes) p [])
   accepted-capped p h = record { own = λ m. accepted-limits .prefix-within (getD-in (networkOf b .prefixes) p [] h) .cost-most m }

@@ -1,5 +1,5 @@
--- The arcs of a network within the limits are sound, its distances are least path costs, and the arcs over a link are its two
--- directions. Nothing here uses that two links may not join the same routers.
+-- Where each link joins routers at costs of 1 to 65,535, the arcs are sound, the distances are least path costs, and the arcs over a
+-- link are its two directions. A network within the limits is such a network.
 -- Assumes nothing.
 use Prim.Native.Nat.{ℕ, zero, suc, _+_, _≤_, _<_}
 use mathlib.Core.Path.{_≡_, refl, ap, _∙_, subst}
@@ -61,19 +61,39 @@ protected-number net l e = go e (getD (net .links) l (link 0 0 0 0))
     go zero (link a b ab ba) = refl
     go (suc e) (link a b ab ba) = refl
 
-module _ (net : Network) (limits : WithinLimits net) where
+-- a link between routers, at costs of 1 to 65,535
+pub record LinkSound (n a b ab ba : ℕ) : Type 0 where
+  pub a-in : a < n
+  pub b-in : b < n
+  pub out-some : 1 ≤ ab
+  pub back-some : 1 ≤ ba
+  pub out-most : ab ≤ 65535
+  pub back-most : ba ≤ 65535
+
+-- at most 64 routers, and such links between them
+pub record LinksSound (net : Network) : Type 0 where
+  pub few-routers : net .routers ≤ 64
+  pub link-sound : {a b ab ba : ℕ} → List·Memᴰ (link a b ab ba) (net .links) → LinkSound (net .routers) a b ab ba
+
+pub limits-links : {net : Network} → WithinLimits net → LinksSound net
+limits-links limits = record {
+  few-routers = limits .few-routers;
+  link-sound = λ m. let w = limits .link-within m in record { a-in = w .a-in; b-in = w .b-in; out-some = w .out-some; back-some = w .back-some; out-most = w .out-most; back-most = w .back-most };
+}
+
+module _ (net : Network) (sound : LinksSound net) where
   -- what is known of an arc
   sound-arc : {u v c k : ℕ} → List·Memᴰ (arc u v c k) (arcs net) → (u < net .routers) × (v < net .routers) × (0 < c) × (c ≤ 65535)
   unfolding arcs
   sound-arc {u} {v} {c} {k} m = let r = arcs-give 0 (net .links) m in go (getD (net .links) (r .0) (link 0 0 0 0)) (r .3) (r .4)
     where
       go : (lk : Link) → List·Memᴰ lk (net .links) → Direction lk u v c → (u < net .routers) × (v < net .routers) × (0 < c) × (c ≤ 65535)
-      go (link a b ab ba) j (inl e) = let s = limits .link-within j in omega (arith, s, e)
-      go (link a b ab ba) j (inr e) = let s = limits .link-within j in omega (arith, s, e)
+      go (link a b ab ba) j (inl e) = let s = sound .link-sound j in omega (arith, s, e)
+      go (link a b ab ba) j (inr e) = let s = sound .link-sound j in omega (arith, s, e)
 
   pub limits-sound : Sound (net .routers) (arcs net)
   limits-sound = record {
-    few = limits .few-routers;
+    few = sound .few-routers;
     within = record { from = λ m. sound-arc m .0; to = λ m. sound-arc m .1 };
     falls = λ d to. (towards d to, distance-falls (arcs net) d to (record { cost = λ m. sound-arc m .2 }));
     capped = λ m. sound-arc m .3;

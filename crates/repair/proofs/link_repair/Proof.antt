@@ -1,4 +1,4 @@
--- `repair::link_repair` meets its contract. The rows decide in their order, then the area is filled and searched.
+-- `repair::link_repair` meets its contract. The rows decide in their order, then the search part answers.
 -- Assumes nothing.
 use Prim.Native.Nat.{_*_, _≤_}
 use mathlib.Core.Path.{_≡_, refl, sym, _∙_}
@@ -7,15 +7,11 @@ use lib.Dec.{ltb, leb}
 use lib.ListN.{length}
 use borrow.Author.Tests.{not-true, not-false}
 use borrow.Author.Needs.{needs}
-use Rattle.lfa.specs.Distance.{filled}
-use Rattle.lfa.specs.File.{networkOf}
 use Rattle.lfa.specs.Refusal.{askLink, questionRows}
 use Rattle.repair.specs.Answer.{refusalAnswer, repairOf}
 use Rattle.repair.specs.Asked.{Taken}
-use Rattle.repair.specs.Laws.Loaded.{columns-within, network-columns}
 use Rattle.repair.proofs.QuestionLaws.{judged-refused, judged-ready, about-link, link-refused}
-use Rattle.repair.specs.Laws.Named.{link-in}
-use Rattle.repair.proofs.RepairLaws.{known, link-answered}
+use Rattle.repair.proofs.RepairLaws.{link-answered}
 use Rattle.repair.proofs.link_repair.Statement.{statement}
 use Rattle.repair.proofs.link_repair.Tie as tie
 
@@ -57,21 +53,8 @@ link-named : (c : tie.Else1) →
     (ltb (args .link) (c .before .before .before .before .before .ask .result .network .links) && leb (args .end) 1) ≡ true
 link-named c = sym (c .before .named .ensures) ∙ not-false _ (c .if1 .left)
 
-prepare-requires : tie.Need-prepare-requires
-prepare-requires c κs =
-    let r = ready (c .before .before .before .before) in
-    (columns-within (r .0), r .1, link-in (r .0) _ (c .before .before .before .before .before .before .before .before .before .args .end) (link-named (c .before)))
-
--- the area is filled
-filled-is : (c : tie.After-prepare) →
-    let args = c .before .before .before .before .before .before .before .before .before .before .args in
-    c .prepare .last .1 .1 .1 .0 ≡ filled (networkOf (args .file .now)) (args .work .now)
-filled-is c = c .prepare .ensures .1 (networkOf _) (network-columns (ready (c .before .before .before .before .before) .0))
-
-link-found-requires : tie.Need-link-found-requires
-link-found-requires c κs =
-    let r = ready (c .before .before .before .before .before .before .before .before .before .before .before .before .before) in
-    (columns-within (r .0) .few-links, known (r .0) _ _ (link-named (c .before .before .before .before .before .before .before .before .before .before)) _ (c .before .before .before .before .before .before .before .before .prepare .ensures .0) _ _ (r .1) (filled-is (c .before .before .before .before .before .before .before .before)))
+link-pair-requires : tie.Need-link-pair-requires
+link-pair-requires c κs = search needs
 
 link-answer-requires : tie.Need-link-answer-requires
 link-answer-requires c κs = search needs
@@ -81,8 +64,9 @@ same-length c = search needs
 
 returns-3 : tie.Need-returns-3
 returns-3 c =
-    let r = ready (c .before .before .before .before .before .before .before .before .before .before .before .before .before .before .before) in
-    let a = link-answered (r .0) _ _ (link-named (c .before .before .before .before .before .before .before .before .before .before .before .before)) _ (c .before .before .before .before .before .before .before .before .before .before .prepare .ensures .0) _ _ (r .1) (filled-is (c .before .before .before .before .before .before .before .before .before .before)) (c .before .link-found .ensures) in
+    let passed = c .before .before .before .before .before in
+    let r = ready (passed .before .before .before) in
+    let a = link-answered (r .0) _ _ (link-named passed) (passed .before .before .before .before .before .before .before .before .args .work .now) (r .1) (c .before .before .before .link-pair .ensures) in
     (c .link-answer .ensures ∙ a .0, a .1)
 
 pub link-repair-spec : {M : Type 1} → statement M
@@ -95,8 +79,7 @@ link-repair-spec =
     enum-told
     named-requires
     returns-2
-    prepare-requires
-    link-found-requires
+    link-pair-requires
     link-answer-requires
     same-length
     returns-3)

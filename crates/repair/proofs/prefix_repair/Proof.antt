@@ -1,22 +1,17 @@
--- `repair::prefix_repair` meets its contract. The rows decide in their order, then the area is filled and searched for the prefix.
+-- `repair::prefix_repair` meets its contract. The rows decide in their order, then the search part answers.
 -- Assumes nothing.
 use Prim.Native.Nat.{_*_, _≤_}
 use mathlib.Core.Path.{_≡_, refl, sym, _∙_}
 use mathlib.Core.Bool.{true, _&&_}
-use native.Mathlib.Omega.{arith}
 use lib.Dec.{ltb, leb}
 use lib.ListN.{length}
 use borrow.Author.Tests.{not-true, not-false}
 use borrow.Author.Needs.{needs}
-use Rattle.lfa.specs.Distance.{filled}
-use Rattle.lfa.specs.File.{networkOf}
 use Rattle.lfa.specs.Refusal.{askPrefix, questionRows}
 use Rattle.repair.specs.Answer.{refusalAnswer, repairOf}
 use Rattle.repair.specs.Asked.{Taken}
-use Rattle.repair.specs.Laws.Loaded.{columns-within, network-columns}
 use Rattle.repair.proofs.QuestionLaws.{judged-refused, judged-ready, about-prefix, link-refused, prefix-refused}
-use Rattle.repair.specs.Laws.Named.{prefix-cell, prefix-slots, link-in}
-use Rattle.repair.proofs.RepairLaws.{known, prefix-answered}
+use Rattle.repair.proofs.RepairLaws.{prefix-answered}
 use Rattle.repair.proofs.prefix_repair.Statement.{statement}
 use Rattle.repair.proofs.prefix_repair.Tie as tie
 
@@ -65,33 +60,8 @@ returns-3 c =
     let t = prefix-refused (askPrefix _ _ _ _ _) (r .0) (r .1) (link-named (c .before)) _ refl (c .if2 .taken) in
     (sym (t .answered), sym (t .area-left _))
 
-array-read-wide : tie.Need-array-read-wide
-array-read-wide c = prefix-cell (ready (c .before .before .before .before .before) .0) _ (c .before .if2 .left)
-
-wide-requires : tie.Need-wide-requires
-wide-requires c κs = search needs
-
-prepare-requires : tie.Need-prepare-requires
-prepare-requires c κs =
-    let r = ready (c .before .before .before .before .before .before .before) in
-    (columns-within (r .0), r .1, link-in (r .0) _ (c .before .before .before .before .before .before .before .before .before .before .before .before .args .end) (link-named (c .before .before .before .before)))
-
--- the area is filled
-filled-is : (c : tie.After-prepare) →
-    let args = c .before .before .before .before .before .before .before .before .before .before .before .before .before .args in
-    c .prepare .last .1 .1 .1 .0 ≡ filled (networkOf (args .file .now)) (args .work .now)
-filled-is c = c .prepare .ensures .1 (networkOf _) (network-columns (ready (c .before .before .before .before .before .before .before .before) .0))
-
-mul-prefix-found : tie.Need-mul-prefix-found
-mul-prefix-found c = omega (arith, prefix-cell (ready (c .before .before .before .before .before .before .before .before .before .before .before .before .before .before .before .before .before .before) .0) (c .before .before .before .before .before .before .before .before .before .before .before .before .before .before .before .before .before .before .before .before .before .before .before .args .prefix) (c .before .before .before .before .before .before .before .before .before .before .before .before .before .before .if2 .left))
-
-prefix-found-requires : tie.Need-prefix-found-requires
-prefix-found-requires c κs =
-    let r = ready (c .before .before .before .before .before .before .before .before .before .before .before .before .before .before .before .before .before .before) in (
-      columns-within (r .0) .few-links,
-      known (r .0) _ _ (link-named (c .before .before .before .before .before .before .before .before .before .before .before .before .before .before .before)) _ (c .before .before .before .before .before .before .before .before .before .before .prepare .ensures .0) _ _ (r .1) (filled-is (c .before .before .before .before .before .before .before .before .before .before)),
-      prefix-slots (r .0) _ (c .before .before .before .before .before .before .before .before .before .before .before .before .before .before .if2 .left) (c .before .before .before .before .before .before .before .before .before .before .before .before .wide .ensures),
-    )
+prefix-pair-requires : tie.Need-prefix-pair-requires
+prefix-pair-requires c κs = search needs
 
 prefix-answer-requires : tie.Need-prefix-answer-requires
 prefix-answer-requires c κs = search needs
@@ -101,9 +71,9 @@ same-length c = search needs
 
 returns-4 : tie.Need-returns-4
 returns-4 c =
-    let r = ready (c .before .before .before .before .before .before .before .before .before .before .before .before .before .before .before .before .before .before .before .before) in
-    let a = prefix-answered (r .0) _ _ (link-named (c .before .before .before .before .before .before .before .before .before .before .before .before .before .before .before .before .before)) _ (c .before .before .before .before .before .before .before .before .before .before .before .before .prepare .ensures .0) _ _ (r .1) (filled-is (c .before .before .before .before .before .before .before .before .before .before .before .before))
-    _ (c .before .before .before .before .before .before .before .before .before .before .before .before .before .before .before .before .if2 .left) (c .before .before .before .before .before .before .before .before .before .before .before .before .before .before .wide .ensures) (c .before .prefix-found .ensures) in
+    let passed = c .before .before .before .before .before in
+    let r = ready (passed .before .before .before .before) in
+    let a = prefix-answered (r .0) _ _ (link-named (passed .before)) (passed .before .before .before .before .before .before .before .before .before .args .work .now) (r .1) _ (passed .if2 .left) (c .before .before .before .prefix-pair .ensures) in
     (c .prefix-answer .ensures ∙ a .0, a .1)
 
 pub prefix-repair-spec : {M : Type 1} → statement M
@@ -117,11 +87,7 @@ prefix-repair-spec =
     named-requires
     returns-2
     returns-3
-    array-read-wide
-    wide-requires
-    prepare-requires
-    mul-prefix-found
-    prefix-found-requires
+    prefix-pair-requires
     prefix-answer-requires
     same-length
     returns-4)

@@ -20,7 +20,7 @@ use Rattle.distance.specs.Columns.{arcsIn}
 use Rattle.distance.specs.Area.{held, SlotsWithin, slotsIn}
 use Rattle.distance.specs.Laws.Area.{held-filled}
 use Rattle.distance.specs.Laws.Columns.{arcs-columns}
-use Rattle.repair.specs.Spaces.{protectedIn}
+use Rattle.search.specs.Spaces.{protectedIn}
 use Rattle.repair.specs.Asked.{Taken}
 use Rattle.repair.specs.Laws.Loaded.{limits, network-columns, routers-are, struct-link}
 use Rattle.repair.specs.Laws.Slot.{slots-prefix, slots-within}

@@ -7,7 +7,8 @@ use native.Mathlib.Omega.{arith}
 use borrow.Author.Tests.{not-true, not-false}
 use borrow.Author.Needs.{needs}
 use Rattle.distance.specs.Calls.{joins}
-use Rattle.distance.proofs.CallLaws.{every-more, links-many, link-fails, links-pass}
+use Rattle.distance.specs.Laws.List.{every-more}
+use Rattle.distance.proofs.CallLaws.{links-many, link-fails, links-pass}
 use Rattle.distance.proofs.fit.links_fit.Statement.{statement}
 use Rattle.distance.proofs.fit.links_fit.Tie as tie
 

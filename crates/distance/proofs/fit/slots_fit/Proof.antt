@@ -8,7 +8,8 @@ use lib.ListN.{getD}
 use borrow.Author.Tests.{lt-ltb}
 use borrow.Author.Needs.{needs}
 use Rattle.distance.specs.Calls.{attaches}
-use Rattle.distance.proofs.CallLaws.{every-more, slots-many, slot-fails, slots-pass}
+use Rattle.distance.specs.Laws.List.{every-more}
+use Rattle.distance.specs.Laws.Calls.{slots-many, slot-fails, slots-pass}
 use Rattle.distance.proofs.fit.slots_fit.Statement.{statement}
 use Rattle.distance.proofs.fit.slots_fit.Tie as tie
 

@@ -1,0 +1,262 @@
+-- What the code computes from distances is what document 01 defines by walks, where the area holds the distances of the network:
+-- the three spaces, whether traffic may cross the link, and the pair that is found.
+-- Assumes nothing.
+use Prim.Native.Nat.{ℕ, _+_, _*_, _≤_, _<_, min}
+use mathlib.Core.Path.{_≡_, sym, ap, ap₂, _∙_}
+use mathlib.Core.Logic.{_⊎_, inl, inr}
+use mathlib.Core.Bool.{Bool, true, false, not, _&&_}
+use mathlib.Core.Option.{Option, none}
+use mathlib.Core.List.{List, map, map-map, List·Memᴰ, Memᴰ·cast}
+use native.Mathlib.Omega.{arith}
+use lib.Dec.{eqb, ltb}
+use lib.Bits.{bitAnd}
+use lib.ListN.{getD}
+use borrow.Author.Tests.{ltb-true, lt-ltb, le-ltb, eqb-true, eq-eqb}
+use Rattle.lfa.specs.Lists.{below, select, flat, anyOf}
+use Rattle.lfa.specs.Network.{Arc, arc, Target, router}
+use Rattle.lfa.specs.Distance.{unreachable, towards, stay}
+use Rattle.lfa.specs.Walk.{avoids}
+use Rattle.lfa.specs.Space.{Protected, FirstHop, first, hopRouter, firstHops, pSpace, extendedP, qSpace, inSpace, spaceOf, setOf, has}
+use Rattle.lfa.specs.Repair.{pair, MayCross, mayCross, isEndpoint, withEndpoint, pairsOf, pairs, serves, classOf, tunnelCost, Keys, keysOf, firstPair, Outcome, outcomeOf, prefixUnreachable, prefixUntouched, prefixOutcome}
+use Rattle.lfa.specs.Laws.Test.{and-left, and-right, and-make, same-test}
+use Rattle.lfa.specs.Laws.List.{any-make, below-mem, select-gives, getD-in}
+use Rattle.lfa.specs.Laws.Counting.{length-map-below, map-below-at}
+use Rattle.lfa.specs.Laws.Set.{setOf-same, has-setOf, has-and}
+use Rattle.lfa.specs.Laws.Target.{towards-router, towards-most}
+use Rattle.lfa.specs.Laws.Bound.{distance-small}
+use Rattle.lfa.specs.Laws.Walk.{equation-crossing}
+use Rattle.lfa.specs.Laws.Avoid.{avoids-gives, avoids-make, avoids-below, below-avoids}
+use Rattle.lfa.specs.Laws.Pair.{firsts-give}
+use Rattle.lfa.specs.Laws.Repair.{may-gives, may-make}
+use Rattle.distance.specs.Area.{held, column}
+use Rattle.distance.specs.Laws.Area.{column-at}
+use Rattle.distance.specs.Laws.List.{any-same, select-same}
+use Rattle.search.specs.Known.{Readable, Known}
+use Rattle.search.specs.Spaces.{clears, clearsTo, RoutersWithin, routersIn, someClears, crossesOut, firstsIn}
+use Rattle.search.specs.Choice.{outcomeFor, firstOf, keysAt, mayEnd, hopKeys, endsOf, keysOfHop, columnKeys}
+use Rattle.search.proofs.ListLaws.{and-reorder, any-map, select-select, select-map, map-same, select-flat, map-flat}
+use Rattle.search.proofs.ChoiceLaws.{first-chosen}
+
+module _ (n : ℕ) (hops : List Arc) (q : Protected) (area : List ℕ) (known : Known n hops q area) where
+  abbrev d : ℕ → ℕ → ℕ
+  d = held n area
+
+  near-in : q .near < n
+  near-in = known .sound .within .from (known .named .outward)
+
+  far-in : q .far < n
+  far-in = known .sound .within .to (known .named .outward)
+
+  pub readable : Readable n q area
+  readable = record { few = known .sound .few; long = known .long; near-in = near-in; far-in = far-in }
+
+  -- ---- avoiding
+
+  -- The test by distances decides avoiding: the sums are at most unreachable, so a distance below them is finite.
+  module _ (to : Target) (h : ℕ → ℕ) (same : (z : ℕ) → z < n → h z ≡ towards d to z) where
+    pub clears-avoids : (x : ℕ) → x < n → clears d q h h x ≡ avoids n hops d to (q .number) x
+    unfolding clears
+    clears-avoids x i = same-test _ _ there back
+      where
+        there : clears d q h h x ≡ true → avoids n hops d to (q .number) x ≡ true
+        there t =
+            let out : h x < min (d x (q .near) + q .out + h (q .far)) unreachable = search (ltb-true, and-left) in
+            let back : h x < min (d x (q .far) + q .back + h (q .near)) unreachable = search (ltb-true, and-right) in
+            let ex = same x i in
+            let es = same (q .near) near-in in
+            let ee = same (q .far) far-in in
+            avoids-make n hops d to (q .number) x (below-avoids hops d to q (known .costs) (known .named) x (record { finite = omega arith; out = omega arith; back = omega arith }))
+
+        back : avoids n hops d to (q .number) x ≡ true → clears d q h h x ≡ true
+        back t =
+            let g = known .sound .falls d to in
+            let b = avoids-below hops d to q (known .costs) (known .named) x (avoids-gives n hops d to (g .0) (known .sound .within) (g .1) (q .number) x i t) in
+            let ex = same x i in
+            let es = same (q .near) near-in in
+            let ee = same (q .far) far-in in
+            let out : h x < min (d x (q .near) + q .out + h (q .far)) unreachable = omega (arith, b .finite, b .out) in
+            let back : h x < min (d x (q .far) + q .back + h (q .near)) unreachable = omega (arith, b .finite, b .back) in
+            and-make _ _ (lt-ltb _ _ out) (lt-ltb _ _ back)
+
+  pub clearsTo-avoids : (x r : ℕ) → x < n → clearsTo d q x r ≡ avoids n hops d (router r) (q .number) x
+  unfolding clearsTo
+  clearsTo-avoids x r i = clears-avoids (router r) (λ z. d z r) (λ z k. sym (towards-router d r z (known .costs .most z r))) x i
+
+  -- ---- the spaces
+
+  -- the routers that avoid to a target, from a column of distances to it
+  pub avoiding-set : {set : ℕ} (to : Target) (l : List ℕ) → l ≡ column n (towards d to) → set ≡ setOf n (clears d q (λ x. getD l x 0) (λ x. getD l x 0)) → set ≡ setOf n (avoids n hops d to (q .number))
+  avoiding-set to l e s = s ∙ setOf-same n _ _ (clears-avoids to (λ x. getD l x 0) (λ z k. rw e (column-at n (towards d to) z k)))
+
+  pub p-space : {set : ℕ} → set ≡ setOf n (clearsTo d q (q .near)) → set ≡ spaceOf pSpace n hops d q
+  unfolding spaceOf inSpace
+  p-space s = s ∙ setOf-same n _ _ (λ r k. clearsTo-avoids (q .near) r near-in)
+
+  pub q-space : {set : ℕ} (l : List ℕ) → l ≡ column n (towards d (router (q .far))) → set ≡ setOf n (clears d q (λ x. getD l x 0) (λ x. getD l x 0)) → set ≡ spaceOf qSpace n hops d q
+  unfolding spaceOf inSpace
+  q-space l e = avoiding-set (router (q .far)) l e
+
+  -- the first hops in columns are routers
+  module _ (count : ℕ) (rs cs os : List ℕ) (listed : firstsIn count rs cs os ≡ firstHops q hops) where
+    pub firsts-within : RoutersWithin n count rs
+    unfolding firstsIn
+    firsts-within = record {
+      router-in = λ i k.
+          let f : ℕ → FirstHop = λ i. first (getD rs i 0) (getD cs i 0) (getD os i 0) in
+          let m : List·Memᴰ (f i) (firstsIn count rs cs os) = Memᴰ·cast (sym (map-below-at f (first 0 0 0) count i k)) (getD-in (map f (below count)) i (first 0 0 0) (omega (arith, length-map-below f count))) in
+          known .sound .within .to (firsts-give q hops (getD rs i 0) (getD cs i 0) (getD os i 0) (rw listed at m) .0);
+    }
+
+    pub extended-space : {set : ℕ} → set ≡ setOf n (someClears d q (routersIn count rs)) → set ≡ spaceOf extendedP n hops d q
+    unfolding spaceOf inSpace someClears routersIn firstsIn hopRouter
+    extended-space s = s ∙ setOf-same n _ _ λ r k.
+        any-map (λ x. clearsTo d q x r) (λ i. getD rs i 0) (below count)
+        ∙ sym (any-map (λ f. clearsTo d q (hopRouter f) r) (λ i. first (getD rs i 0) (getD cs i 0) (getD os i 0)) (below count))
+        ∙ ap (anyOf (λ f. clearsTo d q (hopRouter f) r)) listed
+        ∙ any-same (λ f. clearsTo d q (hopRouter f) r) (λ f. avoids n hops d (router r) (q .number) (hopRouter f)) (firstHops q hops) (by r)
+      where
+        by : (r : ℕ) (f : FirstHop) → List·Memᴰ f (firstHops q hops) → clearsTo d q (hopRouter f) r ≡ avoids n hops d (router r) (q .number) (hopRouter f)
+        by r (first m c l) j = clearsTo-avoids m r (known .sound .within .to (firsts-give q hops m c l j .0))
+
+  -- ---- crossing
+
+  pub crosses-may : (to : Target) (l : List ℕ) → l ≡ column n (towards d to) → crossesOut q (λ x. getD l x 0) ≡ mayCross n hops d q to
+  unfolding crossesOut
+  crosses-may to l e = same-test _ _ there back
+    where
+      es : getD l (q .near) 0 ≡ towards d to (q .near)
+      es = rw e (column-at n (towards d to) (q .near) near-in)
+
+      ee : getD l (q .far) 0 ≡ towards d to (q .far)
+      ee = rw e (column-at n (towards d to) (q .far) far-in)
+
+      self : d (q .near) (q .near) ≤ 0
+      self = known .costs .least stay
+
+      there : crossesOut q (λ x. getD l x 0) ≡ true → mayCross n hops d q to ≡ true
+      there t =
+          let f : getD l (q .near) 0 < unreachable = search (ltb-true, and-left) in
+          let s : min (q .out + getD l (q .far) 0) unreachable ≡ getD l (q .near) 0 = search (eqb-true, and-right) in
+          may-make n hops d q (known .sound) (known .named) to (equation-crossing hops d to (known .costs) (known .named .outward) (omega (arith, es, ee, self)) (omega (arith, es)))
+
+      cost : (r : MayCross hops d q to) → ((q .near ≡ q .near) × (q .far ≡ q .far) × (r .step .cost ≡ q .out)) ⊎ ((q .near ≡ q .far) × (q .far ≡ q .near) × (r .step .cost ≡ q .back)) →
+          q .out + towards d to (q .far) ≡ towards d to (q .near)
+      cost r (inl k) = omega (arith, k .2, r .step .tight)
+      cost r (inr k) = let s : towards d to (q .near) ≡ towards d to (q .far) = ap (towards d to) (k .0) in absurd (omega (arith, k .2, r .step .tight, known .named .back-some))
+
+      back : mayCross n hops d q to ≡ true → crossesOut q (λ x. getD l x 0) ≡ true
+      back t =
+          let r = may-gives n hops d q (known .sound) (known .named) to t in
+          let f = r .step .finite in
+          let c = cost r (known .named .only (r .step .joined)) in
+          let s : min (q .out + getD l (q .far) 0) unreachable ≡ getD l (q .near) 0 = omega (arith, es, ee, c, f) in
+          and-make _ _ (lt-ltb (getD l (q .near) 0) unreachable (omega (arith, es, f))) (eq-eqb _ _ s)
+
+  -- ---- the pair that is found
+
+  module _ (to : Target) (l : List ℕ) (held-to : l ≡ column n (towards d to)) where
+    -- the routers that are in extended P and avoid to the target
+    abbrev both : ℕ
+    both = bitAnd (spaceOf extendedP n hops d q) (setOf n (avoids n hops d to (q .number)))
+
+    same-to : (z : ℕ) → z < n → getD l z 0 ≡ towards d to z
+    same-to z k = rw held-to (column-at n (towards d to) z k)
+
+    module _ (m c o : ℕ) (j : List·Memᴰ (first m c o) (firstHops q hops)) where
+      joined : List·Memᴰ (arc (q .near) m c o) hops
+      joined = firsts-give q hops m c o j .0
+
+      in-extended : (y : ℕ) → y < n → has (spaceOf extendedP n hops d q) y ≡ inSpace extendedP n hops d q y
+      unfolding spaceOf
+      in-extended y k = has-setOf n (inSpace extendedP n hops d q) y k
+
+      first-extends : (y : ℕ) → avoids n hops d (router y) (q .number) m ≡ true → inSpace extendedP n hops d q y ≡ true
+      unfolding inSpace hopRouter
+      first-extends y u = any-make (λ f. avoids n hops d (router y) (q .number) (hopRouter f)) j u
+
+      -- an endpoint in the mask that the first hop avoids to is one that serves
+      ends-serve : (y : ℕ) → y < n → mayEnd (endsOf d q both n m) (q .near) (q .far) y ≡ (isEndpoint q y && serves n hops d q to (pair m c o y))
+      unfolding endsOf isEndpoint serves
+      ends-serve y k =
+          let e = inSpace extendedP n hops d q y in
+          let t = avoids n hops d to (q .number) y in
+          let a = avoids n hops d (router y) (q .number) m in
+          let in-both : has both y ≡ (e && t) =
+          has-and (spaceOf extendedP n hops d q) (setOf n (avoids n hops d to (q .number))) y
+          ∙ ap₂ (λ (u v : Bool). u && v) (in-extended y k) (has-setOf n (avoids n hops d to (q .number)) y k) in
+          let in-ends : has (bitAnd both (setOf n (clearsTo d q m))) y ≡ ((e && t) && a) =
+          has-and both (setOf n (clearsTo d q m)) y
+          ∙ ap₂ (λ (u v : Bool). u && v) in-both (has-setOf n (clearsTo d q m) y k ∙ clearsTo-avoids m y (known .sound .within .to joined)) in
+          ap (λ (b : Bool). b && (not (eqb y (q .near)) && not (eqb y (q .far)))) in-ends
+          ∙ and-reorder e t a (not (eqb y (q .near)) && not (eqb y (q .far))) (first-extends y)
+
+      -- its keys are those of the pair: D(n,y) is finite, so that the tunnel cost is no more than a real one
+      keys-serve : (y : ℕ) → y < n → avoids n hops d (router y) (q .number) m ≡ true → keysAt d (q .near) (λ x. getD l x 0) m c y ≡ keysOf d q to (pair m c o y)
+      unfolding keysAt keysOf classOf tunnelCost avoids
+      keys-serve y k t =
+          let f : towards d (router y) m < unreachable = search (ltb-true, and-left) in
+          let e : towards d (router y) m ≡ d m y = towards-router d y m (known .costs .most m y) in
+          let s : d m y ≤ 63 * 65535 = distance-small n hops d (known .sound) (known .costs) m y (known .sound .within .to joined) (omega arith) in
+          let w : min (c + d m y) unreachable ≡ c + d m y = omega (arith, known .sound .capped joined) in
+          rw (w, same-to y k, same-to (q .near) near-in)
+
+      hop-serves : keysOfHop d q (λ x. getD l x 0) both n m c ≡ map (keysOf d q to) (select (serves n hops d q to) (pairsOf q n (first m c o)))
+      unfolding keysOfHop hopKeys pairsOf withEndpoint serves
+      hop-serves =
+          let test : ℕ → Bool = λ y. isEndpoint q y && serves n hops d q to (pair m c o y) in
+          ap (map (keysAt d (q .near) (λ x. getD l x 0) m c)) (select-same (mayEnd (endsOf d q both n m) (q .near) (q .far)) test (below n) (λ y k. ends-serve y (below-mem n y k)))
+          ∙ map-same (keysAt d (q .near) (λ x. getD l x 0) m c) (λ y. keysOf d q to (pair m c o y)) (select test (below n)) (λ y k. by y (select-gives test (below n) k))
+          ∙ sym (map-map (keysOf d q to) (pair m c o) (select test (below n)))
+          ∙ ap (map (keysOf d q to)) (sym (select-map (serves n hops d q to) (pair m c o) (select (isEndpoint q) (below n)) ∙ ap (map (pair m c o)) (select-select (λ y. serves n hops d q to (pair m c o y)) (isEndpoint q) (below n))))
+        where
+          by : (y : ℕ) → List·Memᴰ y (below n) × ((isEndpoint q y && serves n hops d q to (pair m c o y)) ≡ true) → keysAt d (q .near) (λ x. getD l x 0) m c y ≡ keysOf d q to (pair m c o y)
+          by y k = keys-serve y (below-mem n y (k .0)) (and-left _ _ (and-right (isEndpoint q y) _ (k .1)))
+
+    -- The keys that the search tries are those of the serving pairs, in the same order.
+    module _ (count : ℕ) (rs cs os : List ℕ) (listed : firstsIn count rs cs os ≡ firstHops q hops) where
+      overFirst : FirstHop → List Keys
+      overFirst (first m c o) = keysOfHop d q (λ x. getD l x 0) both n m c
+
+      tried : columnKeys d q (λ x. getD l x 0) both n count rs cs ≡ map (keysOf d q to) (select (serves n hops d q to) (pairs q n hops))
+      unfolding columnKeys firstsIn pairs overFirst
+      tried =
+          ap flat (sym (map-map overFirst (λ i. first (getD rs i 0) (getD cs i 0) (getD os i 0)) (below count)) ∙ ap (map overFirst) listed)
+          ∙ ap flat (map-same overFirst (λ f. map (keysOf d q to) (select (serves n hops d q to) (pairsOf q n f))) (firstHops q hops) by)
+          ∙ sym (ap (map (keysOf d q to)) (select-flat (serves n hops d q to) (pairsOf q n) (firstHops q hops)) ∙ map-flat (keysOf d q to) (λ f. select (serves n hops d q to) (pairsOf q n f)) (firstHops q hops))
+        where
+          by : (f : FirstHop) → List·Memᴰ f (firstHops q hops) → overFirst f ≡ map (keysOf d q to) (select (serves n hops d q to) (pairsOf q n f))
+          by (first m c o) j = hop-serves m c o j
+
+      pub search-outcome : outcomeFor (firstOf none (columnKeys d q (λ x. getD l x 0) both n count rs cs)) ≡ outcomeOf d q to (firstPair n hops d q to)
+      unfolding firstPair
+      search-outcome = ap (λ (k : List Keys). outcomeFor (firstOf none k)) tried ∙ first-chosen d q to (select (serves n hops d q to) (pairs q n hops))
+
+  -- ---- the answers of the repairs
+
+  -- what the search finds over the mask of the two sets that were computed
+  pub found-outcome : {found : Option Keys} {extended set : ℕ} (count : ℕ) (rs cs os l : List ℕ) → firstsIn count rs cs os ≡ firstHops q hops →
+      extended ≡ setOf n (someClears d q (routersIn count rs)) → set ≡ setOf n (clears d q (λ x. getD l x 0) (λ x. getD l x 0)) →
+      found ≡ firstOf none (columnKeys d q (λ x. getD l x 0) (bitAnd extended set) n count rs cs) →
+      (to : Target) → l ≡ column n (towards d to) → outcomeFor found ≡ outcomeOf d q to (firstPair n hops d q to)
+  found-outcome count rs cs os l listed ee es e to held-to =
+      let m = ap₂ bitAnd (extended-space count rs cs os listed ee) (avoiding-set to l held-to es) in
+      ap outcomeFor (e ∙ ap (λ (mask : ℕ). firstOf none (columnKeys d q (λ x. getD l x 0) mask n count rs cs)) m) ∙ search-outcome to l held-to count rs cs os listed
+
+  module _ (to : Target) (l : List ℕ) (held-to : l ≡ column n (towards d to)) where
+    near-held : getD l (q .near) 0 ≡ towards d to (q .near)
+    near-held = rw held-to (column-at n (towards d to) (q .near) near-in)
+
+    pub prefix-unreachable : getD l (q .near) 0 ≡ unreachable → prefixUnreachable ≡ prefixOutcome n hops d q to
+    unfolding prefixOutcome
+    prefix-unreachable e = rw (le-ltb (towards d to (q .near)) unreachable (omega (arith, near-held)), prefixOutcome)
+
+    near-finite : (getD l (q .near) 0 ≡ unreachable → ⊥) → ltb (towards d to (q .near)) unreachable ≡ true
+    near-finite h = lt-ltb (towards d to (q .near)) unreachable (omega (arith, near-held, towards-most d to (q .near)))
+
+    pub prefix-untouched : {b : Bool} → (getD l (q .near) 0 ≡ unreachable → ⊥) → b ≡ crossesOut q (λ x. getD l x 0) → b ≡ false → prefixUntouched ≡ prefixOutcome n hops d q to
+    unfolding prefixOutcome
+    prefix-untouched h e f = let m : mayCross n hops d q to ≡ false = sym (e ∙ crosses-may to l held-to) ∙ f in rw (near-finite h, m, prefixOutcome)
+
+    pub prefix-searched : {b : Bool} {o : Outcome} → (getD l (q .near) 0 ≡ unreachable → ⊥) → b ≡ crossesOut q (λ x. getD l x 0) → b ≡ true → o ≡ outcomeOf d q to (firstPair n hops d q to) → o ≡ prefixOutcome n hops d q to
+    unfolding prefixOutcome
+    prefix-searched h e f s = let m : mayCross n hops d q to ≡ true = sym (e ∙ crosses-may to l held-to) ∙ f in rw (near-finite h, m, prefixOutcome) s

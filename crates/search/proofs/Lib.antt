@@ -1,0 +1,6 @@
+pub mod ListLaws
+pub mod AreaLaws
+pub mod SpaceLaws
+pub mod ChoiceLaws
+pub mod KnownLaws
+pub mod CallLaws

@@ -1,0 +1,15 @@
+-- `search::fit::costs_fit` meets its contract. No 16-bit number is above 65,535.
+-- Assumes nothing.
+use native.Mathlib.Omega.{arith}
+use Rattle.search.proofs.CallLaws.{both-priced, one-free}
+use Rattle.search.proofs.fit.costs_fit.Statement.{statement}
+use Rattle.search.proofs.fit.costs_fit.Tie as tie
+
+returns : tie.Need-returns
+returns c = let a = c .before .args in both-priced (a .ab) (a .ba) (omega arith) (omega arith) (c .if1 .taken)
+
+returns-2 : tie.Need-returns-2
+returns-2 c = let a = c .before .args in one-free (a .ab) (a .ba) (omega arith) (omega arith) (c .if1 .left)
+
+pub costs-fit-spec : {M : Type 1} → statement M
+costs-fit-spec = tie.close (tie.spec returns returns-2)

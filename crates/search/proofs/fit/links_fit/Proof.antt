@@ -1,0 +1,100 @@
+-- `search::fit::links_fit` meets its contract. The loop's invariant: the links before k join routers at costs from 1 to 65,535.
+-- Assumes nothing.
+use Prim.Native.Nat.{ℕ, _-_, _≤_, _<_}
+use mathlib.Core.Path.{_≡_, sym, _∙_}
+use mathlib.Core.Bool.{true}
+use native.Mathlib.Omega.{arith}
+use borrow.Author.Tests.{not-true, not-false}
+use borrow.Author.Needs.{needs}
+use Rattle.lfa.specs.Laws.Test.{and-make}
+use Rattle.distance.specs.Laws.List.{every-more}
+use Rattle.search.specs.Calls.{linkPriced}
+use Rattle.search.proofs.CallLaws.{links-many, ends-fail, costs-fail, links-pass}
+use Rattle.search.proofs.fit.links_fit.Statement.{statement}
+use Rattle.search.proofs.fit.links_fit.Tie as tie
+
+abbrev Inv-loop : tie.InvT-loop
+Inv-loop routers links from to out back k₀ k = (k ≤ links) × ((j : ℕ) → j < k → linkPriced routers from to out back j ≡ true)
+
+abbrev μ-loop : tie.MeasureT-loop
+μ-loop routers links from to out back k₀ k = links - k
+
+returns : tie.Need-returns Inv-loop μ-loop
+returns c = links-many _ _ _ _ _ _ (c .if1 .taken)
+
+loop-holds : tie.Need-loop-holds Inv-loop μ-loop
+loop-holds c = (omega arith, λ j h. absurd (omega arith))
+
+element-copy-out-ends-fit : tie.Need-element-copy-out-ends-fit Inv-loop μ-loop
+element-copy-out-ends-fit c = search needs
+
+element-copy-out-ends-fit-2 : tie.Need-element-copy-out-ends-fit-2 Inv-loop μ-loop
+element-copy-out-ends-fit-2 c = search needs
+
+ends-fit-requires : tie.Need-ends-fit-requires Inv-loop μ-loop
+ends-fit-requires c κs = search needs
+
+returns-2 : tie.Need-returns-2 Inv-loop μ-loop
+returns-2 c =
+    let turn = c .before .before .before .before in
+    ends-fail _ _ _ _ _ _ (turn .before .loop .k) (turn .loop-test .taken) (sym (c .before .ends-fit .ensures) ∙ not-true _ (c .if2 .taken))
+
+mul-costs-fit : tie.Need-mul-costs-fit Inv-loop μ-loop
+mul-costs-fit c = search needs
+
+element-copy-out-costs-fit : tie.Need-element-copy-out-costs-fit Inv-loop μ-loop
+element-copy-out-costs-fit c = search needs
+
+mul-costs-fit-2 : tie.Need-mul-costs-fit-2 Inv-loop μ-loop
+mul-costs-fit-2 c = search needs
+
+element-copy-out-costs-fit-2 : tie.Need-element-copy-out-costs-fit-2 Inv-loop μ-loop
+element-copy-out-costs-fit-2 c = search needs
+
+costs-fit-requires : tie.Need-costs-fit-requires Inv-loop μ-loop
+costs-fit-requires c κs = search needs
+
+returns-3 : tie.Need-returns-3 Inv-loop μ-loop
+returns-3 c =
+    let turn = c .before .before .before .before .before .before .before .before in
+    costs-fail _ _ _ _ _ _ (turn .before .loop .k) (turn .loop-test .taken) (sym (c .before .costs-fit .ensures) ∙ not-true _ (c .if3 .taken))
+
+add-k : tie.Need-add-k Inv-loop μ-loop
+add-k c = search needs
+
+loop-less : tie.Need-loop-less Inv-loop μ-loop
+loop-less c = search needs
+
+loop-again : tie.Need-loop-again Inv-loop μ-loop
+loop-again c =
+    let at-loop = c .before .before .before .before .before .before .before .before .before in
+    let a = at-loop .before .before .args in
+    let ends = c .before .before .before .before in
+    let fits = and-make _ _ (sym (ends .before .ends-fit .ensures) ∙ not-false _ (ends .if2 .left)) (sym (c .before .costs-fit .ensures) ∙ not-false _ (c .if3 .left)) in
+    (omega arith, every-more (linkPriced (a .routers) (a .from .now) (a .to .now) (a .out .now) (a .back .now)) (at-loop .loop .k) (at-loop .loop .inv .1) fits)
+
+returns-4 : tie.Need-returns-4 Inv-loop μ-loop
+returns-4 c = links-pass _ _ _ _ _ _ (c .before .before .if1 .left) (λ k h. c .before .loop .inv .1 k (omega arith))
+
+pub links-fit-spec : {M : Type 1} → statement M
+links-fit-spec =
+    tie.close
+    (tie.spec
+    Inv-loop
+    μ-loop
+    returns
+    loop-holds
+    element-copy-out-ends-fit
+    element-copy-out-ends-fit-2
+    ends-fit-requires
+    returns-2
+    mul-costs-fit
+    element-copy-out-costs-fit
+    mul-costs-fit-2
+    element-copy-out-costs-fit-2
+    costs-fit-requires
+    returns-3
+    add-k
+    loop-less
+    loop-again
+    returns-4)

@@ -1,0 +1,51 @@
+-- `search::pair::pair_of` meets its contract. Each part is a key of the pair.
+-- Assumes nothing.
+use lib.ListN.{getD}
+use borrow.Author.Needs.{needs}
+use Rattle.distance.specs.Area.{held}
+use Rattle.search.proofs.ChoiceLaws.{keys-made}
+use Rattle.search.proofs.pair.pair_of.Statement.{statement}
+use Rattle.search.proofs.pair.pair_of.Tie as tie
+
+mul-class-of : tie.Need-mul-class-of
+mul-class-of c = search needs
+
+element-copy-out-class-of : tie.Need-element-copy-out-class-of
+element-copy-out-class-of c = search needs
+
+mul-class-of-2 : tie.Need-mul-class-of-2
+mul-class-of-2 c = search needs
+
+element-copy-out-class-of-2 : tie.Need-element-copy-out-class-of-2
+element-copy-out-class-of-2 c = search needs
+
+class-of-requires : tie.Need-class-of-requires
+class-of-requires c κs = search needs
+
+cell-requires : tie.Need-cell-requires
+cell-requires c κs = search needs
+
+add-requires : tie.Need-add-requires
+add-requires c κs = search needs
+
+cell-requires-2 : tie.Need-cell-requires-2
+cell-requires-2 c κs = search needs
+
+returns : tie.Need-returns
+returns c =
+    let a = c .before .before .before .before .before .before .before .args in
+    keys-made (held (a .n) (a .dist .now)) (a .near) (λ x. getD (a .to .now) x 0) (a .hop) (a .cost) (a .endpoint) (c .before .before .before .class-of .ensures) (c .before .before .cell .ensures) (c .before .add .ensures) (c .cell2 .ensures)
+
+pub pair-of-spec : {M : Type 1} → statement M
+pair-of-spec =
+    tie.close
+    (tie.spec
+    mul-class-of
+    element-copy-out-class-of
+    mul-class-of-2
+    element-copy-out-class-of-2
+    class-of-requires
+    cell-requires
+    add-requires
+    cell-requires-2
+    returns)

@@ -1,0 +1,28 @@
+-- `search::space::q_space` meets its contract. By distances just the routers of Q avoid to E.
+-- Assumes nothing.
+use borrow.Author.Needs.{needs}
+use Rattle.distance.specs.Laws.Calls.{router-known}
+use Rattle.search.specs.Known.{Readable}
+use Rattle.search.specs.Spaces.{asked}
+use Rattle.search.proofs.KnownLaws.{readable, q-space}
+use Rattle.search.proofs.space.q_space.Statement.{statement}
+use Rattle.search.proofs.space.q_space.Tie as tie
+
+-- the table can be read
+known : (s : tie.Start) → Readable (s .args .n) (asked (s .args .link)) (s .args .dist .now)
+known s = readable (s .args .n) (s .pre .0) (asked (s .args .link)) (s .args .dist .now) (s .pre .1)
+
+towards-router-requires : tie.Need-towards-router-requires
+towards-router-requires c κs = search needs
+
+avoiding-to-requires : tie.Need-avoiding-to-requires
+avoiding-to-requires c κs = known (c .before .before .before .before)
+
+returns : tie.Need-returns
+returns c = λ hops k.
+    let r = known (c .before .before .before .before .before) in
+    let to = c .before .before .before .towards-router in
+    q-space _ hops _ _ k (to .result) (router-known _ _ (r .few) (r .long) _ (r .far-in) (to .ensures)) (c .avoiding-to .ensures)
+
+pub q-space-spec : {M : Type 1} → statement M
+q-space-spec = tie.close (tie.spec towards-router-requires avoiding-to-requires returns)

@@ -1,0 +1,80 @@
+-- What the search computes: the keys of pairs, the first of them, and what is found.
+-- Assumes nothing.
+use Prim.Native.Nat.{ℕ, _+_, min}
+use mathlib.Core.Bool.{Bool, true, false, not, _&&_}
+use mathlib.Core.Option.{Option, none, some}
+use mathlib.Core.List.{List, [], _∷_, map}
+use lib.Dec.{eqb, ltb}
+use lib.Bits.{bitAnd}
+use lib.ListN.{getD}
+use Rattle.lfa.specs.Lists.{below, select, flat}
+use Rattle.lfa.specs.Distance.{unreachable}
+use Rattle.lfa.specs.Space.{Protected, has, setOf}
+use Rattle.lfa.specs.Repair.{Keys, key, noLater, orElse, Outcome, prefixUnreachable, prefixUntouched, noneServes, chosen}
+use Rattle.search.specs.declared.Chosen.{Chosen}
+use Rattle.search.specs.declared.Found.{Found}
+use Rattle.search.specs.declared.Found.the-variants.{Nothing, Pair}
+use Rattle.search.specs.declared.PrefixFound.{PrefixFound}
+use Rattle.search.specs.declared.PrefixFound.the-variants.{Unreachable, Untouched, Nothing as None, Pair as Serving}
+use Rattle.search.specs.Spaces.{clearsTo}
+
+-- ---- what the code holds
+
+-- what the order looks at in a pair
+abbrev pub keysIn : Chosen → Keys
+keysIn p = record { class = p .class; distance = p .distance; endpoint = p .endpoint; tunnel = p .cost; hop = p .hop }
+
+abbrev pub foundIn : Found → Option Keys
+foundIn Nothing = none
+foundIn (Pair p) = some (keysIn p)
+
+-- what a search that found these keys answers
+abbrev pub outcomeFor : Option Keys → Outcome
+outcomeFor none = noneServes
+outcomeFor (some k) = chosen (k .hop) (k .endpoint) (k .class) (k .tunnel)
+
+abbrev pub prefixFoundIn : PrefixFound → Outcome
+prefixFoundIn Unreachable = prefixUnreachable
+prefixFoundIn Untouched = prefixUntouched
+prefixFoundIn None = noneServes
+prefixFoundIn (Serving p) = outcomeFor (some (keysIn p))
+
+-- ---- the first of some keys, tried one after the other
+
+-- the earlier of what was found and one more
+unfoldable pub addKeys : Option Keys → Keys → Option Keys
+addKeys none k = some k
+addKeys (some b) k = elim (noLater (key b) (key k)) [ true ↦ some b | false ↦ some k ]
+
+unfoldable pub firstOf : Option Keys → List Keys → Option Keys
+firstOf o [] = o
+firstOf o (k ∷ ks) = firstOf (addKeys o k) ks
+
+-- ---- the pairs that are tried
+
+-- the class of a pair whose endpoint is at distance `end` from the target, S being at distance `near`
+abbrev pub classBy : (n y end near : ℕ) → ℕ
+classBy n y end near = orElse (eqb y n) 2 + orElse (ltb end near) 1
+
+-- the keys of the pair of first hop n, at cost c from S, and endpoint y; h gives the distances to the target
+unfoldable pub keysAt : (ℕ → ℕ → ℕ) → (near : ℕ) → (h : ℕ → ℕ) → (n c y : ℕ) → Keys
+keysAt d near h n c y = record { class = classBy n y (h y) (h near); distance = d near y; endpoint = y; tunnel = min (c + d n y) unreachable; hop = n }
+
+-- router y is in the set, and neither S nor E
+abbrev pub mayEnd : (set near far y : ℕ) → Bool
+mayEnd set near far y = has set y && (not (eqb y near) && not (eqb y far))
+
+-- the keys of the pairs of one first hop whose endpoints are in the set
+unfoldable pub hopKeys : (ℕ → ℕ → ℕ) → (near far : ℕ) → (h : ℕ → ℕ) → (n c set routers : ℕ) → List Keys
+hopKeys d near far h n c set routers = map (keysAt d near h n c) (select (mayEnd set near far) (below routers))
+
+-- the endpoints of a first hop: what the mask holds of the routers that it avoids the link on the way to
+unfoldable pub endsOf : (ℕ → ℕ → ℕ) → Protected → (mask routers n : ℕ) → ℕ
+endsOf d q mask routers n = bitAnd mask (setOf routers (clearsTo d q n))
+
+-- the keys of the pairs of one first hop whose endpoints are in the mask, and of all first hops that columns hold
+unfoldable pub keysOfHop : (ℕ → ℕ → ℕ) → Protected → (h : ℕ → ℕ) → (mask routers n c : ℕ) → List Keys
+keysOfHop d q h mask routers n c = hopKeys d (q .near) (q .far) h n c (endsOf d q mask routers n) routers
+
+unfoldable pub columnKeys : (ℕ → ℕ → ℕ) → Protected → (h : ℕ → ℕ) → (mask routers count : ℕ) → (router cost : List ℕ) → List Keys
+columnKeys d q h mask routers count router cost = flat (map (λ i. keysOfHop d q h mask routers (getD router i 0) (getD cost i 0)) (below count))

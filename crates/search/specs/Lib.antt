@@ -1,0 +1,5 @@
+pub mod Known
+pub mod Spaces
+pub mod Choice
+pub mod Calls
+pub mod Laws

@@ -1,0 +1,139 @@
+// The search part: the three spaces, and the pair that serves a repair, over a network by value. Each function leaves the distances of
+// the network in the area that is lent to it.
+//
+// Each takes any numbers. Where they are not those of a network, of an end of one of its links and of one of its prefixes, the area
+// stays as it was, and nothing is found.
+use fit::answers;
+use fit::holds_prefix;
+use network_file::network::Network;
+use pair::link_found;
+use pair::prefix_found;
+use protected::prepare;
+use space::space_of;
+use space::wide;
+ghost use mathlib.Core.Path.{_≡_};
+ghost use lib.ListN.{length};
+ghost use Rattle.search.specs.Spaces.{spaceNamed};
+ghost use Rattle.search.specs.Choice.{foundIn, outcomeFor, prefixFoundIn};
+ghost use Rattle.search.specs.Calls.{answered, prefixAnswered, areaBy, spaceBy, linkBy, prefixBy};
+
+mod fit;
+mod pair;
+mod protected;
+mod space;
+
+// One of the three spaces.
+pub enum Which {
+    P,
+    ExtendedP,
+    Q,
+}
+
+// A pair that serves: the first hop, the endpoint, the class, the tunnel cost, and the distance from S to the endpoint, by which pairs
+// of a class are ordered.
+pub struct Chosen {
+    pub hop: usize,
+    pub endpoint: usize,
+    pub class: u32,
+    pub cost: u32,
+    pub distance: u32,
+}
+
+// What a search found.
+pub enum Found {
+    Nothing,
+    Pair(Chosen),
+}
+
+// What a search for a prefix found.
+pub enum PrefixFound {
+    Unreachable,
+    Untouched,
+    Nothing,
+    Pair(Chosen),
+}
+
+// One of the three spaces, as the set of its routers: router r is the bit of weight 2 to the power r.
+pub fn space_in(which: Which, network: Network, link: usize, end: usize, work: &mut [u32]) -> u64
+    ensures { λ r. ⌜ (r ≡ spaceBy (spaceNamed which) network link end (length (now (work .entry))))
+        × (now (work .exit) ≡ areaBy (answered network link end (length (now (work .entry)))) network (now (work .entry))) ⌝ }
+{
+    if !answers(network, link, end, work.len()) {
+        return 0;
+    }
+    let routers = network.routers;
+    let links = network.links;
+    let protected = prepare(network, link, end, work);
+    space_of(
+        which,
+        work,
+        routers,
+        links,
+        &network.from,
+        &network.to,
+        &network.out,
+        &network.back,
+        protected,
+    )
+}
+
+// The pair that repairs a link: around it, to its far router.
+pub fn link_pair(network: Network, link: usize, end: usize, work: &mut [u32]) -> Found
+    ensures { λ r. ⌜ (outcomeFor (foundIn r) ≡ linkBy network link end (length (now (work .entry))))
+        × (now (work .exit) ≡ areaBy (answered network link end (length (now (work .entry)))) network (now (work .entry))) ⌝ }
+{
+    if !answers(network, link, end, work.len()) {
+        return Found::Nothing;
+    }
+    let routers = network.routers;
+    let links = network.links;
+    let protected = prepare(network, link, end, work);
+    link_found(
+        work,
+        routers,
+        links,
+        &network.from,
+        &network.to,
+        &network.out,
+        &network.back,
+        protected,
+    )
+}
+
+// The pair that repairs the traffic to a prefix, where it may cross the link.
+pub fn prefix_pair(
+    network: Network,
+    link: usize,
+    end: usize,
+    prefix: usize,
+    work: &mut [u32],
+) -> PrefixFound
+    ensures { λ r. ⌜ (prefixFoundIn r ≡ prefixBy network link end prefix (length (now (work .entry))))
+        × (now (work .exit) ≡ areaBy (prefixAnswered network link end prefix (length (now (work .entry)))) network (now (work .entry))) ⌝ }
+{
+    if !answers(network, link, end, work.len()) {
+        return PrefixFound::Nothing;
+    }
+    if !holds_prefix(network, prefix) {
+        return PrefixFound::Nothing;
+    }
+    let routers = network.routers;
+    let links = network.links;
+    let attached = network.attached;
+    let count = wide(attached[prefix]);
+    let protected = prepare(network, link, end, work);
+    prefix_found(
+        work,
+        routers,
+        links,
+        &network.from,
+        &network.to,
+        &network.out,
+        &network.back,
+        protected,
+        &network.at,
+        &network.own,
+        8 * prefix,
+        count,
+    )
+}

@@ -1,0 +1,246 @@
+// The search for the pair that serves a repair.
+ghost use mathlib.Core.Path.{_≡_};
+ghost use mathlib.Core.Option.{none};
+ghost use Prim.Native.Nat.{_*_, _≤_, _<_};
+ghost use lib.ListN.{length, getD};
+ghost use Rattle.lfa.specs.Network.{Target};
+ghost use Rattle.lfa.specs.Distance.{towards};
+ghost use Rattle.lfa.specs.Repair.{key, noLater, orElse, firstPair, outcomeOf, linkOutcome, prefixOutcome};
+ghost use Rattle.distance.specs.Columns.{arcsIn};
+ghost use Rattle.distance.specs.Area.{held, column, SlotsWithin, slotsIn};
+ghost use Rattle.search.specs.Known.{Readable, Known};
+ghost use Rattle.search.specs.Spaces.{asked, RoutersWithin};
+ghost use Rattle.search.specs.Choice.{keysIn, foundIn, outcomeFor, prefixFoundIn, addKeys, firstOf, classBy, keysAt, mayEnd, hopKeys, columnKeys};
+use crate::Chosen;
+use crate::Found;
+use crate::PrefixFound;
+use crate::space;
+use crate::space::ProtectedLink;
+use distance::Distance;
+use distance::towards_prefix;
+use distance::towards_router;
+
+// Whether a comes no later than b: the first of class, distance, endpoint, tunnel cost and first hop in which they differ decides.
+fn no_later(a: Chosen, b: Chosen) -> bool
+    ensures { λ r. ⌜ r ≡ noLater (key (keysIn a)) (key (keysIn b)) ⌝ }
+{
+    if a.class != b.class {
+        return a.class < b.class;
+    }
+    if a.distance != b.distance {
+        return a.distance < b.distance;
+    }
+    if a.endpoint != b.endpoint {
+        return a.endpoint < b.endpoint;
+    }
+    if a.cost != b.cost {
+        return a.cost < b.cost;
+    }
+    a.hop <= b.hop
+}
+
+// The earlier of what was found and one pair more.
+fn earlier(best: Found, next: Chosen) -> Found
+    ensures { λ r. ⌜ foundIn r ≡ addKeys (foundIn best) (keysIn next) ⌝ }
+{
+    let Found::Pair(pair) = best else {
+        return Found::Pair(next);
+    };
+    if no_later(pair, next) {
+        return Found::Pair(pair);
+    }
+    Found::Pair(next)
+}
+
+// 0 where the test passes, else the number.
+fn or_else(test: bool, k: u32) -> u32
+    ensures { λ r. ⌜ (r ≡ orElse test k) × (r ≤ k) ⌝ }
+{
+    if test {
+        return 0;
+    }
+    k
+}
+
+// The class of a pair: 0 where the first hop is the endpoint, else 2, and 1 more unless the endpoint is nearer to the target than S.
+fn class_of(hop: usize, endpoint: usize, end: u32, near: u32) -> u32
+    ensures { λ r. ⌜ r ≡ classBy hop endpoint end near ⌝ }
+{
+    or_else(endpoint == hop, 2) + or_else(end < near, 1)
+}
+
+// The pair of a first hop, at a cost from S, and an endpoint.
+fn pair_of(
+    dist: &[u32],
+    n: usize,
+    near: usize,
+    to: &[u32; 64],
+    hop: usize,
+    cost: u32,
+    endpoint: usize,
+) -> Chosen
+    requires { ⌜ (n ≤ 64) × (n * n ≤ length (now dist)) × (near < n) × (hop < n) × (endpoint < n) ⌝ }
+    ensures { λ r. ⌜ keysIn r ≡ keysAt (held n (now (dist .entry))) near (λ x. getD (now (to .entry)) x 0) hop cost endpoint ⌝ }
+{
+    Chosen {
+        hop,
+        endpoint,
+        class: class_of(hop, endpoint, to[endpoint], to[near]),
+        cost: Distance::add(cost, space::cell(dist, n, hop, endpoint)),
+        distance: space::cell(dist, n, near, endpoint),
+    }
+}
+
+// Whether router y is in the set, and neither S nor E.
+fn may_end(set: u64, near: usize, far: usize, y: usize) -> bool
+    requires { ⌜ y < 64 ⌝ }
+    ensures { λ r. ⌜ r ≡ mayEnd set near far y ⌝ }
+{
+    if (set >> y) & 1 != 1 {
+        return false;
+    }
+    y != near && y != far
+}
+
+// The earliest of what was found and the pairs of one first hop with an endpoint in the set.
+fn over_hop(
+    dist: &[u32],
+    n: usize,
+    near: usize,
+    far: usize,
+    to: &[u32; 64],
+    hop: usize,
+    cost: u32,
+    ends: u64,
+    before: Found,
+) -> Found
+    requires { ⌜ (n ≤ 64) × (n * n ≤ length (now dist)) × (near < n) × (hop < n) ⌝ }
+    ensures { λ r. ⌜ foundIn r ≡ firstOf (foundIn before) (hopKeys (held n (now (dist .entry))) near far (λ x. getD (now (to .entry)) x 0) hop cost ends n) ⌝ }
+{
+    let mut best = before;
+    let mut y = 0;
+    while y < n {
+        if may_end(ends, near, far, y) {
+            best = earlier(best, pair_of(dist, n, near, to, hop, cost, y));
+        }
+        y += 1;
+    }
+    best
+}
+
+// The earliest of the pairs of the first hops with an endpoint in the mask that the first hop avoids the link on the way to.
+pub(crate) fn search(
+    dist: &[u32],
+    n: usize,
+    link: ProtectedLink,
+    to: &[u32; 64],
+    count: usize,
+    router: &[u8; 256],
+    cost: &[u16; 256],
+    mask: u64,
+) -> Found
+    requires { ⌜ Readable n (asked link) (now dist) × (count ≤ 256) × RoutersWithin n count (now router) ⌝ }
+    ensures { λ r. ⌜ foundIn r ≡ firstOf none (columnKeys (held n (now (dist .entry))) (asked link) (λ x. getD (now (to .entry)) x 0) mask n count (now (router .entry)) (now (cost .entry))) ⌝ }
+{
+    let near = link.near;
+    let far = link.far;
+    let mut best = Found::Nothing;
+    let mut i = 0;
+    while i < count {
+        let hop = space::wide(router[i]);
+        let ends = mask & space::avoiding_from(dist, n, link, hop);
+        best = over_hop(
+            dist,
+            n,
+            near,
+            far,
+            to,
+            hop,
+            space::cost_of(cost[i]),
+            ends,
+            best,
+        );
+        i += 1;
+    }
+    best
+}
+
+// The first of the pairs that serve a target, `target` holding the distances to it. The endpoints are the routers of extended P that
+// avoid the link on the way to the target: for the link repair, the intersection of extended P and Q.
+pub(crate) fn first_pair(
+    dist: &[u32],
+    n: usize,
+    links: usize,
+    from: &[u8; 128],
+    to: &[u8; 128],
+    out: &[u16; 128],
+    back: &[u16; 128],
+    link: ProtectedLink,
+    target: &[u32; 64],
+) -> Found
+    requires { ⌜ (links ≤ 128) × Known n (arcsIn (now from) (now to) (now out) (now back) links) (asked link) (now dist) ⌝ }
+    ensures { λ r. ⌜ ((t : Target) → now (target .entry) ≡ column n (towards (held n (now (dist .entry))) t)
+        → outcomeFor (foundIn r) ≡ outcomeOf (held n (now (dist .entry))) (asked link) t
+        (firstPair n (arcsIn (now (from .entry)) (now (to .entry)) (now (out .entry)) (now (back .entry)) links) (held n (now (dist .entry))) (asked link) t)) ⌝ }
+{
+    let hops = space::first_hops(links, from, to, out, back, link);
+    let count = hops.count;
+    let router = hops.router;
+    let cost = hops.cost;
+    let extended = space::extended_p(dist, n, link, count, &router);
+    let mask = extended & space::avoiding_to(dist, n, link, target, target);
+    search(dist, n, link, target, count, &router, &cost, mask)
+}
+
+// What a link repair finds: its target is E.
+pub(crate) fn link_found<'a>(
+    dist: &[u32],
+    n: usize,
+    links: usize,
+    from: &'a [u8; 128],
+    to: &'a [u8; 128],
+    out: &'a [u16; 128],
+    back: &'a [u16; 128],
+    link: ProtectedLink,
+) -> Found
+    requires { ⌜ (links ≤ 128) × Known n (arcsIn (now from) (now to) (now out) (now back) links) (asked link) (now dist) ⌝ }
+    ensures { λ r. ⌜ outcomeFor (foundIn r) ≡ linkOutcome n (arcsIn (now (from .entry)) (now (to .entry)) (now (out .entry)) (now (back .entry)) links) (held n (now (dist .entry))) (asked link) ⌝ }
+{
+    let far = link.far;
+    let target = towards_router(dist, n, far);
+    first_pair(dist, n, links, from, to, out, back, link, &target)
+}
+
+// What a prefix repair finds for the prefix whose attachments start at slot `first`.
+pub(crate) fn prefix_found<'a>(
+    dist: &[u32],
+    n: usize,
+    links: usize,
+    from: &'a [u8; 128],
+    to: &'a [u8; 128],
+    out: &'a [u16; 128],
+    back: &'a [u16; 128],
+    link: ProtectedLink,
+    at: &'a [u8; 1024],
+    own: &'a [u16; 1024],
+    first: usize,
+    count: usize,
+) -> PrefixFound
+    requires { ⌜ (links ≤ 128) × Known n (arcsIn (now from) (now to) (now out) (now back) links) (asked link) (now dist) × SlotsWithin n first count (now at) ⌝ }
+    ensures { λ r. ⌜ prefixFoundIn r ≡ prefixOutcome n (arcsIn (now (from .entry)) (now (to .entry)) (now (out .entry)) (now (back .entry)) links) (held n (now (dist .entry))) (asked link)
+        (slotsIn (now (at .entry)) (now (own .entry)) first count) ⌝ }
+{
+    let near = link.near;
+    let target = towards_prefix(dist, n, at, own, first, count);
+    if target[near] == Distance::UNREACHABLE {
+        return PrefixFound::Unreachable;
+    }
+    if !space::may_cross(&target, link) {
+        return PrefixFound::Untouched;
+    }
+    let found = first_pair(dist, n, links, from, to, out, back, link, &target);
+    let Found::Pair(pair) = found else {
+        return PrefixFound::Nothing;
+    };
+    PrefixFound::Pair(pair)
+}
