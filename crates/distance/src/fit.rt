@@ -5,7 +5,7 @@ ghost use lib.Dec.{ltb};
 ghost use Rattle.distance.specs.Calls.{cellsFit, linksFit, slotsFit};
 
 // Whether there are at most 64 routers, and a cell for each two of them.
-pub(crate) fn cells_fit(n: usize, cells: usize) -> bool
+pub fn cells_fit(n: usize, cells: usize) -> bool
     ensures { λ r. ⌜ r ≡ cellsFit n cells ⌝ }
 {
     n <= 64 && n * n <= cells
@@ -19,7 +19,7 @@ pub(crate) fn wide(x: u8) -> usize
 }
 
 // Whether both ends of a link are routers.
-fn joins(routers: usize, a: u8, b: u8) -> bool
+pub fn joins(routers: usize, a: u8, b: u8) -> bool
     ensures { λ r. ⌜ r ≡ (ltb a routers && ltb b routers) ⌝ }
 {
     wide(a) < routers && wide(b) < routers
@@ -43,7 +43,7 @@ pub(crate) fn links_fit(routers: usize, links: usize, from: &[u8; 128], to: &[u8
 }
 
 // Whether the slots in use are among the 1024, and hold routers.
-pub(crate) fn slots_fit(n: usize, at: &[u8; 1024], first: usize, count: usize) -> bool
+pub fn slots_fit(n: usize, at: &[u8; 1024], first: usize, count: usize) -> bool
     ensures { λ r. ⌜ r ≡ slotsFit n first count (now (at .entry)) ⌝ }
 {
     if 1024 < first {

@@ -15,7 +15,7 @@ ghost use Rattle.distance.specs.Calls.{areaFilled, routerColumn, prefixC
 
 mod arcs;
 mod column;
-mod fit;
+pub mod fit;
 mod rows;
 
 // A distance between routers, as a 32-bit number.

@@ -1,25 +1,12 @@
 // Whether numbers that are handed in are those of a network, of a link of it and of one of its prefixes.
 use crate::space::wide;
+use distance::fit::cells_fit;
+use distance::fit::joins;
+use distance::fit::slots_fit;
 use network_file::network::Network;
 ghost use mathlib.Core.Path.{_≡_};
 ghost use mathlib.Core.Bool.{_&&_};
-ghost use lib.Dec.{ltb};
-ghost use Rattle.distance.specs.Calls.{cellsFit, slotsFit};
 ghost use Rattle.search.specs.Calls.{priced, linksPriced, answered, prefixHeld};
-
-// Whether there are at most 64 routers, and a cell for each two of them.
-fn cells_fit(n: usize, cells: usize) -> bool
-    ensures { λ r. ⌜ r ≡ cellsFit n cells ⌝ }
-{
-    n <= 64 && n * n <= cells
-}
-
-// Whether both ends of a link are routers.
-fn ends_fit(routers: usize, a: u8, b: u8) -> bool
-    ensures { λ r. ⌜ r ≡ (ltb a routers && ltb b routers) ⌝ }
-{
-    wide(a) < routers && wide(b) < routers
-}
 
 // Whether both costs of a link are from 1 to 65,535: no 16-bit number is larger.
 fn costs_fit(ab: u16, ba: u16) -> bool
@@ -44,7 +31,7 @@ fn links_fit<'a>(
     }
     let mut k = 0;
     while k < links {
-        if !ends_fit(routers, from[k], to[k]) {
+        if !joins(routers, from[k], to[k]) {
             return false;
         }
         if !costs_fit(out[k], back[k]) {
@@ -76,26 +63,6 @@ pub(crate) fn answers(network: Network, link: usize, end: usize, cells: usize) -
         return false;
     }
     link < links && end <= 1
-}
-
-// Whether the slots in use are among the 1024, and hold routers.
-fn slots_fit(n: usize, at: &[u8; 1024], first: usize, count: usize) -> bool
-    ensures { λ r. ⌜ r ≡ slotsFit n first count (now (at .entry)) ⌝ }
-{
-    if 1024 < first {
-        return false;
-    }
-    if 1024 - first < count {
-        return false;
-    }
-    let mut s = 0;
-    while s < count {
-        if n <= wide(at[first + s]) {
-            return false;
-        }
-        s += 1;
-    }
-    true
 }
 
 // Whether the network holds the prefix: there are at most 128, and its slots hold routers.

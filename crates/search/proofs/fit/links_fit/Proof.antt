@@ -25,19 +25,19 @@ returns c = links-many _ _ _ _ _ _ (c .if1 .taken)
 loop-holds : tie.Need-loop-holds Inv-loop μ-loop
 loop-holds c = (omega arith, λ j h. absurd (omega arith))
 
-element-copy-out-ends-fit : tie.Need-element-copy-out-ends-fit Inv-loop μ-loop
-element-copy-out-ends-fit c = search needs
+element-copy-out-joins : tie.Need-element-copy-out-joins Inv-loop μ-loop
+element-copy-out-joins c = search needs
 
-element-copy-out-ends-fit-2 : tie.Need-element-copy-out-ends-fit-2 Inv-loop μ-loop
-element-copy-out-ends-fit-2 c = search needs
+element-copy-out-joins-2 : tie.Need-element-copy-out-joins-2 Inv-loop μ-loop
+element-copy-out-joins-2 c = search needs
 
-ends-fit-requires : tie.Need-ends-fit-requires Inv-loop μ-loop
-ends-fit-requires c κs = search needs
+joins-requires : tie.Need-joins-requires Inv-loop μ-loop
+joins-requires c κs = search needs
 
 returns-2 : tie.Need-returns-2 Inv-loop μ-loop
 returns-2 c =
     let turn = c .before .before .before .before in
-    ends-fail _ _ _ _ _ _ (turn .before .loop .k) (turn .loop-test .taken) (sym (c .before .ends-fit .ensures) ∙ not-true _ (c .if2 .taken))
+    ends-fail _ _ _ _ _ _ (turn .before .loop .k) (turn .loop-test .taken) (sym (c .before .joins .ensures) ∙ not-true _ (c .if2 .taken))
 
 mul-costs-fit : tie.Need-mul-costs-fit Inv-loop μ-loop
 mul-costs-fit c = search needs
@@ -70,7 +70,7 @@ loop-again c =
     let at-loop = c .before .before .before .before .before .before .before .before .before in
     let a = at-loop .before .before .args in
     let ends = c .before .before .before .before in
-    let fits = and-make _ _ (sym (ends .before .ends-fit .ensures) ∙ not-false _ (ends .if2 .left)) (sym (c .before .costs-fit .ensures) ∙ not-false _ (c .if3 .left)) in
+    let fits = and-make _ _ (sym (ends .before .joins .ensures) ∙ not-false _ (ends .if2 .left)) (sym (c .before .costs-fit .ensures) ∙ not-false _ (c .if3 .left)) in
     (omega arith, every-more (linkPriced (a .routers) (a .from .now) (a .to .now) (a .out .now) (a .back .now)) (at-loop .loop .k) (at-loop .loop .inv .1) fits)
 
 returns-4 : tie.Need-returns-4 Inv-loop μ-loop
@@ -84,9 +84,9 @@ links-fit-spec =
     μ-loop
     returns
     loop-holds
-    element-copy-out-ends-fit
-    element-copy-out-ends-fit-2
-    ends-fit-requires
+    element-copy-out-joins
+    element-copy-out-joins-2
+    joins-requires
     returns-2
     mul-costs-fit
     element-copy-out-costs-fit
