@@ -1,7 +1,6 @@
 // The repair part: distances, spaces and repairs of the network that the file part hands over. The file is only passed on, the
 // distances are those of the distance part, and the spaces and pairs those of the search part.
-use answer::link_answer;
-use answer::prefix_answer;
+use answer::repair_answer;
 use distance::fill;
 use network_file::Fault;
 use question::Turned;
@@ -99,7 +98,7 @@ pub fn link_repair(file: &[u8], work: &mut [u32], link: usize, end: usize) -> Re
         return Repair::Refused(Refusal::NoSuchLink(links));
     }
     let found = link_pair(network, link, end, work);
-    link_answer(found)
+    repair_answer(found)
 }
 
 // The pair that repairs the traffic to a prefix, where it may cross the link.
@@ -128,7 +127,7 @@ pub fn prefix_repair(
         return Repair::Refused(Refusal::NoSuchPrefix(prefixes));
     }
     let found = prefix_pair(network, link, end, prefix, work);
-    prefix_answer(found)
+    repair_answer(found)
 }
 
 // The answer of a call for a space.

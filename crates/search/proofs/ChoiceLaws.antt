@@ -18,13 +18,13 @@ use Rattle.lfa.specs.Laws.Order.{later-gives, later-make, later-trans, later-to
 use Rattle.lfa.specs.Distance.{unreachable}
 use Rattle.lfa.specs.Space.{Protected, setOf}
 use Rattle.distance.specs.Laws.List.{below-more, map-below-more, select-append}
-use Rattle.search.specs.declared.Chosen.{Chosen}
-use Rattle.search.specs.declared.Found.{Found}
-use Rattle.search.specs.declared.Found.the-variants.{Nothing, Pair as FoundPair}
+use Rattle.search.specs.declared.pair.Chosen.{Chosen}
+use Rattle.search.specs.declared.pair.Best.{Best}
+use Rattle.search.specs.declared.pair.Best.the-variants.{Nothing, Pair as FoundPair}
 use Rattle.search.specs.Choice.{keysIn, foundIn, outcomeFor, addKeys, firstOf, classBy, keysAt, mayEnd, hopKeys, endsOf, keysOfHop, columnKeys}
 use Rattle.search.specs.Spaces.{clearsTo}
 use Rattle.search.proofs.ListLaws.{later-differ, later-equal, later-last, flat-append}
-use Rattle.search.proofs.Found.{the-type}
+use Rattle.search.proofs.pair.Best.{the-type}
 
 -- ---- comparison
 
@@ -52,24 +52,24 @@ module _ (p q : Chosen) where
 
 -- ---- the earlier of what was found and one more
 
-pub nothing-found : (r : Found) (k : Keys) → OneOf (0 ∷ []) (tagOf the-type r) → some k ≡ addKeys (foundIn r) k
+pub nothing-found : (r : Best) (k : Keys) → OneOf (0 ∷ []) (tagOf the-type r) → some k ≡ addKeys (foundIn r) k
 unfolding addKeys
 nothing-found Nothing k t = refl
 nothing-found (FoundPair p) k t = absurd (eqb-false 1 0 refl t)
 
 -- what was found, passed on
-pub nothing-outcome : {o : Outcome} (r : Found) → OneOf (0 ∷ []) (tagOf the-type r) → outcomeFor (foundIn r) ≡ o → noneServes ≡ o
+pub nothing-outcome : {o : Outcome} (r : Best) → OneOf (0 ∷ []) (tagOf the-type r) → outcomeFor (foundIn r) ≡ o → noneServes ≡ o
 nothing-outcome Nothing t e = e
 nothing-outcome (FoundPair p) t e = absurd (eqb-false 1 0 refl t)
 
-pub pair-outcome : {o : Outcome} {r : Found} {p : Chosen} → r ≡ FoundPair p → outcomeFor (foundIn r) ≡ o → outcomeFor (some (keysIn p)) ≡ o
+pub pair-outcome : {o : Outcome} {r : Best} {p : Chosen} → r ≡ FoundPair p → outcomeFor (foundIn r) ≡ o → outcomeFor (some (keysIn p)) ≡ o
 pair-outcome e f = rw e at f
 
-pub found-stays : {r : Found} {p : Chosen} {b : Bool} (q : Chosen) → r ≡ FoundPair p → b ≡ noLater (key (keysIn p)) (key (keysIn q)) → b ≡ true → some (keysIn p) ≡ addKeys (foundIn r) (keysIn q)
+pub found-stays : {r : Best} {p : Chosen} {b : Bool} (q : Chosen) → r ≡ FoundPair p → b ≡ noLater (key (keysIn p)) (key (keysIn q)) → b ≡ true → some (keysIn p) ≡ addKeys (foundIn r) (keysIn q)
 unfolding addKeys
 found-stays {p} q e s t = let n : noLater (key (keysIn p)) (key (keysIn q)) ≡ true = sym s ∙ t in rw (e, addKeys, n)
 
-pub found-yields : {r : Found} {p : Chosen} {b : Bool} (q : Chosen) → r ≡ FoundPair p → b ≡ noLater (key (keysIn p)) (key (keysIn q)) → b ≡ false → some (keysIn q) ≡ addKeys (foundIn r) (keysIn q)
+pub found-yields : {r : Best} {p : Chosen} {b : Bool} (q : Chosen) → r ≡ FoundPair p → b ≡ noLater (key (keysIn p)) (key (keysIn q)) → b ≡ false → some (keysIn q) ≡ addKeys (foundIn r) (keysIn q)
 unfolding addKeys
 found-yields {p} q e s t = let n : noLater (key (keysIn p)) (key (keysIn q)) ≡ false = sym s ∙ t in rw (e, addKeys, n)
 

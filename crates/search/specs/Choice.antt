@@ -11,11 +11,11 @@ use Rattle.lfa.specs.Lists.{below, select, flat}
 use Rattle.lfa.specs.Distance.{unreachable}
 use Rattle.lfa.specs.Space.{Protected, has, setOf}
 use Rattle.lfa.specs.Repair.{Keys, key, noLater, orElse, Outcome, prefixUnreachable, prefixUntouched, noneServes, chosen}
-use Rattle.search.specs.declared.Chosen.{Chosen}
+use Rattle.search.specs.declared.pair.Chosen.{Chosen}
+use Rattle.search.specs.declared.pair.Best.{Best}
+use Rattle.search.specs.declared.pair.Best.the-variants.{Nothing, Pair}
 use Rattle.search.specs.declared.Found.{Found}
-use Rattle.search.specs.declared.Found.the-variants.{Nothing, Pair}
-use Rattle.search.specs.declared.PrefixFound.{PrefixFound}
-use Rattle.search.specs.declared.PrefixFound.the-variants.{Unreachable, Untouched, Nothing as None, Pair as Serving}
+use Rattle.search.specs.declared.Found.the-variants.{Unreachable, Untouched, Nothing as None, Pair as Serving}
 use Rattle.search.specs.Spaces.{clearsTo}
 
 -- ---- what the code holds
@@ -24,7 +24,7 @@ use Rattle.search.specs.Spaces.{clearsTo}
 abbrev pub keysIn : Chosen → Keys
 keysIn p = record { class = p .class; distance = p .distance; endpoint = p .endpoint; tunnel = p .cost; hop = p .hop }
 
-abbrev pub foundIn : Found → Option Keys
+abbrev pub foundIn : Best → Option Keys
 foundIn Nothing = none
 foundIn (Pair p) = some (keysIn p)
 
@@ -33,11 +33,12 @@ abbrev pub outcomeFor : Option Keys → Outcome
 outcomeFor none = noneServes
 outcomeFor (some k) = chosen (k .hop) (k .endpoint) (k .class) (k .tunnel)
 
-abbrev pub prefixFoundIn : PrefixFound → Outcome
-prefixFoundIn Unreachable = prefixUnreachable
-prefixFoundIn Untouched = prefixUntouched
-prefixFoundIn None = noneServes
-prefixFoundIn (Serving p) = outcomeFor (some (keysIn p))
+-- the outcome of each case of what is found
+abbrev pub outcomeIn : Found → Outcome
+outcomeIn Unreachable = prefixUnreachable
+outcomeIn Untouched = prefixUntouched
+outcomeIn None = noneServes
+outcomeIn (Serving p) = chosen (p .first) (p .endpoint) (p .class) (p .cost)
 
 -- ---- the first of some keys, tried one after the other
 

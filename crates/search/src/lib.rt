@@ -14,7 +14,7 @@ use space::wide;
 ghost use mathlib.Core.Path.{_≡_};
 ghost use lib.ListN.{length};
 ghost use Rattle.search.specs.Spaces.{spaceNamed};
-ghost use Rattle.search.specs.Choice.{foundIn, outcomeFor, prefixFoundIn};
+ghost use Rattle.search.specs.Choice.{outcomeIn};
 ghost use Rattle.search.specs.Calls.{answered, prefixAnswered, areaBy, spaceBy, linkBy, prefixBy};
 
 mod fit;
@@ -29,28 +29,20 @@ pub enum Which {
     Q,
 }
 
-// A pair that serves: the first hop, the endpoint, the class, the tunnel cost, and the distance from S to the endpoint, by which pairs
-// of a class are ordered.
-pub struct Chosen {
-    pub hop: usize,
+// A pair that serves: the first hop, the endpoint, the class, and the tunnel cost.
+pub struct FoundPair {
+    pub first: usize,
     pub endpoint: usize,
     pub class: u32,
     pub cost: u32,
-    pub distance: u32,
 }
 
-// What a search found.
+// What a search found. Only a search for a prefix finds that it is unreachable or untouched.
 pub enum Found {
-    Nothing,
-    Pair(Chosen),
-}
-
-// What a search for a prefix found.
-pub enum PrefixFound {
     Unreachable,
     Untouched,
     Nothing,
-    Pair(Chosen),
+    Pair(FoundPair),
 }
 
 // One of the three spaces, as the set of its routers: router r is the bit of weight 2 to the power r.
@@ -79,7 +71,7 @@ pub fn space_in(which: Which, network: Network, link: usize, end: usize, work: &
 
 // The pair that repairs a link: around it, to its far router.
 pub fn link_pair(network: Network, link: usize, end: usize, work: &mut [u32]) -> Found
-    ensures { λ r. ⌜ (outcomeFor (foundIn r) ≡ linkBy network link end (length (now (work .entry))))
+    ensures { λ r. ⌜ (outcomeIn r ≡ linkBy network link end (length (now (work .entry))))
         × (now (work .exit) ≡ areaBy (answered network link end (length (now (work .entry)))) network (now (work .entry))) ⌝ }
 {
     if !answers(network, link, end, work.len()) {
@@ -107,15 +99,15 @@ pub fn prefix_pair(
     end: usize,
     prefix: usize,
     work: &mut [u32],
-) -> PrefixFound
-    ensures { λ r. ⌜ (prefixFoundIn r ≡ prefixBy network link end prefix (length (now (work .entry))))
+) -> Found
+    ensures { λ r. ⌜ (outcomeIn r ≡ prefixBy network link end prefix (length (now (work .entry))))
         × (now (work .exit) ≡ areaBy (prefixAnswered network link end prefix (length (now (work .entry)))) network (now (work .entry))) ⌝ }
 {
     if !answers(network, link, end, work.len()) {
-        return PrefixFound::Nothing;
+        return Found::Nothing;
     }
     if !holds_prefix(network, prefix) {
-        return PrefixFound::Nothing;
+        return Found::Nothing;
     }
     let routers = network.routers;
     let links = network.links;

@@ -10,15 +10,30 @@ ghost use Rattle.distance.specs.Columns.{arcsIn};
 ghost use Rattle.distance.specs.Area.{held, column, SlotsWithin, slotsIn};
 ghost use Rattle.search.specs.Known.{Readable, Known};
 ghost use Rattle.search.specs.Spaces.{asked, RoutersWithin};
-ghost use Rattle.search.specs.Choice.{keysIn, foundIn, outcomeFor, prefixFoundIn, addKeys, firstOf, classBy, keysAt, mayEnd, hopKeys, columnKeys};
-use crate::Chosen;
+ghost use Rattle.search.specs.Choice.{keysIn, foundIn, outcomeFor, outcomeIn, addKeys, firstOf, classBy, keysAt, mayEnd, hopKeys, columnKeys};
 use crate::Found;
-use crate::PrefixFound;
+use crate::FoundPair;
 use crate::space;
 use crate::space::ProtectedLink;
 use distance::Distance;
 use distance::towards_prefix;
 use distance::towards_router;
+
+// A pair that serves: the first hop, the endpoint, the class, the tunnel cost, and the distance from S to the endpoint, by which pairs
+// of a class are ordered.
+pub(crate) struct Chosen {
+    pub(crate) hop: usize,
+    pub(crate) endpoint: usize,
+    pub(crate) class: u32,
+    pub(crate) cost: u32,
+    pub(crate) distance: u32,
+}
+
+// The earliest of the pairs that were tried, if any was.
+pub(crate) enum Best {
+    Nothing,
+    Pair(Chosen),
+}
 
 // Whether a comes no later than b: the first of class, distance, endpoint, tunnel cost and first hop in which they differ decides.
 fn no_later(a: Chosen, b: Chosen) -> bool
@@ -40,16 +55,16 @@ fn no_later(a: Chosen, b: Chosen) -> bool
 }
 
 // The earlier of what was found and one pair more.
-fn earlier(best: Found, next: Chosen) -> Found
+fn earlier(best: Best, next: Chosen) -> Best
     ensures { λ r. ⌜ foundIn r ≡ addKeys (foundIn best) (keysIn next) ⌝ }
 {
-    let Found::Pair(pair) = best else {
-        return Found::Pair(next);
+    let Best::Pair(pair) = best else {
+        return Best::Pair(next);
     };
     if no_later(pair, next) {
-        return Found::Pair(pair);
+        return Best::Pair(pair);
     }
-    Found::Pair(next)
+    Best::Pair(next)
 }
 
 // 0 where the test passes, else the number.
@@ -112,8 +127,8 @@ fn over_hop(
     hop: usize,
     cost: u32,
     ends: u64,
-    before: Found,
-) -> Found
+    before: Best,
+) -> Best
     requires { ⌜ (n ≤ 64) × (n * n ≤ length (now dist)) × (near < n) × (hop < n) ⌝ }
     ensures { λ r. ⌜ foundIn r ≡ firstOf (foundIn before) (hopKeys (held n (now (dist .entry))) near far (λ x. getD (now (to .entry)) x 0) hop cost ends n) ⌝ }
 {
@@ -138,13 +153,13 @@ pub(crate) fn search(
     router: &[u8; 256],
     cost: &[u16; 256],
     mask: u64,
-) -> Found
+) -> Best
     requires { ⌜ Readable n (asked link) (now dist) × (count ≤ 256) × RoutersWithin n count (now router) ⌝ }
     ensures { λ r. ⌜ foundIn r ≡ firstOf none (columnKeys (held n (now (dist .entry))) (asked link) (λ x. getD (now (to .entry)) x 0) mask n count (now (router .entry)) (now (cost .entry))) ⌝ }
 {
     let near = link.near;
     let far = link.far;
-    let mut best = Found::Nothing;
+    let mut best = Best::Nothing;
     let mut i = 0;
     while i < count {
         let hop = space::wide(router[i]);
@@ -177,7 +192,7 @@ pub(crate) fn first_pair(
     back: &[u16; 128],
     link: ProtectedLink,
     target: &[u32; 64],
-) -> Found
+) -> Best
     requires { ⌜ (links ≤ 128) × Known n (arcsIn (now from) (now to) (now out) (now back) links) (asked link) (now dist) ⌝ }
     ensures { λ r. ⌜ ((t : Target) → now (target .entry) ≡ column n (towards (held n (now (dist .entry))) t)
         → outcomeFor (foundIn r) ≡ outcomeOf (held n (now (dist .entry))) (asked link) t
@@ -192,6 +207,21 @@ pub(crate) fn first_pair(
     search(dist, n, link, target, count, &router, &cost, mask)
 }
 
+// What was found, told without the distance that ordered it.
+fn told(best: Best) -> Found
+    ensures { λ r. ⌜ outcomeIn r ≡ outcomeFor (foundIn best) ⌝ }
+{
+    let Best::Pair(pair) = best else {
+        return Found::Nothing;
+    };
+    Found::Pair(FoundPair {
+        first: pair.hop,
+        endpoint: pair.endpoint,
+        class: pair.class,
+        cost: pair.cost,
+    })
+}
+
 // What a link repair finds: its target is E.
 pub(crate) fn link_found<'a>(
     dist: &[u32],
@@ -204,11 +234,12 @@ pub(crate) fn link_found<'a>(
     link: ProtectedLink,
 ) -> Found
     requires { ⌜ (links ≤ 128) × Known n (arcsIn (now from) (now to) (now out) (now back) links) (asked link) (now dist) ⌝ }
-    ensures { λ r. ⌜ outcomeFor (foundIn r) ≡ linkOutcome n (arcsIn (now (from .entry)) (now (to .entry)) (now (out .entry)) (now (back .entry)) links) (held n (now (dist .entry))) (asked link) ⌝ }
+    ensures { λ r. ⌜ outcomeIn r ≡ linkOutcome n (arcsIn (now (from .entry)) (now (to .entry)) (now (out .entry)) (now (back .entry)) links) (held n (now (dist .entry))) (asked link) ⌝ }
 {
     let far = link.far;
     let target = towards_router(dist, n, far);
-    first_pair(dist, n, links, from, to, out, back, link, &target)
+    let best = first_pair(dist, n, links, from, to, out, back, link, &target);
+    told(best)
 }
 
 // What a prefix repair finds for the prefix whose attachments start at slot `first`.
@@ -225,22 +256,19 @@ pub(crate) fn prefix_found<'a>(
     own: &'a [u16; 1024],
     first: usize,
     count: usize,
-) -> PrefixFound
+) -> Found
     requires { ⌜ (links ≤ 128) × Known n (arcsIn (now from) (now to) (now out) (now back) links) (asked link) (now dist) × SlotsWithin n first count (now at) ⌝ }
-    ensures { λ r. ⌜ prefixFoundIn r ≡ prefixOutcome n (arcsIn (now (from .entry)) (now (to .entry)) (now (out .entry)) (now (back .entry)) links) (held n (now (dist .entry))) (asked link)
+    ensures { λ r. ⌜ outcomeIn r ≡ prefixOutcome n (arcsIn (now (from .entry)) (now (to .entry)) (now (out .entry)) (now (back .entry)) links) (held n (now (dist .entry))) (asked link)
         (slotsIn (now (at .entry)) (now (own .entry)) first count) ⌝ }
 {
     let near = link.near;
     let target = towards_prefix(dist, n, at, own, first, count);
     if target[near] == Distance::UNREACHABLE {
-        return PrefixFound::Unreachable;
+        return Found::Unreachable;
     }
     if !space::may_cross(&target, link) {
-        return PrefixFound::Untouched;
+        return Found::Untouched;
     }
-    let found = first_pair(dist, n, links, from, to, out, back, link, &target);
-    let Found::Pair(pair) = found else {
-        return PrefixFound::Nothing;
-    };
-    PrefixFound::Pair(pair)
+    let best = first_pair(dist, n, links, from, to, out, back, link, &target);
+    told(best)
 }

@@ -56,8 +56,8 @@ link-named c = sym (c .before .named .ensures) ∙ not-false _ (c .if1 .left)
 link-pair-requires : tie.Need-link-pair-requires
 link-pair-requires c κs = search needs
 
-link-answer-requires : tie.Need-link-answer-requires
-link-answer-requires c κs = search needs
+repair-answer-requires : tie.Need-repair-answer-requires
+repair-answer-requires c κs = search needs
 
 same-length : tie.Need-same-length
 same-length c = search needs
@@ -67,7 +67,7 @@ returns-3 c =
     let passed = c .before .before .before .before .before in
     let r = ready (passed .before .before .before) in
     let a = link-answered (r .0) _ _ (link-named passed) (passed .before .before .before .before .before .before .before .before .args .work .now) (r .1) (c .before .before .before .link-pair .ensures) in
-    (c .link-answer .ensures ∙ a .0, a .1)
+    (c .repair-answer .ensures ∙ a .0, a .1)
 
 pub link-repair-spec : {M : Type 1} → statement M
 link-repair-spec =
@@ -80,6 +80,6 @@ link-repair-spec =
     named-requires
     returns-2
     link-pair-requires
-    link-answer-requires
+    repair-answer-requires
     same-length
     returns-3)

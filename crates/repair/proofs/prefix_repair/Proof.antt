@@ -63,8 +63,8 @@ returns-3 c =
 prefix-pair-requires : tie.Need-prefix-pair-requires
 prefix-pair-requires c κs = search needs
 
-prefix-answer-requires : tie.Need-prefix-answer-requires
-prefix-answer-requires c κs = search needs
+repair-answer-requires : tie.Need-repair-answer-requires
+repair-answer-requires c κs = search needs
 
 same-length : tie.Need-same-length
 same-length c = search needs
@@ -74,7 +74,7 @@ returns-4 c =
     let passed = c .before .before .before .before .before in
     let r = ready (passed .before .before .before .before) in
     let a = prefix-answered (r .0) _ _ (link-named (passed .before)) (passed .before .before .before .before .before .before .before .before .before .args .work .now) (r .1) _ (passed .if2 .left) (c .before .before .before .prefix-pair .ensures) in
-    (c .prefix-answer .ensures ∙ a .0, a .1)
+    (c .repair-answer .ensures ∙ a .0, a .1)
 
 pub prefix-repair-spec : {M : Type 1} → statement M
 prefix-repair-spec =
@@ -88,6 +88,6 @@ prefix-repair-spec =
     returns-2
     returns-3
     prefix-pair-requires
-    prefix-answer-requires
+    repair-answer-requires
     same-length
     returns-4)

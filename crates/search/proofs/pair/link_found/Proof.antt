@@ -1,5 +1,6 @@
 -- `search::pair::link_found` meets its contract. The target is E.
 -- Assumes nothing.
+use mathlib.Core.Path.{_∙_}
 use mathlib.Core.List.{List}
 use borrow.Author.Needs.{needs}
 use Rattle.lfa.specs.Network.{Arc, router}
@@ -26,12 +27,15 @@ towards-router-requires c κs = search needs
 first-pair-requires : tie.Need-first-pair-requires
 first-pair-requires c κs = search needs
 
+told-requires : tie.Need-told-requires
+told-requires c κs = search needs
+
 returns : tie.Need-returns
 unfolding linkOutcome
 returns c =
-    let s = c .before .before .before .before in
+    let s = c .before .before .before .before .before in
     let r = known s in
-    c .first-pair .ensures (router (s .args .link .far)) (router-known _ _ (r .few) (r .long) _ (r .far-in) (c .before .before .towards-router .ensures))
+    c .told .ensures ∙ c .before .first-pair .ensures (router (s .args .link .far)) (router-known _ _ (r .few) (r .long) _ (r .far-in) (c .before .before .before .towards-router .ensures))
 
 pub link-found-spec : {M : Type 1} → statement M
-link-found-spec = tie.close (tie.spec towards-router-requires first-pair-requires returns)
+link-found-spec = tie.close (tie.spec towards-router-requires first-pair-requires told-requires returns)

@@ -1,7 +1,7 @@
 -- `search::pair::prefix_found` meets its contract. Unreachable, untouched, or what the search finds.
 -- Assumes nothing.
+use mathlib.Core.Path.{_∙_, _≡_}
 use mathlib.Core.List.{List}
-use mathlib.Core.Path.{_≡_}
 use native.Mathlib.Omega.{arith}
 use borrow.Author.Tests.{not-true, not-false}
 use borrow.Author.Needs.{needs}
@@ -14,7 +14,6 @@ use Rattle.distance.specs.Laws.Calls.{prefix-known}
 use Rattle.search.specs.Known.{Readable}
 use Rattle.search.specs.Spaces.{asked}
 use Rattle.search.specs.Choice.{foundIn, outcomeFor}
-use Rattle.search.proofs.ChoiceLaws.{nothing-outcome, pair-outcome}
 use Rattle.search.proofs.KnownLaws.{readable, prefix-unreachable, prefix-untouched, prefix-searched}
 use Rattle.search.proofs.pair.prefix_found.Statement.{statement}
 use Rattle.search.proofs.pair.prefix_found.Tie as tie
@@ -70,11 +69,8 @@ returns-2 c =
 first-pair-requires : tie.Need-first-pair-requires
 first-pair-requires c κs = search needs
 
-enum-known-found : tie.Need-enum-known-found
-enum-known-found c = search needs
-
-enum-told : tie.Need-enum-told
-enum-told c = search needs
+told-requires : tie.Need-told-requires
+told-requires c κs = search needs
 
 -- what the search found is the outcome
 searched : (c : tie.After-first-pair) →
@@ -88,10 +84,7 @@ searched c =
     (c .before .before .before .before .before .if1 .left) (c .before .before .before .may-cross .ensures) (not-false _ (c .before .before .if2 .left)) (c .first-pair .ensures (target s) (column-is p))
 
 returns-3 : tie.Need-returns-3
-returns-3 c = nothing-outcome (c .before .before .first-pair .result) (c .before .match .keys2) (searched (c .before .before))
-
-returns-4 : tie.Need-returns-4
-returns-4 c = pair-outcome (c .before .found .given .1) (searched (c .before .before .before))
+returns-3 c = c .told .ensures ∙ searched (c .before)
 
 pub prefix-found-spec : {M : Type 1} → statement M
 prefix-found-spec =
@@ -104,7 +97,5 @@ prefix-found-spec =
     may-cross-requires
     returns-2
     first-pair-requires
-    enum-known-found
-    enum-told
-    returns-3
-    returns-4)
+    told-requires
+    returns-3)
