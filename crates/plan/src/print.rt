@@ -15,7 +15,7 @@ pub(crate) fn end() {
 // Prints the line of a refusal.
 pub(crate) fn refused(row: Row) {
     io::write_all(1, b"refused");
-    number(row.number);
+    number(row.number as usize);
     number(row.value);
     end();
 }

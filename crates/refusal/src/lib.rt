@@ -8,11 +8,11 @@ ghost use Rattle.repair.specs.Answer.{refusalAnswer};
 
 // A row of the table of refusals: its number, and the value that it returns.
 pub struct Row {
-    pub number: usize,
+    pub number: u32,
     pub value: usize,
 }
 
-fn numbered(number: usize, value: usize) -> Row
+fn numbered(number: u32, value: usize) -> Row
     ensures { λ r. ⌜ refused (r .number) (r .value) ≡ refused number value ⌝ }
 {
     Row { number, value }

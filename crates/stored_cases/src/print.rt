@@ -25,7 +25,7 @@ pub(crate) fn end() {
 // Prints a refusal: the number of the row that applies, and the value that it returns.
 fn refused(row: Row) {
     io::write_all(1, b"refused");
-    number(row.number);
+    number(row.number as usize);
     number(row.value);
 }
 

@@ -1,0 +1,2 @@
+mod CopyLaws
+mod PartLaws

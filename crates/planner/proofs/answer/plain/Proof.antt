@@ -1,0 +1,13 @@
+-- `planner::answer::plain` meets its contract: the fields stand where the definition has them.
+-- Assumes nothing.
+use mathlib.Core.Path.{refl}
+use Rattle.planner.specs.Numbers.{plain}
+use Rattle.planner.proofs.answer.plain.Statement.{statement}
+use Rattle.planner.proofs.answer.plain.Tie as tie
+
+returns : tie.Need-returns
+unfolding plain
+returns c = refl
+
+pub plain-spec : {M : Type 1} → statement M
+plain-spec = tie.close (tie.spec returns)

@@ -1,0 +1,23 @@
+-- `planner::planner_prefix_repair` meets its contract: the answer of the call, as numbers.
+-- Assumes nothing.
+use mathlib.Core.Path.{_∙_, ap}
+use Rattle.planner.specs.Numbers.{numbersOf}
+use borrow.Author.Needs.{needs}
+use Rattle.planner.proofs.planner_prefix_repair.Statement.{statement}
+use Rattle.planner.proofs.planner_prefix_repair.Tie as tie
+
+prefix-repair-requires : tie.Need-prefix-repair-requires
+prefix-repair-requires c κs = search needs
+
+repair-numbers-requires : tie.Need-repair-numbers-requires
+repair-numbers-requires c κs = search needs
+
+same-length : tie.Need-same-length
+same-length c = search needs
+
+returns : tie.Need-returns
+returns c = let answered = c .before .before .before .prefix-repair .ensures in (c .repair-numbers .ensures ∙ ap numbersOf (answered .0), answered .1)
+
+pub planner-prefix-repair-spec : {M : Type 1} → statement M
+planner-prefix-repair-spec =
+    tie.close (tie.spec prefix-repair-requires repair-numbers-requires same-length returns)

@@ -1,0 +1,197 @@
+// The planner for programs in other languages: each public call as a C function, its answer as numbers, its buffers as pointer and
+// length. `include/planner.h` tells C programs the same.
+use answer::Numbers;
+use answer::filled_numbers;
+use answer::played_numbers;
+use answer::repair_numbers;
+use answer::space_numbers;
+use answer::verdict_numbers;
+use copy::copy_part;
+use network_file::link_entry;
+use network_file::load;
+use network_file::prefix_entry;
+use repair::distances;
+use repair::extended_p_space;
+use repair::link_repair;
+use repair::p_space;
+use repair::prefix_repair;
+use repair::q_space;
+use repair::size;
+use route::route;
+ghost use mathlib.Core.Path.{_≡_};
+ghost use lib.ListN.{length};
+ghost use Rattle.lfa.specs.Space.{pSpace, extendedP, qSpace, sizeOf};
+ghost use Rattle.lfa.specs.Refusal.{loading, filling, askSpace, askLink, askPrefix, askRoute, answerTo, workAfter, routeAfter, networkLoaded, linkPart, prefixPart};
+ghost use Rattle.network_file.specs.Struct.{structOf};
+ghost use Rattle.planner.specs.Numbers.{numbersOf, loadedAs};
+ghost use Rattle.planner.specs.Copied.{copiedTo};
+
+pub mod answer;
+mod copy;
+
+// The verdict on a file as numbers, and the network that the file holds.
+#[repr(C)]
+pub struct LoadedNetwork {
+    pub kind: u32,
+    pub number: u32,
+    pub value: u64,
+    pub routers: usize,
+    pub links: usize,
+    pub prefixes: usize,
+    pub from: [u8; 128],
+    pub to: [u8; 128],
+    pub out: [u16; 128],
+    pub back: [u16; 128],
+    pub attached: [u8; 128],
+    pub at: [u8; 1024],
+    pub own: [u16; 1024],
+}
+
+// Judges a file and hands over its network.
+#[no_mangle]
+pub extern "C" fn planner_load(file: &[u8]) -> LoadedNetwork
+    ensures { λ r. ⌜ r ≡ loadedAs (numbersOf (answerTo (loading (now (file .entry))))) (structOf (networkLoaded (now (file .entry)))) ⌝ }
+{
+    let loaded = load(file);
+    let verdict = loaded.verdict;
+    let answer = verdict_numbers(verdict);
+    let network = loaded.network;
+    let from = network.from;
+    let to = network.to;
+    let out = network.out;
+    let back = network.back;
+    let attached = network.attached;
+    let at = network.at;
+    let own = network.own;
+    LoadedNetwork {
+        kind: answer.kind,
+        number: answer.number,
+        value: answer.value,
+        routers: network.routers,
+        links: network.links,
+        prefixes: network.prefixes,
+        from,
+        to,
+        out,
+        back,
+        attached,
+        at,
+        own,
+    }
+}
+
+// Copies the bytes of a link's entry into the buffer, and tells how many they are.
+#[no_mangle]
+pub extern "C" fn planner_link_entry(file: &[u8], link: usize, entry: &mut [u8; 34]) -> usize
+    ensures { λ r. ⌜ (r ≡ length (linkPart (now (file .entry)) link))
+        × (now (entry .exit) ≡ copiedTo (now (entry .entry)) (linkPart (now (file .entry)) link)) ⌝ }
+{
+    let part = link_entry(file, link);
+    copy_part(part, entry)
+}
+
+// Copies the bytes of a prefix's entry into the buffer, and tells how many they are.
+#[no_mangle]
+pub extern "C" fn planner_prefix_entry(file: &[u8], prefix: usize, entry: &mut [u8; 34]) -> usize
+    ensures { λ r. ⌜ (r ≡ length (prefixPart (now (file .entry)) prefix))
+        × (now (entry .exit) ≡ copiedTo (now (entry .entry)) (prefixPart (now (file .entry)) prefix)) ⌝ }
+{
+    let part = prefix_entry(file, prefix);
+    copy_part(part, entry)
+}
+
+// Fills the work area with the distances between the routers of a file.
+#[no_mangle]
+pub extern "C" fn planner_distances(file: &[u8], work: &mut [u32]) -> Numbers
+    ensures { λ r. ⌜ (r ≡ numbersOf (answerTo (filling (now (file .entry)) (length (now (work .entry))))))
+        × (now (work .exit) ≡ workAfter (filling (now (file .entry)) (length (now (work .entry)))) (now (work .entry))) ⌝ }
+{
+    filled_numbers(distances(file, work))
+}
+
+// P space, as a set.
+#[no_mangle]
+pub extern "C" fn planner_p_space(file: &[u8], work: &mut [u32], link: usize, end: usize) -> Numbers
+    ensures { λ r. ⌜ (r ≡ numbersOf (answerTo (askSpace pSpace (now (file .entry)) (length (now (work .entry))) link end)))
+        × (now (work .exit) ≡ workAfter (askSpace pSpace (now (file .entry)) (length (now (work .entry))) link end) (now (work .entry))) ⌝ }
+{
+    space_numbers(p_space(file, work, link, end))
+}
+
+// Extended P space, as a set.
+#[no_mangle]
+pub extern "C" fn planner_extended_p_space(
+    file: &[u8],
+    work: &mut [u32],
+    link: usize,
+    end: usize,
+) -> Numbers
+    ensures { λ r. ⌜ (r ≡ numbersOf (answerTo (askSpace extendedP (now (file .entry)) (length (now (work .entry))) link end)))
+        × (now (work .exit) ≡ workAfter (askSpace extendedP (now (file .entry)) (length (now (work .entry))) link end) (now (work .entry))) ⌝ }
+{
+    space_numbers(extended_p_space(file, work, link, end))
+}
+
+// Q space, as a set.
+#[no_mangle]
+pub extern "C" fn planner_q_space(file: &[u8], work: &mut [u32], link: usize, end: usize) -> Numbers
+    ensures { λ r. ⌜ (r ≡ numbersOf (answerTo (askSpace qSpace (now (file .entry)) (length (now (work .entry))) link end)))
+        × (now (work .exit) ≡ workAfter (askSpace qSpace (now (file .entry)) (length (now (work .entry))) link end) (now (work .entry))) ⌝ }
+{
+    space_numbers(q_space(file, work, link, end))
+}
+
+// The number of routers in a set.
+#[no_mangle]
+pub extern "C" fn planner_size(set: u64) -> u32
+    ensures { λ r. ⌜ r ≡ sizeOf set ⌝ }
+{
+    size(set)
+}
+
+// The pair that repairs a link.
+#[no_mangle]
+pub extern "C" fn planner_link_repair(
+    file: &[u8],
+    work: &mut [u32],
+    link: usize,
+    end: usize,
+) -> Numbers
+    ensures { λ r. ⌜ (r ≡ numbersOf (answerTo (askLink (now (file .entry)) (length (now (work .entry))) link end)))
+        × (now (work .exit) ≡ workAfter (askLink (now (file .entry)) (length (now (work .entry))) link end) (now (work .entry))) ⌝ }
+{
+    repair_numbers(link_repair(file, work, link, end))
+}
+
+// The pair that repairs the traffic to a prefix.
+#[no_mangle]
+pub extern "C" fn planner_prefix_repair(
+    file: &[u8],
+    work: &mut [u32],
+    link: usize,
+    end: usize,
+    prefix: usize,
+) -> Numbers
+    ensures { λ r. ⌜ (r ≡ numbersOf (answerTo (askPrefix (now (file .entry)) (length (now (work .entry))) link end prefix)))
+        × (now (work .exit) ≡ workAfter (askPrefix (now (file .entry)) (length (now (work .entry))) link end prefix) (now (work .entry))) ⌝ }
+{
+    repair_numbers(prefix_repair(file, work, link, end, prefix))
+}
+
+// Plays the route of the pair that repairs the traffic to a prefix, and writes its routers into the buffer.
+#[no_mangle]
+pub extern "C" fn planner_route(
+    file: &[u8],
+    work: &mut [u32],
+    link: usize,
+    end: usize,
+    prefix: usize,
+    choices: &[u8],
+    buffer: &mut [u8],
+) -> Numbers
+    ensures { λ r. ⌜ (r ≡ numbersOf (answerTo (askRoute (now (file .entry)) (length (now (work .entry))) (length (now (buffer .entry))) link end prefix (now (choices .entry)))))
+        × (now (work .exit) ≡ workAfter (askRoute (now (file .entry)) (length (now (work .entry))) (length (now (buffer .entry))) link end prefix (now (choices .entry))) (now (work .entry)))
+        × (now (buffer .exit) ≡ routeAfter (askRoute (now (file .entry)) (length (now (work .entry))) (length (now (buffer .entry))) link end prefix (now (choices .entry))) (now (buffer .entry))) ⌝ }
+{
+    played_numbers(route(file, work, link, end, prefix, choices, buffer))
+}

@@ -1,0 +1,107 @@
+/* The repair planner, for programs in C. Link with target/staticlib/libplanner.a, which `rt staticlib planner` writes.
+ *
+ * Of every call:
+ * - It returns, for all inputs. It keeps nothing between calls, allocates nothing, and reads no clock and no file.
+ * - A buffer is lent as a pointer and its length in cells, for the time of the call. The buffers of one call must not overlap each
+ *   other. A null pointer with length 0 is a buffer of no cells.
+ * - `file` is a network file as document 01 lays it out, and is never changed. Any bytes may be passed: they are judged first.
+ * - `work` is the work area. Where the file has N routers, the first N * N cells receive the distances, row by row: cell x * N + t is
+ *   the distance from router x to router t, and 4294967295 where no path leads. The cells after them stay as they were. A call that
+ *   is refused by one of the rows 1 to 13 leaves every cell of every buffer as it was.
+ * - `link` is the number of a link in file order, `end` is 0 where its first router is S and 1 where its second is, and `prefix` is the
+ *   number of a prefix in file order. */
+#ifndef PLANNER_H
+#define PLANNER_H
+
+#include <stddef.h>
+#include <stdint.h>
+
+#ifdef __cplusplus
+extern "C" {
+#endif
+
+/* The kinds of an answer. */
+enum {
+    PLANNER_REFUSED = 0,     /* number and value are those of the table of refusals */
+    PLANNER_ACCEPTED = 1,    /* the file is sound */
+    PLANNER_DONE = 2,        /* the distances are in the work area */
+    PLANNER_UNREACHABLE = 3, /* the prefix cannot be reached from S */
+    PLANNER_UNTOUCHED = 4,   /* no packet from S to the prefix crosses the link */
+    PLANNER_SET = 5,         /* value is the set */
+    PLANNER_PAIR = 6,        /* first, endpoint, pair_class and cost are those of the pair */
+    PLANNER_PLAYED = 7       /* value is the number of routers written */
+};
+
+/* An answer. A field of which its kind does not speak is 0. */
+typedef struct {
+    uint32_t kind;
+    uint32_t number;     /* the row of the table of refusals, 1 to 14 */
+    uint64_t value;      /* the value of a refusal, a set, or a number of routers */
+    size_t first;        /* the first hop */
+    size_t endpoint;     /* the tunnel's endpoint */
+    uint32_t pair_class; /* the class, 0 to 3 */
+    uint32_t cost;       /* the tunnel cost */
+} planner_answer;
+
+/* The network that a file holds. Link k joins from[k] and to[k], at cost out[k] one way and back[k] the other. Prefix p has
+ * attached[p] attachments; its slot s is cell 8 * p + s of at (the router) and of own (its cost). Every other cell is 0. */
+typedef struct {
+    uint32_t kind;   /* PLANNER_ACCEPTED or PLANNER_REFUSED */
+    uint32_t number; /* the row of the table of refusals, 1 to 9, or 0 */
+    uint64_t value;  /* the value of a refusal, or 0 */
+    size_t routers;
+    size_t links;
+    size_t prefixes;
+    uint8_t from[128];
+    uint8_t to[128];
+    uint16_t out[128];
+    uint16_t back[128];
+    uint8_t attached[128];
+    uint8_t at[1024];
+    uint16_t own[1024];
+} planner_network;
+
+/* Judges a file and hands over its network. Of a refused file every number of the network is 0. */
+planner_network planner_load(const uint8_t *file, size_t file_len);
+
+/* Copies the bytes of a link's entry into the 34 bytes at `entry`, and returns how many they are: 6, or 0 for a refused file or a link
+ * number too large. The bytes after them stay as they were. `entry` is not null. */
+size_t planner_link_entry(const uint8_t *file, size_t file_len, size_t link, uint8_t *entry);
+
+/* The same for a prefix's entry: 34 bytes, or 0 for a refused file or a prefix number too large. */
+size_t planner_prefix_entry(const uint8_t *file, size_t file_len, size_t prefix, uint8_t *entry);
+
+/* Leaves the distances in the work area: PLANNER_DONE, or a refusal by rows 1 to 10. */
+planner_answer planner_distances(const uint8_t *file, size_t file_len, uint32_t *work, size_t work_len);
+
+/* P space, extended P space and Q space of a link, seen from one end: PLANNER_SET, where router r is the bit of weight 2 to the power
+ * r of `value`, or a refusal by rows 1 to 10 or 12. Leaves the distances in the work area. */
+planner_answer planner_p_space(const uint8_t *file, size_t file_len, uint32_t *work, size_t work_len, size_t link, size_t end);
+planner_answer planner_extended_p_space(const uint8_t *file, size_t file_len, uint32_t *work, size_t work_len, size_t link,
+                                        size_t end);
+planner_answer planner_q_space(const uint8_t *file, size_t file_len, uint32_t *work, size_t work_len, size_t link, size_t end);
+
+/* The number of routers in a set. */
+uint32_t planner_size(uint64_t set);
+
+/* The pair that repairs a link, around it, to its far router: PLANNER_PAIR, or a refusal by rows 1 to 10, 12 or 14. Leaves the
+ * distances in the work area, where row 14 refuses too. */
+planner_answer planner_link_repair(const uint8_t *file, size_t file_len, uint32_t *work, size_t work_len, size_t link, size_t end);
+
+/* The pair that repairs the traffic from S to a prefix: PLANNER_PAIR, PLANNER_UNREACHABLE, PLANNER_UNTOUCHED, or a refusal by rows 1
+ * to 10, 12, 13 or 14. Leaves the distances in the work area, where row 14 refuses too. */
+planner_answer planner_prefix_repair(const uint8_t *file, size_t file_len, uint32_t *work, size_t work_len, size_t link, size_t end,
+                                     size_t prefix);
+
+/* Plays the route of a packet from S to a prefix by the pair that repairs it: PLANNER_PLAYED, PLANNER_UNREACHABLE, PLANNER_UNTOUCHED,
+ * or a refusal by rows 1 to 14. The bytes at `choices` decide between options, and are 0 after the last. Writes the routers that the
+ * packet visits, S first, into `route`, and leaves the bytes after them as they were; only PLANNER_PLAYED writes there. Leaves the
+ * distances in the work area, where row 14 refuses too. */
+planner_answer planner_route(const uint8_t *file, size_t file_len, uint32_t *work, size_t work_len, size_t link, size_t end,
+                             size_t prefix, const uint8_t *choices, size_t choices_len, uint8_t *route, size_t route_len);
+
+#ifdef __cplusplus
+}
+#endif
+
+#endif
