@@ -1,0 +1,185 @@
+//! The calls of the planner. This is the only module that calls the C interface.
+//!
+//! Every call takes every input and returns. What it asks of its pointers is the same each time:
+//! each has to be good for its length for the time of the call, and the buffers of one call may
+//! not overlap. A slice's pointer and length are good by the slice's type, and an exclusive slice
+//! overlaps no other; `route` alone is lent two shared ones. The pointer of an empty slice points
+//! nowhere, but its length is 0, so that nothing is read or written there.
+
+use crate::answer::{self, Pair, Played, Repair, Set};
+use crate::file::{LINK_ENTRY, PREFIX_ENTRY};
+use crate::network::{Network, MOST_ROUTERS};
+use crate::raw;
+use crate::refusal::Refusal;
+use std::borrow::Cow;
+
+/// Cells of a work area that is enough for every network.
+pub const WORK_CELLS: usize = MOST_ROUTERS * MOST_ROUTERS;
+
+/// Bytes of a route buffer that is enough for every network.
+pub const ROUTE_BYTES: usize = 2 * MOST_ROUTERS;
+
+/// The distance between routers that no path joins.
+pub const UNREACHABLE: u32 = u32::MAX;
+
+/// Judges a network file and hands over its network, or a refusal by the rows 1 to 9.
+pub fn load(file: &[u8]) -> Result<Network, Refusal> {
+    // SAFETY: the pointer and length are those of one slice; see the top of this module.
+    let network = unsafe { raw::planner_load(file.as_ptr(), file.len()) };
+    answer::network(&network)
+}
+
+/// The bytes of a link's entry, or none for a refused file or a link number too large.
+pub fn link_entry(file: &[u8], link: usize) -> Option<[u8; LINK_ENTRY]> {
+    let mut entry = [0; PREFIX_ENTRY];
+    // SAFETY: the file's pointer and length are those of one slice, and `entry` is a buffer of its
+    // own with the 34 bytes that the call may write.
+    let written =
+        unsafe { raw::planner_link_entry(file.as_ptr(), file.len(), link, entry.as_mut_ptr()) };
+    entry[..written].try_into().ok()
+}
+
+/// The bytes of a prefix's entry, or none for a refused file or a prefix number too large.
+pub fn prefix_entry(file: &[u8], prefix: usize) -> Option<[u8; PREFIX_ENTRY]> {
+    let mut entry = [0; PREFIX_ENTRY];
+    // SAFETY: the file's pointer and length are those of one slice, and `entry` is a buffer of its
+    // own with the 34 bytes that the call may write.
+    let written =
+        unsafe { raw::planner_prefix_entry(file.as_ptr(), file.len(), prefix, entry.as_mut_ptr()) };
+    entry[..written].try_into().ok()
+}
+
+/// Leaves the distances in the work area, or refuses by the rows 1 to 10.
+///
+/// Where the file has N routers, cell x * N + t receives the distance from router x to router t,
+/// [`UNREACHABLE`] where no path leads. The cells after the first N * N stay as they were.
+pub fn distances(file: &[u8], work: &mut [u32]) -> Result<(), Refusal> {
+    // SAFETY: pointers and lengths are those of two slices that do not overlap.
+    let answer =
+        unsafe { raw::planner_distances(file.as_ptr(), file.len(), work.as_mut_ptr(), work.len()) };
+    answer::done(answer)
+}
+
+/// P-space of a link seen from one end: the routers that S reaches by no walk that crosses the
+/// link. Refuses by the rows 1 to 10 and 12, and else leaves the distances in the work area.
+pub fn p_space(file: &[u8], work: &mut [u32], link: usize, end: usize) -> Result<Set, Refusal> {
+    let (bytes, cells) = (file.len(), work.len());
+    // SAFETY: pointers and lengths are those of two slices that do not overlap.
+    let answer =
+        unsafe { raw::planner_p_space(file.as_ptr(), bytes, work.as_mut_ptr(), cells, link, end) };
+    answer::set(answer)
+}
+
+/// Extended P-space of a link seen from one end: the routers that some neighbour of S other than E
+/// reaches by no walk that crosses the link. Refuses and leaves as [`p_space`] does.
+pub fn extended_p_space(
+    file: &[u8],
+    work: &mut [u32],
+    link: usize,
+    end: usize,
+) -> Result<Set, Refusal> {
+    let (bytes, cells) = (file.len(), work.len());
+    // SAFETY: pointers and lengths are those of two slices that do not overlap.
+    let answer = unsafe {
+        raw::planner_extended_p_space(file.as_ptr(), bytes, work.as_mut_ptr(), cells, link, end)
+    };
+    answer::set(answer)
+}
+
+/// Q-space of a link seen from one end: the routers that reach E by no walk that crosses the link.
+/// Refuses and leaves as [`p_space`] does.
+pub fn q_space(file: &[u8], work: &mut [u32], link: usize, end: usize) -> Result<Set, Refusal> {
+    let (bytes, cells) = (file.len(), work.len());
+    // SAFETY: pointers and lengths are those of two slices that do not overlap.
+    let answer =
+        unsafe { raw::planner_q_space(file.as_ptr(), bytes, work.as_mut_ptr(), cells, link, end) };
+    answer::set(answer)
+}
+
+/// The pair that repairs a link: its packets go around it to its far router E.
+///
+/// Refuses by the rows 1 to 10, 12 and 14. Leaves the distances in the work area, also where row
+/// 14 refuses.
+pub fn link_repair(
+    file: &[u8],
+    work: &mut [u32],
+    link: usize,
+    end: usize,
+) -> Result<Pair, Refusal> {
+    let (bytes, cells) = (file.len(), work.len());
+    // SAFETY: pointers and lengths are those of two slices that do not overlap.
+    let answer = unsafe {
+        raw::planner_link_repair(file.as_ptr(), bytes, work.as_mut_ptr(), cells, link, end)
+    };
+    answer::pair(answer)
+}
+
+/// What repairs the traffic from S to a prefix.
+///
+/// Refuses by the rows 1 to 10, 12, 13 and 14. Leaves the distances in the work area, also where
+/// row 14 refuses.
+pub fn prefix_repair(
+    file: &[u8],
+    work: &mut [u32],
+    link: usize,
+    end: usize,
+    prefix: usize,
+) -> Result<Repair, Refusal> {
+    let (bytes, cells) = (file.len(), work.len());
+    // SAFETY: pointers and lengths are those of two slices that do not overlap.
+    let answer = unsafe {
+        raw::planner_prefix_repair(
+            file.as_ptr(),
+            bytes,
+            work.as_mut_ptr(),
+            cells,
+            link,
+            end,
+            prefix,
+        )
+    };
+    answer::repair(answer)
+}
+
+/// Plays the route of a packet from S to a prefix by the pair that repairs it, and writes the
+/// routers that it visits into `route`, S first. The bytes after them stay as they were.
+///
+/// The choice bytes decide between equal hops, each modulo the number of options; after the last
+/// they count as 0. Refuses by the rows 1 to 14. Leaves the distances in the work area, also where
+/// row 14 refuses.
+pub fn route(
+    file: &[u8],
+    work: &mut [u32],
+    link: usize,
+    end: usize,
+    prefix: usize,
+    choices: &[u8],
+    route: &mut [u8],
+) -> Result<Played, Refusal> {
+    // Two shared slices may overlap in Rust, but the buffers of one call may not.
+    let choices =
+        if overlap(file, choices) { Cow::from(choices.to_vec()) } else { Cow::from(choices) };
+    // SAFETY: pointers and lengths are those of four slices that do not overlap.
+    let answer = unsafe {
+        raw::planner_route(
+            file.as_ptr(),
+            file.len(),
+            work.as_mut_ptr(),
+            work.len(),
+            link,
+            end,
+            prefix,
+            choices.as_ptr(),
+            choices.len(),
+            route.as_mut_ptr(),
+            route.len(),
+        )
+    };
+    answer::played(answer)
+}
+
+/// Whether two slices share a byte.
+fn overlap(one: &[u8], other: &[u8]) -> bool {
+    let (one, other) = (one.as_ptr_range(), other.as_ptr_range());
+    one.start < other.end && other.start < one.end
+}

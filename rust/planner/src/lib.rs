@@ -1,0 +1,62 @@
+//! The repair planner for programs in Rust: a safe interface of the proved library, which
+//! `rt staticlib planner` writes.
+//!
+//! A network file comes as bytes. Every call judges it first and answers with a [`Refusal`] where
+//! the file is not sound or the question asks for what is not there. The calls that compute are
+//! lent a work area, which receives the distances; [`WORK_CELLS`] cells are enough for every file.
+//!
+//! A question names a link and an end: 0 makes the link's router a the repairing router S and its
+//! router b the far router E, 1 the reverse.
+//!
+//! ```
+//! use planner::{Pair, Played, ROUTE_BYTES, WORK_CELLS};
+//!
+//! // Four routers in a ring, and a prefix that is attached to routers 1 and 2.
+//! let network = planner::text::parse(
+//!     "routers 4
+//!      link 0 1 1 1
+//!      link 1 2 1 1
+//!      link 2 3 1 1
+//!      link 3 0 1 1
+//!      prefix 1:0 2:0",
+//! )?;
+//! let file = network.to_bytes();
+//! assert_eq!(planner::load(&file)?, network);
+//!
+//! // Link 0 drops. Router 0 sends packets for router 1 to router 3, in a tunnel to router 2.
+//! let mut work = [0; WORK_CELLS];
+//! let pair = planner::link_repair(&file, &mut work, 0, 0)?;
+//! assert_eq!(pair, Pair { first: 3, endpoint: 2, class: 3, cost: 2 });
+//!
+//! // A packet for the prefix goes by router 3 to router 2, which delivers it.
+//! let mut route = [0; ROUTE_BYTES];
+//! let played = planner::route(&file, &mut work, 0, 0, 0, &[], &mut route)?;
+//! assert_eq!(played, Played::Written(3));
+//! assert_eq!(route[..3], [0, 3, 2]);
+//! # Ok::<(), Box<dyn std::error::Error>>(())
+//! ```
+#![deny(unsafe_op_in_unsafe_fn)]
+#![deny(unsafe_code)]
+#![deny(missing_docs)]
+
+mod answer;
+#[allow(unsafe_code)]
+mod call;
+mod file;
+mod network;
+#[allow(unsafe_code)]
+mod raw;
+mod refusal;
+pub mod text;
+
+pub use answer::{Pair, Played, Repair, Set};
+pub use call::{
+    distances, extended_p_space, link_entry, link_repair, load, p_space, prefix_entry,
+    prefix_repair, q_space, route, ROUTE_BYTES, UNREACHABLE, WORK_CELLS,
+};
+pub use file::LARGEST_FILE;
+pub use network::{
+    Attachment, LimitError, Link, Network, Prefix, MOST_ATTACHMENTS, MOST_LINKS, MOST_PREFIXES,
+    MOST_ROUTERS,
+};
+pub use refusal::Refusal;
