@@ -1,6 +1,7 @@
-//! The planner's interface in Rust, through the static library.
+//! The planner's interface in Rust and its command, through the static library.
 
 mod calls;
+mod commands;
 mod common;
 mod files;
 mod limits;

@@ -1,0 +1,295 @@
+//! The command as a child process: what it prints, and its exit status.
+
+use crate::common::{ring, ring_4_with_prefix, sound_texts, texts, with_prefix_at};
+use planner::{text, Link, Network};
+use std::fs;
+use std::io::Write;
+use std::path::PathBuf;
+use std::process::{Command, Output, Stdio};
+
+/// Runs the command with these words and this standard input.
+fn run(words: &[&str], input: &[u8]) -> Output {
+    let mut child = Command::new(env!("CARGO_BIN_EXE_planner"))
+        .args(words)
+        .stdin(Stdio::piped())
+        .stdout(Stdio::piped())
+        .stderr(Stdio::piped())
+        .spawn()
+        .expect("the command starts");
+    // A command may end before it has read its input.
+    let _ = child.stdin.take().expect("a pipe").write_all(input);
+    child.wait_with_output().expect("the command ends")
+}
+
+fn text_of(bytes: Vec<u8>) -> String {
+    String::from_utf8(bytes).expect("text")
+}
+
+/// What the command answers, with exit status 0 and nothing on standard error.
+fn answers(words: &[&str], input: &[u8]) -> String {
+    let output = run(words, input);
+    assert_eq!(text_of(output.stderr), "", "{words:?}");
+    assert_eq!(output.status.code(), Some(0), "{words:?}");
+    text_of(output.stdout)
+}
+
+/// What the command says on standard error, with this exit status and no answer.
+fn fails(words: &[&str], input: &[u8], status: i32) -> String {
+    let output = run(words, input);
+    assert_eq!(text_of(output.stdout), "", "{words:?}");
+    assert_eq!(output.status.code(), Some(status), "{words:?}");
+    text_of(output.stderr)
+}
+
+/// A file of the suite's own, with these bytes where they are given.
+fn scratch(name: &str, bytes: Option<&[u8]>) -> PathBuf {
+    let path = PathBuf::from(env!("CARGO_TARGET_TMPDIR")).join(name);
+    match bytes {
+        Some(bytes) => fs::write(&path, bytes).expect("it is written"),
+        None => drop(fs::remove_file(&path)),
+    }
+    path
+}
+
+const RING_4: &str = "\
+routers 4
+link 0 1 1 1
+link 1 2 1 1
+link 2 3 1 1
+link 3 0 1 1
+prefix 1:0 2:0
+";
+
+#[test]
+fn link() {
+    let file = ring_4_with_prefix().to_bytes();
+    let path = scratch("link.net", Some(&file));
+    let pair = "first hop 3, endpoint 2, class 3, tunnel cost 2\n";
+    assert_eq!(answers(&["link", path.to_str().unwrap(), "0", "0"], &[]), pair);
+    assert_eq!(answers(&["link", "-", "0", "0"], &file), pair);
+    let other = "first hop 2, endpoint 3, class 3, tunnel cost 2\n";
+    assert_eq!(answers(&["link", "-", "00", "1"], &file), other);
+}
+
+#[test]
+fn no_repair_is_an_answer() {
+    let mut network = Network::new(2).unwrap();
+    network.add_link(Link { a: 0, b: 1, out: 1, back: 1 }).unwrap();
+    let file = with_prefix_at(network, &[1]).to_bytes();
+    let no_repair = "refused 14 0: there is no repair: no pair of first hop and endpoint serves\n";
+    assert_eq!(answers(&["link", "-", "0", "0"], &file), no_repair);
+    assert_eq!(answers(&["prefix", "-", "0", "0", "0"], &file), no_repair);
+    assert_eq!(answers(&["route", "-", "0", "0", "0"], &file), no_repair);
+}
+
+#[test]
+fn prefix_and_route() {
+    let file = ring_4_with_prefix().to_bytes();
+    let pair = "first hop 3, endpoint 3, class 1, tunnel cost 1\n";
+    assert_eq!(answers(&["prefix", "-", "0", "0", "0"], &file), pair);
+    assert_eq!(answers(&["route", "-", "0", "0", "0"], &file), "route 0 3 2\n");
+    assert_eq!(answers(&["route", "-", "0", "0", "0", "7", "255"], &file), "route 0 3 2\n");
+    let untouched = "untouched: no packet from S to the prefix crosses the link\n";
+    assert_eq!(answers(&["prefix", "-", "1", "1", "0"], &file), untouched);
+    assert_eq!(answers(&["route", "-", "1", "1", "0"], &file), untouched);
+    let mut network = Network::new(3).unwrap();
+    network.add_link(Link { a: 0, b: 1, out: 1, back: 1 }).unwrap();
+    let apart = with_prefix_at(network, &[2]).to_bytes();
+    let unreachable = "unreachable: the prefix cannot be reached from S\n";
+    assert_eq!(answers(&["prefix", "-", "0", "0", "0"], &apart), unreachable);
+    assert_eq!(answers(&["route", "-", "0", "0", "0"], &apart), unreachable);
+}
+
+#[test]
+fn choices() {
+    let text = "routers 5\nlink 0 4 3 3\nlink 0 1 1 1\nlink 1 2 1 1\nlink 1 3 1 1\nlink 2 4 1 1\n\
+                link 3 4 1 1\nprefix 4:0\n";
+    let file = text::parse(text).unwrap().to_bytes();
+    assert_eq!(answers(&["route", "-", "0", "0", "0"], &file), "route 0 1 2 4\n");
+    assert_eq!(answers(&["route", "-", "0", "0", "0", "1"], &file), "route 0 1 3 4\n");
+}
+
+#[test]
+fn spaces() {
+    let file = ring(4).to_bytes();
+    let spaces = "P-space: size 2, routers 0 3\n\
+                  extended P-space: size 3, routers 0 2 3\n\
+                  Q-space: size 2, routers 1 2\n";
+    assert_eq!(answers(&["spaces", "-", "0", "0"], &file), spaces);
+    let two = text::parse("routers 2\nlink 0 1 1 1").unwrap().to_bytes();
+    let spaces =
+        "P-space: size 1, routers 0\nextended P-space: size 0\nQ-space: size 1, routers 1\n";
+    assert_eq!(answers(&["spaces", "-", "0", "0"], &two), spaces);
+}
+
+#[test]
+fn make_and_text() {
+    let from = scratch("make.txt", Some(RING_4.as_bytes()));
+    let to = scratch("make.net", None);
+    let (from, to) = (from.to_str().unwrap(), to.to_str().unwrap());
+    assert_eq!(answers(&["make", from, to], &[]), "");
+    assert_eq!(fs::read(to).unwrap(), ring_4_with_prefix().to_bytes());
+    assert_eq!(answers(&["text", to], &[]), RING_4);
+    // What is there is overwritten, also where it is longer.
+    assert_eq!(answers(&["make", "-", to], b"routers 1\n"), "");
+    assert_eq!(answers(&["text", to], &[]), "routers 1\n");
+    let made = run(&["make", "-", "-"], RING_4.as_bytes());
+    assert_eq!(made.stdout, ring_4_with_prefix().to_bytes());
+    assert_eq!(answers(&["text", "-"], &made.stdout), RING_4);
+}
+
+#[test]
+fn make_then_text_of_every_sound_text() {
+    for case in sound_texts() {
+        let made = run(&["make", case.path.to_str().unwrap(), "-"], &[]);
+        assert_eq!(made.status.code(), Some(0), "{}", case.path.display());
+        let again = answers(&["text", "-"], &made.stdout);
+        assert_eq!(text::parse(&again), text::parse(&case.text), "{}", case.path.display());
+    }
+    for case in texts("examples") {
+        let stored = case.path.with_extension("net");
+        let again = answers(&["text", stored.to_str().unwrap()], &[]);
+        assert_eq!(text::parse(&again), text::parse(&case.text), "{}", case.path.display());
+    }
+}
+
+#[test]
+fn refused_files() {
+    let empty = "planner: refused 1 0: the file is empty, its length is no multiple of 512, or it \
+                 is over 6656 bytes\n";
+    let mut spoiled = ring(4).to_bytes();
+    spoiled[600] ^= 1;
+    for words in [
+        &["link", "-", "0", "0"][..],
+        &["prefix", "-", "0", "0", "0"],
+        &["route", "-", "0", "0", "0"],
+        &["spaces", "-", "0", "0"],
+        &["text", "-"],
+    ] {
+        assert_eq!(fails(words, &[], 1), empty);
+        assert_eq!(fails(words, &vec![0; 200_000], 1), empty);
+        let check = "planner: refused 2 1: the check of block 1 is wrong\n";
+        assert_eq!(fails(words, &spoiled, 1), check);
+    }
+}
+
+#[test]
+fn refused_questions() {
+    let file = ring_4_with_prefix().to_bytes();
+    let no_link = "planner: refused 12 4: there is no such link or end: the number of links is 4, \
+                   they count from 0, and an end is 0 or 1\n";
+    assert_eq!(fails(&["link", "-", "4", "0"], &file, 1), no_link);
+    assert_eq!(fails(&["link", "-", "18446744073709551615", "0"], &file, 1), no_link);
+    assert_eq!(fails(&["spaces", "-", "0", "2"], &file, 1), no_link);
+    let no_prefix = "planner: refused 13 1: there is no such prefix: the number of prefixes is 1, \
+                     and they count from 0\n";
+    assert_eq!(fails(&["prefix", "-", "0", "0", "1"], &file, 1), no_prefix);
+    assert_eq!(fails(&["route", "-", "0", "0", "1", "3"], &file, 1), no_prefix);
+}
+
+#[test]
+fn refused_texts() {
+    let to = scratch("refused.net", None);
+    let words = ["make", "-", to.to_str().unwrap()];
+    let cost =
+        "planner: standard input: line 2: `x`: expected the cost from A to B, a number from \
+                1 to 65535\n";
+    assert_eq!(fails(&words, b"routers 2\nlink 0 1 x 1\n", 1), cost);
+    assert!(fails(&words, b"routers \xff\n", 1).contains("standard input: invalid utf-8"));
+    assert!(!to.exists(), "a refused text makes no file");
+    let from = scratch("refused.txt", Some(b"routers 65\n"));
+    let from = from.to_str().unwrap();
+    let routers = format!(
+        "planner: `{from}`: line 1: `65`: expected the number of routers, a number from 1 to 64\n"
+    );
+    assert_eq!(fails(&["make", from, "-"], &[], 1), routers);
+}
+
+#[test]
+fn help() {
+    let help = answers(&["--help"], &[]);
+    for name in ["link", "prefix", "route", "spaces", "text", "make"] {
+        assert!(help.contains(&format!("planner {name} ")), "{name}");
+    }
+    assert!(help.lines().all(|line| line.len() <= 80));
+    assert_eq!(answers(&["link", "--help"], &[]), help);
+    assert_eq!(fails(&[], &[], 2), format!("planner: no command is given\n\n{help}"));
+}
+
+#[test]
+fn wrong_words() {
+    let no_command = "planner: `lnk` is no command; the commands are link, prefix, route, spaces, \
+                      text, make, and --help says more\n";
+    assert_eq!(fails(&["lnk", "-", "0", "0"], &[], 2), no_command);
+    let link = "usage: planner link FILE LINK END\n";
+    let route = "usage: planner route FILE LINK END PREFIX [CHOICE ...]\n";
+    for (words, wrong, usage) in [
+        (&["link"][..], "FILE is missing", link),
+        (&["link", "-"], "LINK is missing", link),
+        (&["link", "-", "0"], "END is missing", link),
+        (&["link", "-", "0", "0", "0"], "`0` is one word too many", link),
+        (&["spaces", "-", "0"], "END is missing", "usage: planner spaces FILE LINK END\n"),
+        (
+            &["prefix", "-", "0", "0"],
+            "PREFIX is missing",
+            "usage: planner prefix FILE LINK END PREFIX\n",
+        ),
+        (&["route", "-", "0", "0"], "PREFIX is missing", route),
+        (&["text"], "FILE is missing", "usage: planner text FILE\n"),
+        (&["text", "-", "-"], "`-` is one word too many", "usage: planner text FILE\n"),
+        (&["make"], "TEXT is missing", "usage: planner make TEXT FILE\n"),
+        (&["make", "-"], "FILE is missing", "usage: planner make TEXT FILE\n"),
+    ] {
+        assert_eq!(fails(words, &[], 2), format!("planner: {wrong}\n{usage}"));
+    }
+}
+
+#[test]
+fn numbers_that_are_none() {
+    let most = u64::MAX;
+    for (words, wrong) in [
+        (["x", "0", "0", "0"], format!("LINK is `x`, expected a number from 0 to {most}")),
+        (["0", "+1", "0", "0"], format!("END is `+1`, expected a number from 0 to {most}")),
+        (["0", "0", "-1", "0"], format!("PREFIX is `-1`, expected a number from 0 to {most}")),
+        (["", "0", "0", "0"], format!("LINK is ``, expected a number from 0 to {most}")),
+        (["0", "0", "0", "256"], "CHOICE is `256`, expected a number from 0 to 255".to_string()),
+        (["0", "0", "0", "one"], "CHOICE is `one`, expected a number from 0 to 255".to_string()),
+    ] {
+        let usage = "usage: planner route FILE LINK END PREFIX [CHOICE ...]\n";
+        let words = [&["route", "-"], &words[..]].concat();
+        assert_eq!(fails(&words, &[], 2), format!("planner: {wrong}\n{usage}"));
+    }
+    let over = "18446744073709551616";
+    let wrong = fails(&["link", "-", over, "0"], &[], 2);
+    assert!(wrong.starts_with(&format!("planner: LINK is `{over}`, expected a number")), "{wrong}");
+}
+
+#[test]
+fn files_that_cannot_be_read_or_written() {
+    let missing = scratch("missing/file.net", None);
+    let missing = missing.to_str().unwrap();
+    for words in [&["link", missing, "0", "0"][..], &["text", missing], &["make", missing, "-"]] {
+        let wrong = fails(words, &[], 2);
+        assert!(wrong.starts_with(&format!("planner: `{missing}` cannot be read: ")), "{wrong}");
+    }
+    let wrong = fails(&["make", "-", missing], b"routers 1", 2);
+    assert!(wrong.starts_with(&format!("planner: `{missing}` cannot be written: ")), "{wrong}");
+    let folder = env!("CARGO_TARGET_TMPDIR");
+    let wrong = fails(&["text", folder], &[], 2);
+    assert!(wrong.starts_with(&format!("planner: `{folder}` cannot be read: ")), "{wrong}");
+}
+
+#[cfg(target_os = "linux")]
+#[test]
+fn an_answer_that_cannot_be_written() {
+    let full = fs::File::options().write(true).open("/dev/full").expect("a device that is full");
+    let child = Command::new(env!("CARGO_BIN_EXE_planner"))
+        .arg("--help")
+        .stdout(full)
+        .stderr(Stdio::piped())
+        .spawn()
+        .expect("the command starts");
+    let output = child.wait_with_output().expect("the command ends");
+    assert_eq!(output.status.code(), Some(2));
+    assert!(text_of(output.stderr).starts_with("planner: standard output cannot be written: "));
+}
