@@ -3,6 +3,7 @@
 mod calls;
 mod commands;
 mod common;
+mod example_in_c;
 mod files;
 mod limits;
 mod refusals;

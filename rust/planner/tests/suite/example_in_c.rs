@@ -1,0 +1,42 @@
+//! The example in C: it compiles without a warning, and prints what the library answers.
+
+use crate::common::root;
+use std::path::PathBuf;
+use std::process::{Command, Output};
+
+/// Compiles the example as its comment says, and gives the program.
+fn compiled() -> PathBuf {
+    let program = PathBuf::from(env!("CARGO_TARGET_TMPDIR")).join("ask");
+    let compiler = Command::new("cc")
+        .args(["-std=c99", "-Wall", "-Wextra", "-pedantic", "-Werror"])
+        .args(["-Iinclude", "examples/ask.c", "target/staticlib/libplanner.a", "-o"])
+        .arg(&program)
+        .current_dir(root())
+        .output()
+        .expect("the C compiler starts");
+    assert!(compiler.status.success(), "{}", String::from_utf8_lossy(&compiler.stderr));
+    program
+}
+
+fn text(bytes: &[u8]) -> String {
+    String::from_utf8(bytes.to_vec()).expect("text")
+}
+
+#[test]
+fn the_example_compiles_and_answers() {
+    let program = compiled();
+    let run = |words: &[&str]| -> Output {
+        Command::new(&program).args(words).current_dir(root()).output().expect("it starts")
+    };
+    let answered = run(&["examples/ring4.net"]);
+    assert_eq!(text(&answered.stdout), "first hop 3, endpoint 2, class 3, tunnel cost 2\n");
+    assert_eq!(answered.status.code(), Some(0));
+    let refused = run(&["examples/ring4.txt"]);
+    assert_eq!(text(&refused.stdout), "refused 1 0\n");
+    assert_eq!(refused.status.code(), Some(1));
+    for words in [&[][..], &["no such file"][..]] {
+        let failed = run(words);
+        assert_eq!((text(&failed.stdout), failed.status.code()), (String::new(), Some(2)));
+        assert!(!failed.stderr.is_empty());
+    }
+}
