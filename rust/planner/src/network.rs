@@ -170,7 +170,9 @@ pub enum LimitError {
 impl Display for LimitError {
     fn fmt(&self, out: &mut Formatter) -> fmt::Result {
         match *self {
-            LimitError::Routers(_) => write!(out, "a network has 1 to {MOST_ROUTERS} routers"),
+            LimitError::Routers(found) => {
+                write!(out, "the number of routers is {found}, expected 1 to {MOST_ROUTERS}")
+            }
             LimitError::Links => write!(out, "a network has at most {MOST_LINKS} links"),
             LimitError::Prefixes => write!(out, "a network has at most {MOST_PREFIXES} prefixes"),
             LimitError::NoRouter { router, routers } => {
@@ -178,17 +180,14 @@ impl Display for LimitError {
                 write!(out, "there is no router {router}: the routers are 0 to {last}")
             }
             LimitError::Loop(router) => {
-                write!(out, "a link joins two routers, and this one router {router} to itself")
+                write!(out, "the link joins router {router} to itself")
             }
-            LimitError::LinkCost => write!(out, "a link's cost is 1 to 65535"),
+            LimitError::LinkCost => write!(out, "the link has cost 0, expected 1 to 65535"),
             LimitError::Joined { a, b, earlier } => {
                 write!(out, "routers {a} and {b} are joined by link {earlier} already")
             }
             LimitError::Attachments(found) => {
-                write!(
-                    out,
-                    "a prefix has 1 to {MOST_ATTACHMENTS} attachments, and this one {found}"
-                )
+                write!(out, "the prefix has {found} attachments, expected 1 to {MOST_ATTACHMENTS}")
             }
             LimitError::NamedTwice(router) => {
                 write!(out, "the prefix names router {router} twice")

@@ -7,7 +7,8 @@ use planner::{Attachment, LimitError, Link, Network, Set};
 fn routers() {
     assert_eq!(Network::new(0), Err(LimitError::Routers(0)));
     assert_eq!(Network::new(65), Err(LimitError::Routers(65)));
-    assert_eq!(Network::new(65).unwrap_err().to_string(), "a network has 1 to 64 routers");
+    let words = LimitError::Routers(65).to_string();
+    assert_eq!(words, "the number of routers is 65, expected 1 to 64");
     assert_eq!(Network::new(64).unwrap().routers(), 64);
 }
 
@@ -28,7 +29,7 @@ fn a_link_that_breaks_a_limit_is_not_added() {
     assert_eq!(network, ring(4));
     assert_eq!(network.add_link(link(0, 2, 65_535, 1)), Ok(()));
     assert_eq!(network.links().len(), 5);
-    assert_eq!(LimitError::LinkCost.to_string(), "a link's cost is 1 to 65535");
+    assert_eq!(LimitError::LinkCost.to_string(), "the link has cost 0, expected 1 to 65535");
 }
 
 #[test]

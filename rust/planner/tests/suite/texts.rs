@@ -91,15 +91,12 @@ fn limits_that_are_broken() {
     for (lines, expected) in [
         ("link 0 4 1 1", "line 2: `link 0 4 1 1`: there is no router 4: the routers are 0 to 3"),
         ("link 63 0 1 1", "line 2: `link 63 0 1 1`: there is no router 63: the routers are 0 to 3"),
-        (
-            "link 2 2 1 1",
-            "line 2: `link 2 2 1 1`: a link joins two routers, and this one router 2 to itself",
-        ),
+        ("link 2 2 1 1", "line 2: `link 2 2 1 1`: the link joins router 2 to itself"),
         (
             "link 0 1 1 1\nlink 1 0 5 5",
             "line 3: `link 1 0 5 5`: routers 1 and 0 are joined by link 0 already",
         ),
-        ("prefix", "line 2: `prefix`: a prefix has 1 to 8 attachments, and this one 0"),
+        ("prefix", "line 2: `prefix`: the prefix has 0 attachments, expected 1 to 8"),
         ("prefix 4:0", "line 2: `prefix 4:0`: there is no router 4: the routers are 0 to 3"),
         ("prefix 1:0 1:1", "line 2: `prefix 1:0 1:1`: the prefix names router 1 twice"),
     ] {
@@ -107,7 +104,7 @@ fn limits_that_are_broken() {
     }
     let nine: String = (0..9).map(|router| format!(" {router}:0")).collect();
     let error = wrong(&format!("routers 9\nprefix{nine}"));
-    assert!(error.ends_with("a prefix has 1 to 8 attachments, and this one 9"), "{error}");
+    assert!(error.ends_with("the prefix has 9 attachments, expected 1 to 8"), "{error}");
 }
 
 #[test]
