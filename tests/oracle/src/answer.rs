@@ -400,8 +400,9 @@ fn refused(ctx: &Context, refusal: &Refusal) -> Answer {
     Answer::Refused { number, value }
 }
 
-/// What a question has inputs for.
-fn inputs(question: &Question, lent: &Buffers) -> Inputs {
+/// What a question has inputs for. With it `Opened::refusal` tells the cause of
+/// a refusal, which is no part of an answer; tests count the causes they met.
+pub fn inputs(question: &Question, lent: &Buffers) -> Inputs {
     let work = Some(lent.work.len());
     match question {
         Question::Distances => Inputs { work, ..Inputs::default() },

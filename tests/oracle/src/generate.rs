@@ -37,16 +37,36 @@ enum Costs {
 /// prefixes, so few that every question about it can be asked.
 pub fn network(family: Family, most_routers: usize, random: &mut Random) -> Network {
     let routers = random.between(1, most_routers.min(MOST_ROUTERS));
+    let mut network = linked(family, routers, random);
+    let prefixes = random.below(5);
+    attach(&mut network, family, prefixes, random);
+    network
+}
+
+/// A random network of a family with exactly so many routers and prefixes, for
+/// tests that have to meet given sizes.
+pub fn of_counts(family: Family, routers: usize, prefixes: usize, random: &mut Random) -> Network {
+    let mut network = linked(family, routers, random);
+    attach(&mut network, family, prefixes, random);
+    network
+}
+
+/// The routers and links of a random network.
+fn linked(family: Family, routers: usize, random: &mut Random) -> Network {
     let mut pairs = pairs(family, routers, random);
     pairs.truncate(MOST_LINKS);
     let costs = costs(family, random);
     let mut network = Network::of_routers(small(routers));
     network.links = pairs.iter().map(|pair| link(*pair, costs, random)).collect();
     random.shuffle(&mut network.links);
-    let prefixes = random.below(5);
-    network.prefixes = (0..prefixes).map(|_| prefix(family, routers, random)).collect();
-    renumber(&mut network, random);
     network
+}
+
+/// Adds the prefixes, then gives the routers other numbers.
+fn attach(network: &mut Network, family: Family, prefixes: usize, random: &mut Random) {
+    let routers = usize::from(network.routers);
+    network.prefixes = (0..prefixes).map(|_| prefix(family, routers, random)).collect();
+    renumber(network, random);
 }
 
 /// A random network with exactly so many routers, links and prefixes. There
