@@ -1,0 +1,211 @@
+//! Many files with their questions, asked of both sides by several threads.
+
+use crate::call::{Planner, Told};
+use crate::compare::{Asked, Compared, Heard, compare};
+use crate::coverage::Coverage;
+use crate::files::NamedFile;
+use crate::networks::Named;
+use crate::questions;
+use crate::routes::{Asking, Rules, follow_heard};
+use oracle::answer::{Opened, Question, load};
+use oracle::fault::Context;
+use oracle::file::write;
+use oracle::network::Network;
+use oracle::random::Random;
+use oracle::text;
+use std::sync::Mutex;
+use std::sync::atomic::{AtomicUsize, Ordering};
+use std::thread;
+
+/// Which questions are asked about an accepted file.
+#[derive(Clone, Copy, Debug)]
+pub enum Breadth {
+    /// Every link, end and prefix, with so many routes for each.
+    Whole(usize),
+    /// Numbers and lengths at their limits.
+    Limits,
+}
+
+/// A file and what is asked about it. Both follow from seeds.
+pub struct Case {
+    pub name: String,
+    pub file: Vec<u8>,
+    breadth: Breadth,
+    seed: u64,
+}
+
+impl Case {
+    /// The case of a file.
+    pub fn of_file(file: NamedFile, breadth: Breadth) -> Case {
+        let seed =
+            file.bytes.iter().fold(0, |seed: u64, byte| seed * 31 % 1_000_003 + u64::from(*byte));
+        Case { name: file.name, file: file.bytes, breadth, seed }
+    }
+
+    /// The case of a network.
+    pub fn of_network(named: Named, breadth: Breadth) -> Case {
+        let bytes = write(&named.network);
+        Case::of_file(NamedFile { name: named.name, bytes }, breadth)
+    }
+
+    /// The network, if the file is accepted.
+    pub fn network(&self) -> Option<Network> {
+        load(&Context::sound(), &self.file).ok()
+    }
+
+    /// The questions: the same each time.
+    pub fn asked(&self) -> Vec<Asked> {
+        let random = &mut Random::new(self.seed);
+        match (self.network(), self.breadth) {
+            (None, _) => questions::of_refused(random),
+            (Some(network), Breadth::Whole(routes)) => questions::whole(&network, routes, random),
+            (Some(network), Breadth::Limits) => {
+                let mut asked = questions::numbers_at_limits(&network);
+                asked.extend(questions::lengths_at_limits(&network, random));
+                asked
+            }
+        }
+    }
+
+    /// The file for a report: the text of its network, or its bytes.
+    fn shown(&self) -> String {
+        match self.network() {
+            Some(network) => text::of_network(&network),
+            None => format!("{:?}", self.file),
+        }
+    }
+}
+
+/// What a run found.
+#[derive(Debug, Default)]
+pub struct Report {
+    pub files: u64,
+    pub calls: u64,
+    /// Routes that were followed hop by hop.
+    pub routes: u64,
+    pub hops: u64,
+    pub coverage: Coverage,
+    /// Each difference in words, with the file and the question.
+    pub differences: Vec<String>,
+}
+
+impl Report {
+    fn add(&mut self, other: Report) {
+        self.files += other.files;
+        self.calls += other.calls;
+        self.routes += other.routes;
+        self.hops += other.hops;
+        self.coverage.add(&other.coverage);
+        self.differences.extend(other.differences);
+    }
+
+    /// Fails if there is a difference, and shows the first.
+    pub fn assert_same(&self) {
+        let count = self.differences.len();
+        assert!(count == 0, "{count} cases differ; the first:\n{}", self.differences[0]);
+    }
+
+    /// Fails if something of these was not met.
+    pub fn assert_met(&self, things: &[String]) {
+        let missing = self.coverage.missing(things);
+        assert!(missing.is_empty(), "the run did not meet: {missing:?}");
+    }
+
+    /// The numbers of the run in one line.
+    pub fn summary(&self) -> String {
+        let Report { files, calls, routes, hops, .. } = self;
+        format!("{files} files, {calls} calls compared, {routes} routes of {hops} hops followed")
+    }
+}
+
+/// Compares every call of every case. Each case is the work of one thread; a
+/// case stops at its first difference.
+pub fn run(planner: &dyn Planner, cases: &[Case]) -> Report {
+    let next = AtomicUsize::new(0);
+    let whole = Mutex::new(Report::default());
+    let threads = thread::available_parallelism().map_or(1, usize::from);
+    let work = || {
+        while let Some(case) = cases.get(next.fetch_add(1, Ordering::Relaxed)) {
+            let report = run_case(planner, case);
+            whole.lock().expect("no thread failed").add(report);
+        }
+    };
+    thread::scope(|scope| (0..threads).for_each(|_| drop(scope.spawn(work))));
+    let mut report = whole.into_inner().expect("no thread failed");
+    report.differences.sort();
+    report
+}
+
+fn run_case(planner: &dyn Planner, case: &Case) -> Report {
+    let ctx = Context::sound();
+    let opened = Opened::new(&ctx, &case.file);
+    let network = case.network().unwrap_or_default();
+    let rules = Rules::of(&network);
+    let mut report = Report { files: 1, ..Report::default() };
+    let mut pairs = LastPair::default();
+    for asked in case.asked() {
+        let compared = compare(planner, &opened, &case.file, &asked);
+        report.calls += 1;
+        report.coverage.call(&opened, &asked, &compared.expected);
+        pairs.remember(&asked.question, &compared.heard.told);
+        let wrong = match &compared.difference {
+            Some(difference) => Some(difference.clone()),
+            None => wrong_route(&rules, &mut report, &pairs, &asked, &compared),
+        };
+        if let Some(wrong) = wrong {
+            let shown = case.shown();
+            report.differences.push(format!("{}: {asked:?}: {wrong}\n{shown}", case.name));
+            break;
+        }
+    }
+    report
+}
+
+/// The pair that the planner told last. A route follows the prefix repair of
+/// the same question, so that its pair is known.
+#[derive(Default)]
+struct LastPair {
+    question: Option<(u64, u64, u64)>,
+    pair: (usize, usize),
+}
+
+impl LastPair {
+    fn remember(&mut self, question: &Question, told: &Told) {
+        if let (Question::PrefixRepair { link, end, prefix }, Told::Pair { first, endpoint, .. }) =
+            (question, told)
+        {
+            self.question = Some((*link, *end, *prefix));
+            self.pair = (*first as usize, *endpoint as usize);
+        }
+    }
+}
+
+/// What is wrong with a played route, if one was played and a rule is broken.
+fn wrong_route(
+    rules: &Rules,
+    report: &mut Report,
+    pairs: &LastPair,
+    asked: &Asked,
+    compared: &Compared,
+) -> Option<String> {
+    let Heard { told: Told::Played(count), .. } = compared.heard else {
+        return None;
+    };
+    let Question::Route { link, end, prefix, choices } = &asked.question else {
+        return Some("a question that is no route was played".to_string());
+    };
+    if pairs.question != Some((*link, *end, *prefix)) {
+        return Some("a route was played where no pair was told".to_string());
+    }
+    let (pair, link, prefix) = (pairs.pair, *link as usize, *prefix as usize);
+    let asking = Asking { link, end: *end, prefix, pair, choices };
+    match follow_heard(rules, &asking, &compared.heard, count) {
+        Ok(met) => {
+            report.routes += 1;
+            report.hops += met.hops as u64;
+            report.coverage.route(&met);
+            None
+        }
+        Err(broken) => Some(format!("the route breaks a rule: {broken}")),
+    }
+}

@@ -1,0 +1,98 @@
+//! The comparison: one question, asked of both sides.
+
+use crate::call::{Call, ENTRY, Planner, Told};
+use crate::lent::{Lent, filled};
+use oracle::answer::{Answer, Buffers, Opened, Outcome, Question};
+
+/// A question and the lengths of the two buffers lent for it.
+#[derive(Clone, Debug, PartialEq, Eq)]
+pub struct Asked {
+    pub question: Question,
+    /// Cells of the work area.
+    pub cells: usize,
+    /// Bytes of the route buffer.
+    pub bytes: usize,
+}
+
+impl Asked {
+    /// What the oracle is lent: the same pattern without guards.
+    pub fn buffers(&self) -> Buffers {
+        Buffers { work: filled(self.cells), route: filled(self.bytes) }
+    }
+}
+
+/// What was heard from a planner: what it told, and every buffer afterwards.
+#[derive(Clone, Debug)]
+pub struct Heard {
+    pub told: Told,
+    pub file: Lent<u8>,
+    pub choices: Lent<u8>,
+    pub work: Lent<u32>,
+    pub route: Lent<u8>,
+    pub entry: Lent<u8>,
+}
+
+/// Asks a planner one question. Every buffer is new, with the pattern in it.
+pub fn ask(planner: &dyn Planner, file: &[u8], asked: &Asked) -> Heard {
+    let file = Lent::holding(file);
+    let choices = Lent::holding(choices_of(&asked.question));
+    let mut work = Lent::of_length(asked.cells);
+    let mut route = Lent::of_length(asked.bytes);
+    let mut entry = Lent::of_length(ENTRY);
+    let told = planner.ask(Call {
+        file: file.contents(),
+        question: &asked.question,
+        choices: choices.contents(),
+        work: work.lend(),
+        route: route.lend(),
+        entry: entry.lend(),
+    });
+    Heard { told, file, choices, work, route, entry }
+}
+
+/// The first thing in which a planner differs from what is expected.
+pub fn difference(file: &[u8], asked: &Asked, expected: &Outcome, heard: &Heard) -> Option<String> {
+    let told = Told::from(&expected.answer);
+    if heard.told != told {
+        return Some(format!("it tells {:?}, expected {told:?}", heard.told));
+    }
+    let mut entry = filled(ENTRY);
+    if let Answer::Part { bytes, .. } = &expected.answer {
+        entry[..bytes.len()].copy_from_slice(bytes);
+    }
+    let in_work = heard.work.difference(&expected.left.work);
+    let buffers = [
+        ("the work area", in_work),
+        ("the route buffer", heard.route.difference(&expected.left.route)),
+        ("the entry buffer", heard.entry.difference(&entry)),
+        ("the file", heard.file.difference(file)),
+        ("the choices", heard.choices.difference(choices_of(&asked.question))),
+    ];
+    let found = buffers.into_iter().find_map(|(name, found)| Some((name, found?)));
+    found.map(|(name, found)| format!("in {name}, {found}"))
+}
+
+/// A question asked of both sides.
+pub struct Compared {
+    pub expected: Outcome,
+    pub heard: Heard,
+    /// The first difference, if there is one.
+    pub difference: Option<String>,
+}
+
+/// Asks both sides one question about a file. `opened` is that file, opened by
+/// the oracle.
+pub fn compare(planner: &dyn Planner, opened: &Opened, file: &[u8], asked: &Asked) -> Compared {
+    let expected = opened.ask(&asked.question, &asked.buffers());
+    let heard = ask(planner, file, asked);
+    let difference = difference(file, asked, &expected, &heard);
+    Compared { expected, heard, difference }
+}
+
+/// The choice bytes of a question; other questions than routes have none.
+fn choices_of(question: &Question) -> &[u8] {
+    match question {
+        Question::Route { choices, .. } => choices,
+        _ => &[],
+    }
+}

@@ -1,0 +1,125 @@
+//! The library, by way of the safe crate over it. All calls of that crate are
+//! here, so that a change of its interface is followed here alone.
+
+use crate::call::{Call, Planner, Told};
+use crate::plan;
+use oracle::answer::Question;
+use oracle::network as theirs;
+use oracle::space::Space;
+use planner::{Network, Pair, Played, Refusal, Repair, Set};
+
+/// The planner's library.
+pub struct Library;
+
+impl Planner for Library {
+    fn ask(&self, call: Call) -> Told {
+        let Call { file, question, choices, work, route, entry } = call;
+        match *question {
+            Question::Load => load(file),
+            Question::LinkEntry { link } => copied(planner::link_entry(file, place(link)), entry),
+            Question::PrefixEntry { prefix } => {
+                copied(planner::prefix_entry(file, place(prefix)), entry)
+            }
+            Question::Distances => told(planner::distances(file, work), |()| Told::Done),
+            Question::Space { space, link, end } => {
+                let call = match space {
+                    Space::P => planner::p_space,
+                    Space::ExtendedP => planner::extended_p_space,
+                    Space::Q => planner::q_space,
+                };
+                told(call(file, work, place(link), place(end)), |set| Told::Set(set.0))
+            }
+            Question::Size { set } => Told::Size(u64::from(Set(set).size())),
+            Question::LinkRepair { link, end } => link_repair(file, work, link, end),
+            Question::PrefixRepair { link, end, prefix } => {
+                let (link, end, prefix) = (place(link), place(end), place(prefix));
+                told(planner::prefix_repair(file, work, link, end, prefix), repaired)
+            }
+            Question::Route { link, end, prefix, .. } => {
+                let (link, end, prefix) = (place(link), place(end), place(prefix));
+                told(planner::route(file, work, link, end, prefix, choices, route), played)
+            }
+            Question::Plan => planned(file),
+        }
+    }
+}
+
+fn load(file: &[u8]) -> Told {
+    told(planner::load(file), |network| Told::Accepted(network_of(&network)))
+}
+
+fn link_repair(file: &[u8], work: &mut [u32], link: u64, end: u64) -> Told {
+    told(planner::link_repair(file, work, place(link), place(end)), pair)
+}
+
+/// The text of a plan, from the library's answers. The plan has a work area of
+/// its own: the lent one is not part of the question.
+fn planned(file: &[u8]) -> Told {
+    let mut work = [0; planner::WORK_CELLS];
+    let text = plan::text(&load(file), |link, end| link_repair(file, &mut work, link, end));
+    Told::Text(text)
+}
+
+/// A question's number as the library takes it.
+fn place(number: u64) -> usize {
+    usize::try_from(number).expect("the tests are for machines of 64 bits")
+}
+
+fn told<Answer>(answer: Result<Answer, Refusal>, accepted: impl Fn(Answer) -> Told) -> Told {
+    match answer {
+        Ok(answer) => accepted(answer),
+        Err(Refusal { number, value }) => Told::Refused { number: u64::from(number), value },
+    }
+}
+
+/// The crate hands an entry over by value; it is put where the C call puts it.
+fn copied<const COUNT: usize>(bytes: Option<[u8; COUNT]>, entry: &mut [u8]) -> Told {
+    let Some(bytes) = bytes else {
+        return Told::Copied(0);
+    };
+    entry[..COUNT].copy_from_slice(&bytes);
+    Told::Copied(COUNT as u64)
+}
+
+fn pair(pair: Pair) -> Told {
+    Told::Pair {
+        first: u64::from(pair.first),
+        endpoint: u64::from(pair.endpoint),
+        class: u64::from(pair.class),
+        cost: u64::from(pair.cost),
+    }
+}
+
+fn repaired(repair: Repair) -> Told {
+    match repair {
+        Repair::Unreachable => Told::Unreachable,
+        Repair::Untouched => Told::Untouched,
+        Repair::Pair(found) => pair(found),
+    }
+}
+
+fn played(played: Played) -> Told {
+    match played {
+        Played::Unreachable => Told::Unreachable,
+        Played::Untouched => Told::Untouched,
+        Played::Written(count) => Told::Played(count as u64),
+    }
+}
+
+/// The whole network, in the oracle's words.
+fn network_of(network: &Network) -> theirs::Network {
+    let routers = u8::try_from(network.routers()).expect("a network has at most 64 routers");
+    let links = network.links().iter().map(|link| theirs::Link {
+        a: link.a,
+        b: link.b,
+        forth: link.out,
+        back: link.back,
+    });
+    let prefixes = network.prefixes().iter().map(|prefix| {
+        let attachments = prefix.attachments().iter();
+        let attachments = attachments
+            .map(|attached| theirs::Attachment { router: attached.router, cost: attached.cost });
+        theirs::Prefix { attachments: attachments.collect() }
+    });
+    theirs::Network { routers, links: links.collect(), prefixes: prefixes.collect() }
+}

@@ -1,0 +1,157 @@
+//! The questions about a file: all there are, those at the limits of numbers
+//! and lengths, and those about a file that is refused.
+
+use crate::compare::Asked;
+use oracle::answer::Question;
+use oracle::network::Network;
+use oracle::random::Random;
+use oracle::space::Space;
+
+/// Every question with numbers in range, for each prefix question that many
+/// routes. The buffers are just enough or a little longer.
+pub fn whole(network: &Network, routes: usize, random: &mut Random) -> Vec<Asked> {
+    let (cells, bytes) = enough(network);
+    let mut questions = about_the_file(network, random);
+    for (link, end) in link_ends(network) {
+        questions.extend(link_questions(link, end));
+        for prefix in 0..network.prefixes.len() as u64 {
+            questions.push(Question::PrefixRepair { link, end, prefix });
+            for _ in 0..routes {
+                let choices = choices(network, random);
+                questions.push(Question::Route { link, end, prefix, choices });
+            }
+        }
+    }
+    let mut lend = |question| Asked {
+        question,
+        cells: cells + random.below(3),
+        bytes: bytes + random.below(3),
+    };
+    questions.into_iter().map(&mut lend).collect()
+}
+
+/// Load, plan, distances, sizes, and every entry.
+fn about_the_file(network: &Network, random: &mut Random) -> Vec<Question> {
+    let mut questions = vec![Question::Load, Question::Plan, Question::Distances];
+    let one_bit = 1 << random.below(64);
+    let sets = [0, 1, 1 << 63, u64::MAX, one_bit, random.any(), random.any() & random.any()];
+    questions.extend(sets.map(|set| Question::Size { set }));
+    let links = 0..network.links.len() as u64;
+    questions.extend(links.map(|link| Question::LinkEntry { link }));
+    let prefixes = 0..network.prefixes.len() as u64;
+    questions.extend(prefixes.map(|prefix| Question::PrefixEntry { prefix }));
+    questions
+}
+
+/// Some choice bytes: often too few for the route, sometimes none.
+fn choices(network: &Network, random: &mut Random) -> Vec<u8> {
+    let most = 2 * usize::from(network.routers);
+    let count = match random.below(4) {
+        0 => 0,
+        1 => random.below(4),
+        _ => random.below(most + 1),
+    };
+    random.bytes(count)
+}
+
+/// Numbers about a count: in range, just out of it, at the largest value, and
+/// such that their lower 8, 16 or 32 bits are in range.
+fn numbers_about(count: usize) -> Vec<u64> {
+    let count = count as u64;
+    let mut numbers = vec![0, count.saturating_sub(1), count, count + 1, 256, 1 << 16, 1 << 32];
+    numbers.extend([u64::from(u32::MAX), 1 << 63, u64::MAX - 1, u64::MAX]);
+    numbers.sort_unstable();
+    numbers.dedup();
+    numbers
+}
+
+/// Every mixture of numbers in range and out of it, with buffers that are
+/// enough, and the entries of such numbers.
+pub fn numbers_at_limits(network: &Network) -> Vec<Asked> {
+    let (cells, bytes) = enough(network);
+    let links = numbers_about(network.links.len());
+    let prefixes = numbers_about(network.prefixes.len());
+    let mut questions: Vec<Question> = Vec::new();
+    questions.extend(links.iter().map(|link| Question::LinkEntry { link: *link }));
+    questions.extend(prefixes.iter().map(|prefix| Question::PrefixEntry { prefix: *prefix }));
+    for link in &links {
+        for end in [0, 1, 2, 256, 1 << 32, u64::MAX] {
+            questions.extend(link_questions(*link, end));
+            for prefix in &prefixes {
+                questions.extend(prefix_questions(*link, end, *prefix));
+            }
+        }
+    }
+    questions.into_iter().map(|question| Asked { question, cells, bytes }).collect()
+}
+
+/// Every mixture of buffer lengths: none, one short, exact, and longer; with
+/// questions in range and out of it.
+pub fn lengths_at_limits(network: &Network, random: &mut Random) -> Vec<Asked> {
+    let (cells, bytes) = enough(network);
+    let (links, prefixes) = (network.links.len(), network.prefixes.len());
+    let mut asked = Vec::new();
+    for cells in [0, cells - 1, cells, cells + 1, cells + 100] {
+        for bytes in [0, bytes - 1, bytes, bytes + 1, bytes + 100] {
+            let link = random.below(links) as u64;
+            let prefix = random.below(prefixes) as u64;
+            let end = random.below(2) as u64;
+            for question in mixed(link, links as u64, end, prefix, prefixes as u64) {
+                asked.push(Asked { question, cells, bytes });
+            }
+        }
+    }
+    asked
+}
+
+/// Each call, with each number in range and just out of it.
+fn mixed(link: u64, links: u64, end: u64, prefix: u64, prefixes: u64) -> Vec<Question> {
+    let mut questions = vec![Question::Load, Question::Distances, Question::LinkEntry { link }];
+    for (link, end) in [(link, end), (links, end), (link, 2)] {
+        questions.extend(link_questions(link, end));
+        for prefix in [prefix, prefixes] {
+            questions.extend(prefix_questions(link, end, prefix));
+        }
+    }
+    questions
+}
+
+/// Each call about a refused file, with buffers that are enough for any file,
+/// with short ones, and with none.
+pub fn of_refused(random: &mut Random) -> Vec<Asked> {
+    let mut asked = Vec::new();
+    for (cells, bytes) in [(4096, 128), (5, 5), (0, 0)] {
+        let number = random.pick(&[0, 0, 1, 500, u64::MAX]);
+        let mut questions = vec![
+            Question::Load,
+            Question::LinkEntry { link: number },
+            Question::PrefixEntry { prefix: number },
+            Question::Distances,
+        ];
+        questions.extend(link_questions(number, random.below(3) as u64));
+        questions.extend(prefix_questions(number, random.below(3) as u64, number));
+        asked.extend(questions.into_iter().map(|question| Asked { question, cells, bytes }));
+    }
+    asked.push(Asked { question: Question::Plan, cells: 0, bytes: 0 });
+    asked
+}
+
+fn link_ends(network: &Network) -> impl Iterator<Item = (u64, u64)> {
+    (0..network.links.len() as u64).flat_map(|link| [(link, 0), (link, 1)])
+}
+
+fn link_questions(link: u64, end: u64) -> Vec<Question> {
+    let spaces = Space::ALL.iter().map(|space| Question::Space { space: *space, link, end });
+    spaces.chain([Question::LinkRepair { link, end }]).collect()
+}
+
+fn prefix_questions(link: u64, end: u64, prefix: u64) -> [Question; 2] {
+    let choices = vec![1, 2, 3, 4, 5, 6, 7, 8];
+    [Question::PrefixRepair { link, end, prefix }, Question::Route { link, end, prefix, choices }]
+}
+
+/// Cells and bytes that are just enough.
+fn enough(network: &Network) -> (usize, usize) {
+    let routers = usize::from(network.routers);
+    (routers * routers, 2 * routers)
+}

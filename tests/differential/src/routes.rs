@@ -1,0 +1,235 @@
+//! Played routes, hop by hop, by the rules of document 01 written out once
+//! more. Nothing here comes from the oracle's walks: distances are those of
+//! the Floyd-Warshall method, and every hop is held against the network.
+
+use crate::compare::Heard;
+use crate::lent::{Cell, filled};
+use oracle::network::{Network, Prefix};
+
+/// A distance that no path has. It is far above every real sum.
+const FAR: u64 = u64::MAX / 4;
+
+/// A network with the costs and distances that the rules speak of.
+pub struct Rules<'a> {
+    network: &'a Network,
+    /// The cost x to z of the link that joins them.
+    cost: Vec<Vec<Option<u64>>>,
+    /// D(x,t).
+    distance: Vec<Vec<u64>>,
+}
+
+/// A route question with the pair that repairs it.
+#[derive(Clone, Copy, Debug)]
+pub struct Asking<'a> {
+    pub link: usize,
+    pub end: u64,
+    pub prefix: usize,
+    /// n and y.
+    pub pair: (usize, usize),
+    pub choices: &'a [u8],
+}
+
+/// What a route met on its way.
+#[derive(Clone, Copy, Debug, Default, PartialEq, Eq)]
+pub struct Met {
+    pub hops: usize,
+    /// Routers with more than one option.
+    pub choices: usize,
+    /// Routers that might have stepped on, and delivered.
+    pub delivered_by_choice: usize,
+    /// Routers that might have delivered, and stepped on.
+    pub stepped_by_choice: usize,
+}
+
+impl<'a> Rules<'a> {
+    /// The rules for a network.
+    pub fn of(network: &'a Network) -> Rules<'a> {
+        let routers = usize::from(network.routers);
+        let mut cost = vec![vec![None; routers]; routers];
+        for link in &network.links {
+            let (a, b) = (usize::from(link.a), usize::from(link.b));
+            cost[a][b] = Some(u64::from(link.forth));
+            cost[b][a] = Some(u64::from(link.back));
+        }
+        let distance = floyd_warshall(&cost);
+        Rules { network, cost, distance }
+    }
+
+    /// D(x,p): the least of D(x,a) plus a's cost to p over its attachments a.
+    fn to_prefix(&self, x: usize, prefix: &Prefix) -> u64 {
+        let attachments = prefix.attachments.iter();
+        let sums = attachments.map(|attached| {
+            self.distance[x][usize::from(attached.router)] + u64::from(attached.cost)
+        });
+        sums.min().unwrap_or(FAR)
+    }
+
+    /// Whether x may deliver: it is attached, and its own cost is D(x,p).
+    fn may_deliver(&self, x: usize, prefix: &Prefix) -> bool {
+        prefix.attachments.iter().any(|attached| {
+            usize::from(attached.router) == x
+                && u64::from(attached.cost) == self.to_prefix(x, prefix)
+        })
+    }
+
+    /// The next routers of a walk at x, ascending: the cost x to z plus the
+    /// distance from z equals the finite distance from x.
+    fn next_routers(&self, x: usize, remaining: impl Fn(usize) -> u64) -> Vec<usize> {
+        let steps =
+            |z: &usize| self.cost[x][*z].is_some_and(|cost| cost + remaining(*z) == remaining(x));
+        let routers = if remaining(x) < FAR { 0..self.cost.len() } else { 0..0 };
+        routers.filter(steps).collect()
+    }
+
+    /// Follows a route from hop to hop. The error says which rule is broken.
+    pub fn follow(&self, asking: &Asking, route: &[u8]) -> Result<Met, String> {
+        let ends = self.network.links.get(asking.link).ok_or("there is no such link")?;
+        let (a, b) = (usize::from(ends.a), usize::from(ends.b));
+        let (s, e) = if asking.end == 0 { (a, b) } else { (b, a) };
+        let route: Vec<usize> = route.iter().map(|router| usize::from(*router)).collect();
+        self.hops_are_links(&route, (s, e))?;
+        let (n, y) = asking.pair;
+        if route.len() < 2 || route[0] != s || route[1] != n || n == e {
+            return Err(format!("the route does not start with S {s} and the first hop {n}"));
+        }
+        let mut walk = Walk { rules: self, route: &route, at: 1, used: 0, met: Met::default() };
+        walk.tunnel(y, asking.choices)?;
+        walk.deliver(&self.network.prefixes[asking.prefix], asking.choices)?;
+        Ok(Met { hops: route.len() - 1, ..walk.met })
+    }
+
+    /// Every hop is over a link, and none over the link that dropped; a route
+    /// has at most 2 x N routers.
+    fn hops_are_links(&self, route: &[usize], (s, e): (usize, usize)) -> Result<(), String> {
+        let routers = self.cost.len();
+        if route.len() > 2 * routers || route.iter().any(|router| *router >= routers) {
+            return Err("the route is too long or names a router that is not there".to_string());
+        }
+        for hop in route.windows(2) {
+            if self.cost[hop[0]][hop[1]].is_none() {
+                return Err(format!("no link joins {} and {}", hop[0], hop[1]));
+            }
+            if hop == [s, e] || hop == [e, s] {
+                return Err(format!("the hop from {} to {} crosses the link", hop[0], hop[1]));
+            }
+        }
+        Ok(())
+    }
+}
+
+fn floyd_warshall(cost: &[Vec<Option<u64>>]) -> Vec<Vec<u64>> {
+    let routers = cost.len();
+    let mut least: Vec<Vec<u64>> =
+        cost.iter().map(|row| row.iter().map(|cost| cost.unwrap_or(FAR)).collect()).collect();
+    for (x, row) in least.iter_mut().enumerate() {
+        row[x] = 0;
+    }
+    for middle in 0..routers {
+        let through = least[middle].clone();
+        for row in &mut least {
+            let first = row[middle];
+            for (cell, second) in row.iter_mut().zip(&through) {
+                *cell = (*cell).min(first + second).min(FAR);
+            }
+        }
+    }
+    least
+}
+
+/// A route that is being followed.
+struct Walk<'a> {
+    rules: &'a Rules<'a>,
+    route: &'a [usize],
+    /// The place in the route.
+    at: usize,
+    /// Choice bytes used so far.
+    used: usize,
+    met: Met,
+}
+
+impl Walk<'_> {
+    /// The next choice byte modulo the number of options. A byte that has run
+    /// out counts as 0.
+    fn option(&mut self, choices: &[u8], options: usize) -> usize {
+        let byte = choices.get(self.used).copied().unwrap_or(0);
+        self.used += 1;
+        self.met.choices += usize::from(options > 1);
+        usize::from(byte) % options
+    }
+
+    /// One step to the router that the rules and the choices name.
+    fn step(&mut self, next: usize) -> Result<(), String> {
+        let here = self.route[self.at];
+        match self.route.get(self.at + 1) {
+            Some(found) if *found == next => self.at += 1,
+            found => return Err(format!("after {here} comes {found:?}, expected {next}")),
+        }
+        Ok(())
+    }
+
+    /// The steps from n to y, each on a shortest path to y, fewer than N.
+    fn tunnel(&mut self, y: usize, choices: &[u8]) -> Result<(), String> {
+        let start = self.at;
+        while self.route[self.at] != y {
+            let here = self.route[self.at];
+            let nexts = self.rules.next_routers(here, |z| self.rules.distance[z][y]);
+            if nexts.is_empty() {
+                return Err(format!("no step leads from {here} to the endpoint {y}"));
+            }
+            let option = self.option(choices, nexts.len());
+            self.step(nexts[option])?;
+        }
+        self.fewer_than_n(start)
+    }
+
+    /// The steps from y to delivery, each on a shortest path to the prefix,
+    /// fewer than N. Delivery stands before the next routers.
+    fn deliver(&mut self, prefix: &Prefix, choices: &[u8]) -> Result<(), String> {
+        let start = self.at;
+        loop {
+            let here = self.route[self.at];
+            let nexts = self.rules.next_routers(here, |z| self.rules.to_prefix(z, prefix));
+            let delivery = usize::from(self.rules.may_deliver(here, prefix));
+            let options = delivery + nexts.len();
+            if options == 0 {
+                return Err(format!("router {here} can neither deliver nor step"));
+            }
+            let option = self.option(choices, options);
+            let either = delivery == 1 && options > 1;
+            if option < delivery {
+                self.met.delivered_by_choice += usize::from(either);
+                break;
+            }
+            self.met.stepped_by_choice += usize::from(either);
+            self.step(nexts[option - delivery])?;
+        }
+        if self.at + 1 != self.route.len() {
+            return Err("the route goes on after delivery".to_string());
+        }
+        self.fewer_than_n(start)
+    }
+
+    fn fewer_than_n(&self, start: usize) -> Result<(), String> {
+        if self.at - start < self.rules.cost.len() {
+            return Ok(());
+        }
+        Err("a leg has N hops or more".to_string())
+    }
+}
+
+/// Follows a route that a planner wrote, and looks at the bytes after it.
+pub fn follow_heard(
+    rules: &Rules,
+    asking: &Asking,
+    heard: &Heard,
+    count: u64,
+) -> Result<Met, String> {
+    let buffer = heard.route.contents();
+    let count = usize::try_from(count).ok().filter(|count| *count <= buffer.len());
+    let (route, later) = buffer.split_at(count.ok_or("the count is longer than the buffer")?);
+    if later != &filled::<u8>(buffer.len())[route.len()..] {
+        let first = u8::fill(route.len());
+        return Err(format!("a byte after the route is written; the first was {first}"));
+    }
+    rules.follow(asking, route)
+}
