@@ -1,0 +1,48 @@
+//! Lengths and numbers at their limits: work area and route buffer of none, one
+//! short, exact and longer; link, end and prefix just out of range and at the
+//! largest value; networks on both sides of every limit of the file.
+
+use differential::campaign::{Breadth, Case, Report, run};
+use differential::coverage::of_rows;
+use differential::files::NamedFile;
+use differential::library::Library;
+use differential::networks::{self, SMALL};
+use oracle::corpus;
+use oracle::file::write;
+use oracle::worked;
+
+fn compared(cases: &[Case]) -> Report {
+    let report = run(&Library, cases);
+    println!("{}", report.summary());
+    report.assert_same();
+    report
+}
+
+#[test]
+fn random_networks() {
+    let mut networks = networks::of_families(SMALL, 100..103);
+    networks.extend(networks::of_extremes(6));
+    let cases = networks.into_iter().map(|named| Case::of_network(named, Breadth::Limits));
+    let report = compared(&cases.collect::<Vec<Case>>());
+    report.assert_met(&of_rows(10..=13));
+}
+
+#[test]
+fn hand_worked_networks() {
+    let mut cases = Vec::new();
+    for (name, network) in worked::all() {
+        for breadth in [Breadth::Whole(5), Breadth::Limits] {
+            let file = NamedFile { name: name.to_string(), bytes: write(&network) };
+            cases.push(Case::of_file(file, breadth));
+        }
+    }
+    compared(&cases);
+}
+
+#[test]
+fn networks_at_the_limits_of_the_file() {
+    let edges = corpus::edges().into_iter();
+    let files = edges.map(|(name, bytes)| NamedFile { name, bytes });
+    let cases = files.map(|file| Case::of_file(file, Breadth::Limits));
+    compared(&cases.collect::<Vec<Case>>());
+}
