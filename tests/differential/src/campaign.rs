@@ -7,15 +7,13 @@ use crate::files::NamedFile;
 use crate::networks::Named;
 use crate::questions;
 use crate::routes::{Asking, Rules, follow_heard};
+use crate::threads::each;
 use oracle::answer::{Opened, Question, load};
 use oracle::fault::Context;
 use oracle::file::write;
 use oracle::network::Network;
 use oracle::random::Random;
 use oracle::text;
-use std::sync::Mutex;
-use std::sync::atomic::{AtomicUsize, Ordering};
-use std::thread;
 
 /// Which questions are asked about an accepted file.
 #[derive(Clone, Copy, Debug)]
@@ -24,6 +22,8 @@ pub enum Breadth {
     Whole(usize),
     /// Numbers and lengths at their limits.
     Limits,
+    /// What the file alone decides.
+    Reading,
 }
 
 /// A file and what is asked about it. Both follow from seeds.
@@ -59,6 +59,7 @@ impl Case {
         match (self.network(), self.breadth) {
             (None, _) => questions::of_refused(random),
             (Some(network), Breadth::Whole(routes)) => questions::whole(&network, routes, random),
+            (Some(network), Breadth::Reading) => questions::reading(&network, random),
             (Some(network), Breadth::Limits) => {
                 let mut asked = questions::numbers_at_limits(&network);
                 asked.extend(questions::lengths_at_limits(&network, random));
@@ -118,22 +119,14 @@ impl Report {
     }
 }
 
-/// Compares every call of every case. Each case is the work of one thread; a
-/// case stops at its first difference.
+/// Compares every call of every case. Each case is the work of one thread and
+/// stops at its first difference.
 pub fn run(planner: &dyn Planner, cases: &[Case]) -> Report {
-    let next = AtomicUsize::new(0);
-    let whole = Mutex::new(Report::default());
-    let threads = thread::available_parallelism().map_or(1, usize::from);
-    let work = || {
-        while let Some(case) = cases.get(next.fetch_add(1, Ordering::Relaxed)) {
-            let report = run_case(planner, case);
-            whole.lock().expect("no thread failed").add(report);
-        }
-    };
-    thread::scope(|scope| (0..threads).for_each(|_| drop(scope.spawn(work))));
-    let mut report = whole.into_inner().expect("no thread failed");
-    report.differences.sort();
-    report
+    let mut whole = Report::default();
+    for report in each(cases, |case| run_case(planner, case)) {
+        whole.add(report);
+    }
+    whole
 }
 
 fn run_case(planner: &dyn Planner, case: &Case) -> Report {

@@ -4,7 +4,7 @@
 use crate::compare::Asked;
 use crate::routes::Met;
 use oracle::answer::{Answer, Opened, Outcome, Question, inputs};
-use oracle::network::LinkEnd;
+use oracle::network::{LinkEnd, Network};
 use oracle::repair::{deciding_key, serving};
 use oracle::row::Cause;
 use oracle::space::{self, Space};
@@ -30,10 +30,14 @@ pub mod thing {
     pub const DELIVERED: &str = "route: delivered where it might have stepped on";
     pub const STEPPED: &str = "route: stepped on where it might have delivered";
     pub const CHOICE: &str = "route: a choice between two or more options";
+    pub const FEWEST: &str = "network: 1 router, no link and no prefix";
+    pub const MOST: &str = "network: 64 routers, 128 links and 128 prefixes";
+    pub const COST: &str = "network: a link cost of 65,535";
+    pub const ATTACHMENTS: &str = "network: a prefix with 8 attachments";
     pub const E_TO_S: &str = "extended P: a router out of it by a crossing from E to S alone";
 
     /// All of them.
-    pub const ALL: [&str; 18] = [
+    pub const ALL: [&str; 22] = [
         ACCEPTED,
         ENTRY,
         NO_ENTRY,
@@ -51,6 +55,10 @@ pub mod thing {
         DELIVERED,
         STEPPED,
         CHOICE,
+        FEWEST,
+        MOST,
+        COST,
+        ATTACHMENTS,
         E_TO_S,
     ];
 }
@@ -97,9 +105,22 @@ impl Coverage {
                 self.met(&thing, 1);
                 self.deciding(opened, &asked.question);
             }
+            Answer::Accepted(network) => self.network(network),
             Answer::Set(_) => self.e_to_s(opened, &asked.question),
             other => self.met(of_answer(&asked.question, other), 1),
         }
+    }
+
+    /// Sizes and costs at their limits.
+    fn network(&mut self, network: &Network) {
+        let counts = (network.routers, network.links.len(), network.prefixes.len());
+        let costs = network.links.iter().filter(|link| link.forth.max(link.back) == u16::MAX);
+        let full = network.prefixes.iter().filter(|prefix| prefix.attachments.len() == 8);
+        self.met(thing::ACCEPTED, 1);
+        self.met(thing::FEWEST, u64::from(counts == (1, 0, 0)));
+        self.met(thing::MOST, u64::from(counts == (64, 128, 128)));
+        self.met(thing::COST, costs.count() as u64);
+        self.met(thing::ATTACHMENTS, full.count() as u64);
     }
 
     fn fourteen(&mut self, question: &Question) {
@@ -210,7 +231,6 @@ fn is_link(question: &Question) -> bool {
 fn of_answer(question: &Question, answer: &Answer) -> &'static str {
     let route = matches!(question, Question::Route { .. });
     match answer {
-        Answer::Accepted(_) => thing::ACCEPTED,
         Answer::Part { bytes, .. } if bytes.is_empty() => thing::NO_ENTRY,
         Answer::Part { .. } => thing::ENTRY,
         Answer::Size(_) => thing::SIZE,

@@ -18,3 +18,6 @@ pub mod plan;
 pub mod questions;
 pub mod routes;
 pub mod stand_in;
+mod threads;
+
+pub use threads::each;

@@ -8,9 +8,8 @@ use oracle::random::Random;
 use oracle::space::Space;
 
 /// Every question with numbers in range, for each prefix question that many
-/// routes. The buffers are just enough or a little longer.
+/// routes. The plan comes last: it shows again what the link repairs show.
 pub fn whole(network: &Network, routes: usize, random: &mut Random) -> Vec<Asked> {
-    let (cells, bytes) = enough(network);
     let mut questions = about_the_file(network, random);
     for (link, end) in link_ends(network) {
         questions.extend(link_questions(link, end));
@@ -22,6 +21,18 @@ pub fn whole(network: &Network, routes: usize, random: &mut Random) -> Vec<Asked
             }
         }
     }
+    questions.push(Question::Plan);
+    lent(network, questions, random)
+}
+
+/// What the file alone decides: load, distances, sizes, and every entry.
+pub fn reading(network: &Network, random: &mut Random) -> Vec<Asked> {
+    lent(network, about_the_file(network, random), random)
+}
+
+/// Questions with buffers that are just enough or a little longer.
+fn lent(network: &Network, questions: Vec<Question>, random: &mut Random) -> Vec<Asked> {
+    let (cells, bytes) = enough(network);
     let mut lend = |question| Asked {
         question,
         cells: cells + random.below(3),
@@ -30,9 +41,8 @@ pub fn whole(network: &Network, routes: usize, random: &mut Random) -> Vec<Asked
     questions.into_iter().map(&mut lend).collect()
 }
 
-/// Load, plan, distances, sizes, and every entry.
 fn about_the_file(network: &Network, random: &mut Random) -> Vec<Question> {
-    let mut questions = vec![Question::Load, Question::Plan, Question::Distances];
+    let mut questions = vec![Question::Load, Question::Distances];
     let one_bit = 1 << random.below(64);
     let sets = [0, 1, 1 << 63, u64::MAX, one_bit, random.any(), random.any() & random.any()];
     questions.extend(sets.map(|set| Question::Size { set }));

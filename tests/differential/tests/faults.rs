@@ -3,7 +3,8 @@
 
 use differential::campaign::{Breadth, Case};
 use differential::compare::{Asked, Heard, ask, difference};
-use differential::files;
+use differential::each;
+use differential::files::{self, NamedFile};
 use differential::library::Library;
 use differential::networks::{self, MIDDLE, SMALL};
 use oracle::answer::Opened;
@@ -11,9 +12,6 @@ use oracle::corpus;
 use oracle::fault::{Context, Fault};
 use oracle::file::write;
 use oracle::worked;
-use std::sync::atomic::{AtomicUsize, Ordering};
-use std::sync::{Mutex, MutexGuard};
-use std::thread;
 
 /// A case with all that was heard from the library.
 struct Recorded {
@@ -32,14 +30,15 @@ impl Recorded {
     }
 
     /// The first question whose answer by an oracle with a fault differs from
-    /// what was heard, and in what.
+    /// what was heard.
     fn notices(&self, ctx: &Context) -> Option<String> {
         let opened = Opened::new(ctx, &self.case.file);
-        self.heard.iter().find_map(|(asked, heard)| {
+        let differs = |(asked, heard): &&(Asked, Heard)| {
             let expected = opened.ask(&asked.question, &asked.buffers());
-            let difference = difference(&self.case.file, asked, &expected, heard)?;
-            Some(format!("{}: {:?}: {difference}", self.case.name, asked.question))
-        })
+            difference(&self.case.file, asked, &expected, heard).is_some()
+        };
+        let (asked, _) = self.heard.iter().find(differs)?;
+        Some(format!("{} ({:?})", self.case.name, asked.question))
     }
 }
 
@@ -50,7 +49,7 @@ fn cases() -> Vec<Case> {
     for breadth in [Breadth::Whole(5), Breadth::Limits] {
         cases.extend(worked::all().into_iter().map(|(name, network)| {
             let bytes = write(&network);
-            Case::of_file(files::NamedFile { name: name.to_string(), bytes }, breadth)
+            Case::of_file(NamedFile { name: name.to_string(), bytes }, breadth)
         }));
     }
     cases.extend(files::repeated_bytes().into_iter().map(file));
@@ -60,49 +59,33 @@ fn cases() -> Vec<Case> {
     cases.extend(small.map(|named| Case::of_network(named, Breadth::Whole(3))));
     let middle = networks::of_families(MIDDLE, 2020..2021).into_iter();
     cases.extend(middle.map(|named| Case::of_network(named, Breadth::Whole(1))));
-    let edges = corpus::edges().into_iter();
-    cases.extend(edges.map(|(name, bytes)| file(files::NamedFile { name, bytes })));
+    let edges = corpus::edges().into_iter().map(|(name, bytes)| NamedFile { name, bytes });
+    cases.extend(edges.map(|file| Case::of_file(file, Breadth::Reading)));
     cases
 }
 
-/// Does the work of each number below a count, by several threads.
-fn for_each(count: usize, work: impl Fn(usize) + Sync) {
-    let next = AtomicUsize::new(0);
-    let threads = thread::available_parallelism().map_or(1, usize::from);
-    thread::scope(|scope| {
-        for _ in 0..threads {
-            scope.spawn(|| {
-                while let number = next.fetch_add(1, Ordering::Relaxed)
-                    && number < count
-                {
-                    work(number);
-                }
-            });
-        }
-    });
-}
-
-fn locked<T>(mutex: &Mutex<T>) -> MutexGuard<'_, T> {
-    mutex.lock().expect("no thread failed")
-}
+/// How many cases that notice a fault are looked for.
+const ENOUGH: usize = 3;
 
 #[test]
 fn every_fault_is_noticed() {
-    let recorded: Vec<Recorded> = cases().into_iter().map(Recorded::of).collect();
-    assert!(recorded.iter().all(|recorded| recorded.notices(&Context::sound()).is_none()));
     let faults = Fault::all();
-    let wrong = Mutex::new(Vec::new());
-    for_each(faults.len(), |number| {
-        let fault = faults[number];
-        let ctx = Context::with(&[fault]);
-        let by = recorded.iter().find_map(|recorded| recorded.notices(&ctx));
-        // Two faults change no answer of any call, so nothing may notice them.
-        if by.is_some() == fault.never_seen() {
-            locked(&wrong).push(fault.name());
+    let mut by: Vec<Vec<String>> = vec![Vec::new(); faults.len()];
+    for case in cases() {
+        let recorded = Recorded::of(case);
+        assert_eq!(recorded.notices(&Context::sound()), None, "noticed without a fault");
+        let open: Vec<usize> =
+            (0..faults.len()).filter(|fault| by[*fault].len() < ENOUGH).collect();
+        let noticed = each(&open, |fault| recorded.notices(&Context::with(&[faults[*fault]])));
+        for (fault, noticed) in open.into_iter().zip(noticed) {
+            by[fault].extend(noticed);
         }
-        let by = by.map_or("by nothing".to_string(), |by| format!("by {by}"));
-        println!("{} is noticed {by}", fault.name());
-    });
-    let wrong = locked(&wrong);
-    assert!(wrong.is_empty(), "noticed though it cannot be seen, or not noticed: {wrong:?}");
+    }
+    for (fault, by) in faults.iter().zip(&by) {
+        println!("{} is noticed by: {}", fault.name(), by.join("; "));
+    }
+    // Two faults change no answer of any call, so nothing may notice them.
+    let wrong = faults.iter().zip(&by).filter(|(fault, by)| by.is_empty() != fault.never_seen());
+    let wrong: Vec<String> = wrong.map(|(fault, _)| fault.name()).collect();
+    assert!(wrong.is_empty(), "not noticed, or noticed though it cannot be seen: {wrong:?}");
 }
