@@ -1,0 +1,83 @@
+//! Played routes hop by hop: many routes where many paths are equal, and the
+//! rules that they are held against, tried on routes that break them.
+
+use differential::campaign::{Breadth, Case, run};
+use differential::coverage::thing;
+use differential::library::Library;
+use differential::networks::{Size, of_family};
+use differential::routes::{Asking, Rules};
+use oracle::generate::Family;
+use oracle::worked::{grid, ring};
+
+/// Routers and prefixes enough for choices on most routes.
+const CHOICES: Size = Size { name: "choices", routers: (9, 20), prefixes: (2, 6) };
+
+#[test]
+fn many_routes_where_many_paths_are_equal() {
+    let families = [Family::Ties, Family::Grid, Family::Dense, Family::Ring, Family::HighCost];
+    let networks = families
+        .iter()
+        .flat_map(|family| (3001..3006).map(|seed| of_family(*family, CHOICES, seed)));
+    let cases = networks.map(|named| Case::of_network(named, Breadth::Whole(12)));
+    let report = run(&Library, &cases.collect::<Vec<Case>>());
+    println!("{}", report.summary());
+    report.assert_same();
+    let things = [thing::PLAYED, thing::CHOICE, thing::DELIVERED, thing::STEPPED];
+    report.assert_met(&things.map(str::to_string));
+    assert!(report.routes > 5000, "only {} routes were followed", report.routes);
+}
+
+/// Link 0, end 0 and prefix 0, with the first hop n and the endpoint y.
+fn asking(pair: (usize, usize), choices: &[u8]) -> Asking<'_> {
+    Asking { link: 0, end: 0, prefix: 0, pair, choices }
+}
+
+#[test]
+fn a_route_that_breaks_a_rule_is_noticed() {
+    let network = grid(4, 4).prefix(&[(15, 0)]);
+    let rules = Rules::of(&network);
+    let pair = (4, 4);
+    assert!(rules.follow(&asking(pair, &[]), &[0, 4, 5, 6, 7, 11, 15]).is_ok());
+    assert!(rules.follow(&asking(pair, &[1, 1]), &[0, 4, 8, 12, 13, 14, 15]).is_ok());
+    let broken: [&[u8]; 10] = [
+        // Nothing, S missing, another first hop, over the link.
+        &[],
+        &[4, 5, 6, 7, 11, 15],
+        &[0, 1, 2, 3, 7, 11, 15],
+        &[0, 4, 0, 1, 2, 3, 7, 11, 15],
+        // No link, a router that is not there, a way back, another choice.
+        &[0, 4, 6, 7, 11, 15],
+        &[0, 4, 5, 6, 7, 11, 16],
+        &[0, 4, 5, 4, 5, 6, 7, 11, 15],
+        &[0, 4, 8, 9, 10, 11, 15],
+        // Not delivered, not ended.
+        &[0, 4, 5, 6, 7, 11],
+        &[0, 4, 5, 6, 7, 11, 15, 14],
+    ];
+    for route in broken {
+        assert!(rules.follow(&asking(pair, &[]), route).is_err(), "{route:?}");
+    }
+}
+
+#[test]
+fn a_tunnel_that_misses_its_endpoint_is_noticed() {
+    // Ring 6: by 5 and 4 to the endpoint 3, and on to 2 and 1.
+    let network = ring(6).prefix(&[(1, 0)]);
+    let rules = Rules::of(&network);
+    assert!(rules.follow(&asking((5, 3), &[]), &[0, 5, 4, 3, 2, 1]).is_ok());
+    assert!(rules.follow(&asking((5, 3), &[]), &[0, 5, 4]).is_err());
+    assert!(rules.follow(&asking((5, 3), &[]), &[0, 5, 4, 3, 3, 2, 1]).is_err());
+    assert!(rules.follow(&asking((5, 2), &[]), &[0, 5, 4, 3]).is_err());
+}
+
+#[test]
+fn delivery_or_a_step_is_counted() {
+    let network = ring(4).prefix(&[(1, 0), (2, 0), (3, 1)]);
+    let rules = Rules::of(&network);
+    let delivered = rules.follow(&asking((3, 3), &[]), &[0, 3]).expect("it delivers at once");
+    assert_eq!((delivered.delivered_by_choice, delivered.stepped_by_choice), (1, 0));
+    let stepped = rules.follow(&asking((3, 3), &[1]), &[0, 3, 2]).expect("it steps on");
+    assert_eq!((stepped.delivered_by_choice, stepped.stepped_by_choice), (0, 1));
+    assert!(rules.follow(&asking((3, 3), &[1]), &[0, 3]).is_err());
+    assert!(rules.follow(&asking((3, 3), &[]), &[0, 3, 2]).is_err());
+}
