@@ -35,7 +35,8 @@ pub struct Case {
 }
 
 impl Case {
-    /// The case of a file.
+    /// The case of a file. The seed of its questions follows from its bytes, so
+    /// that a case is the same whatever cases stand before it.
     pub fn of_file(file: NamedFile, breadth: Breadth) -> Case {
         let seed =
             file.bytes.iter().fold(0, |seed: u64, byte| seed * 31 % 1_000_003 + u64::from(*byte));

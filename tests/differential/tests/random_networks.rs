@@ -34,3 +34,15 @@ fn wide_networks_of_every_family() {
 fn networks_with_the_least_and_the_most_of_everything() {
     compared(networks::of_extremes(1), 1);
 }
+
+#[test]
+fn the_same_seeds_make_the_same_cases() {
+    let cases = || {
+        let networks = networks::of_families(SMALL, 1..3).into_iter();
+        networks.map(|named| Case::of_network(named, Breadth::Whole(3)))
+    };
+    for (one, other) in cases().zip(cases()) {
+        assert_eq!((&one.name, &one.file), (&other.name, &other.file));
+        assert_eq!(one.asked(), other.asked());
+    }
+}
