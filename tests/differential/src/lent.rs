@@ -79,8 +79,10 @@ impl<C: Cell> Lent<C> {
         let contents = self.contents();
         assert_eq!(contents.len(), expected.len(), "a buffer keeps its length");
         let after = &self.cells[GUARDS + contents.len()..];
+        let inside = || first("the cells", contents, |place| expected[place]);
         first_guard("the guard cells before", &self.cells[..GUARDS])
-            .or_else(|| first("the cells", contents, |place| expected[place]))
+            // Nearly always the whole slices are equal, which is found faster.
+            .or_else(|| if contents == expected { None } else { inside() })
             .or_else(|| first_guard("the guard cells after", after))
     }
 }
