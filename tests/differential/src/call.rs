@@ -51,6 +51,8 @@ pub enum Told {
     Played(u64),
     /// The text of a plan.
     Text(String),
+    /// Something that the interface does not have, in words.
+    Other(String),
 }
 
 impl From<&Answer> for Told {

@@ -6,6 +6,7 @@
 //! call is compared whole: its answer, every cell of every buffer lent to it,
 //! and the guard cells around each buffer.
 
+pub mod c_interface;
 pub mod call;
 pub mod campaign;
 pub mod compare;
