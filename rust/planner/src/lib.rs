@@ -45,7 +45,7 @@ mod call;
 mod file;
 mod network;
 #[allow(unsafe_code)]
-mod raw;
+pub mod raw;
 mod refusal;
 pub mod text;
 

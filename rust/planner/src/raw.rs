@@ -1,5 +1,7 @@
-//! The C interface, as `include/planner.h` declares it. Nothing is called here but what is safe for
-//! every input; the other calls are in `call`.
+//! The C interface, as `include/planner.h` declares it, for programs that want the numbers as the
+//! library gives them; the header says what each is. The functions of the crate itself are safe.
+
+#![allow(missing_docs)]
 
 /// The kinds of an answer.
 pub mod kind {

@@ -1,4 +1,5 @@
-//! The library, by way of its C interface as `include/planner.h` declares it.
+//! The library, by way of its C interface as `include/planner.h` declares it
+//! and `planner::raw` repeats it.
 //! It shows what the safe crate keeps to itself: the 34 bytes that an entry is
 //! copied into, the numbers of the kinds, the fields of which a kind does not
 //! speak, the cells of a network after the last entry, and null pointers for
@@ -9,103 +10,11 @@ use crate::plan;
 use oracle::answer::Question;
 use oracle::network::{Attachment, Link, Network, Prefix};
 use oracle::space::Space;
+use planner::raw::{self, Answer};
 use std::ptr::{null, null_mut};
 
-/// `planner_answer`.
-#[repr(C)]
-struct RawAnswer {
-    kind: u32,
-    number: u32,
-    value: u64,
-    first: usize,
-    endpoint: usize,
-    pair_class: u32,
-    cost: u32,
-}
-
-/// `planner_network`.
-#[repr(C)]
-struct RawNetwork {
-    kind: u32,
-    number: u32,
-    value: u64,
-    routers: usize,
-    links: usize,
-    prefixes: usize,
-    from: [u8; 128],
-    to: [u8; 128],
-    out: [u16; 128],
-    back: [u16; 128],
-    attached: [u8; 128],
-    at: [u8; 1024],
-    own: [u16; 1024],
-}
-
 /// A call about a link and an end: file, work area, link, end.
-type LinkCall = unsafe extern "C" fn(*const u8, usize, *mut u32, usize, usize, usize) -> RawAnswer;
-
-// SAFETY: each declaration is that of the header, with `usize` for `size_t`.
-unsafe extern "C" {
-    fn planner_load(file: *const u8, file_len: usize) -> RawNetwork;
-    fn planner_link_entry(f: *const u8, file_len: usize, link: usize, entry: *mut u8) -> usize;
-    fn planner_prefix_entry(f: *const u8, file_len: usize, prefix: usize, entry: *mut u8) -> usize;
-    fn planner_distances(f: *const u8, file_len: usize, w: *mut u32, work_len: usize) -> RawAnswer;
-    fn planner_p_space(
-        f: *const u8,
-        n: usize,
-        w: *mut u32,
-        m: usize,
-        k: usize,
-        e: usize,
-    ) -> RawAnswer;
-    fn planner_extended_p_space(
-        file: *const u8,
-        file_len: usize,
-        work: *mut u32,
-        work_len: usize,
-        link: usize,
-        end: usize,
-    ) -> RawAnswer;
-    fn planner_q_space(
-        f: *const u8,
-        n: usize,
-        w: *mut u32,
-        m: usize,
-        k: usize,
-        e: usize,
-    ) -> RawAnswer;
-    safe fn planner_size(set: u64) -> u32;
-    fn planner_link_repair(
-        f: *const u8,
-        n: usize,
-        w: *mut u32,
-        m: usize,
-        k: usize,
-        e: usize,
-    ) -> RawAnswer;
-    fn planner_prefix_repair(
-        file: *const u8,
-        file_len: usize,
-        work: *mut u32,
-        work_len: usize,
-        link: usize,
-        end: usize,
-        prefix: usize,
-    ) -> RawAnswer;
-    fn planner_route(
-        file: *const u8,
-        file_len: usize,
-        work: *mut u32,
-        work_len: usize,
-        link: usize,
-        end: usize,
-        prefix: usize,
-        choices: *const u8,
-        choices_len: usize,
-        route: *mut u8,
-        route_len: usize,
-    ) -> RawAnswer;
-}
+type LinkCall = unsafe extern "C" fn(*const u8, usize, *mut u32, usize, usize, usize) -> Answer;
 
 /// The library behind its C interface.
 pub struct CInterface;
@@ -115,18 +24,20 @@ impl Planner for CInterface {
         let Call { file, question, choices, work, route, entry } = call;
         match *question {
             Question::Load => load(file),
-            Question::LinkEntry { link } => copied(planner_link_entry, file, link, entry),
-            Question::PrefixEntry { prefix } => copied(planner_prefix_entry, file, prefix, entry),
+            Question::LinkEntry { link } => copied(raw::planner_link_entry, file, link, entry),
+            Question::PrefixEntry { prefix } => {
+                copied(raw::planner_prefix_entry, file, prefix, entry)
+            }
             Question::Distances => told(distances(file, work)),
             Question::Space { space, link, end } => {
                 let call: LinkCall = match space {
-                    Space::P => planner_p_space,
-                    Space::ExtendedP => planner_extended_p_space,
-                    Space::Q => planner_q_space,
+                    Space::P => raw::planner_p_space,
+                    Space::ExtendedP => raw::planner_extended_p_space,
+                    Space::Q => raw::planner_q_space,
                 };
                 told(about_link(call, file, work, link, end))
             }
-            Question::Size { set } => Told::Size(u64::from(planner_size(set))),
+            Question::Size { set } => Told::Size(u64::from(raw::planner_size(set))),
             Question::LinkRepair { link, end } => link_repair(file, work, link, end),
             Question::PrefixRepair { link, end, prefix } => {
                 told(prefix_repair(file, work, (link, end, prefix)))
@@ -159,7 +70,7 @@ fn place(number: u64) -> usize {
 
 fn load(file: &[u8]) -> Told {
     // SAFETY: the pointer and the length are those of one slice.
-    network(&unsafe { planner_load(of(file), file.len()) })
+    network(&unsafe { raw::planner_load(of(file), file.len()) })
 }
 
 type EntryCall = unsafe extern "C" fn(*const u8, usize, usize, *mut u8) -> usize;
@@ -172,29 +83,29 @@ fn copied(call: EntryCall, file: &[u8], number: u64, entry: &mut [u8]) -> Told {
     Told::Copied(count as u64)
 }
 
-fn distances(file: &[u8], work: &mut [u32]) -> RawAnswer {
+fn distances(file: &[u8], work: &mut [u32]) -> Answer {
     // SAFETY: pointers and lengths are those of two slices apart.
-    unsafe { planner_distances(of(file), file.len(), to(work), work.len()) }
+    unsafe { raw::planner_distances(of(file), file.len(), to(work), work.len()) }
 }
 
-fn about_link(call: LinkCall, file: &[u8], work: &mut [u32], link: u64, end: u64) -> RawAnswer {
+fn about_link(call: LinkCall, file: &[u8], work: &mut [u32], link: u64, end: u64) -> Answer {
     let cells = work.len();
     // SAFETY: pointers and lengths are those of two slices apart.
     unsafe { call(of(file), file.len(), to(work), cells, place(link), place(end)) }
 }
 
 fn link_repair(file: &[u8], work: &mut [u32], link: u64, end: u64) -> Told {
-    told(about_link(planner_link_repair, file, work, link, end))
+    told(about_link(raw::planner_link_repair, file, work, link, end))
 }
 
 /// A question's link, end and prefix.
 type Named = (u64, u64, u64);
 
-fn prefix_repair(file: &[u8], work: &mut [u32], (link, end, prefix): Named) -> RawAnswer {
+fn prefix_repair(file: &[u8], work: &mut [u32], (link, end, prefix): Named) -> Answer {
     let (cells, prefix) = (work.len(), place(prefix));
     // SAFETY: pointers and lengths are those of two slices apart.
     unsafe {
-        planner_prefix_repair(
+        raw::planner_prefix_repair(
             of(file),
             file.len(),
             to(work),
@@ -212,10 +123,10 @@ fn route_of(
     (link, end, prefix): Named,
     choices: &[u8],
     route: &mut [u8],
-) -> RawAnswer {
+) -> Answer {
     // SAFETY: pointers and lengths are those of four slices apart.
     unsafe {
-        planner_route(
+        raw::planner_route(
             of(file),
             file.len(),
             to(work),
@@ -233,8 +144,8 @@ fn route_of(
 
 /// What an answer tells. A kind that the header does not name is told as such,
 /// and so is an answer with a field that its kind does not speak of.
-fn told(answer: RawAnswer) -> Told {
-    let RawAnswer { kind, number, value, first, endpoint, pair_class, cost } = answer;
+fn told(answer: Answer) -> Told {
+    let Answer { kind, number, value, first, endpoint, pair_class, cost } = answer;
     let pair = [first as u64, endpoint as u64, u64::from(pair_class), u64::from(cost)];
     let odd = || Told::Other(format!("kind {kind}, number {number}, value {value}, {pair:?}"));
     let alone = number == 0 && pair == [0; 4];
@@ -254,7 +165,7 @@ fn told(answer: RawAnswer) -> Told {
 }
 
 /// What a loaded network tells. Every cell that no entry speaks of is 0.
-fn network(raw: &RawNetwork) -> Told {
+fn network(raw: &raw::Network) -> Told {
     let refusal = Told::Refused { number: u64::from(raw.number), value: raw.value };
     let found = entries(raw);
     let whole = found.as_ref().is_some_and(|network| cells_of(network) == cells(raw));
@@ -266,7 +177,7 @@ fn network(raw: &RawNetwork) -> Told {
 }
 
 /// The entries of a network, if its counts have room in its cells.
-fn entries(raw: &RawNetwork) -> Option<Network> {
+fn entries(raw: &raw::Network) -> Option<Network> {
     let attached = raw.attached.get(..raw.prefixes)?;
     if raw.links > raw.from.len() || attached.iter().any(|count| *count > 8) {
         return None;
@@ -285,7 +196,7 @@ fn entries(raw: &RawNetwork) -> Option<Network> {
 }
 
 /// All cells of a network's columns, one column after the other.
-fn cells(raw: &RawNetwork) -> Vec<u16> {
+fn cells(raw: &raw::Network) -> Vec<u16> {
     let bytes = |column: &[u8]| column.iter().copied().map(u16::from).collect::<Vec<u16>>();
     let columns = [&raw.from, &raw.to, &raw.attached].map(|column| bytes(column));
     [columns.concat(), bytes(&raw.at), raw.out.into(), raw.back.into(), raw.own.into()].concat()
