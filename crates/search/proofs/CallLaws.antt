@@ -17,13 +17,13 @@ use Rattle.lfa.specs.Laws.List.{every-gives, every-make}
 use Rattle.lfa.specs.Laws.Counting.{length-map-below, map-below-gives, map-below-at}
 use Rattle.lfa.specs.Laws.Network.{LinkSound, LinksSound}
 use Rattle.network_file.specs.declared.network.Network.{Network}
-use Rattle.distance.specs.Columns.{linksIn, arcsIn, ColumnsWithin, InColumns}
-use Rattle.distance.specs.Area.{held, SlotsWithin}
-use Rattle.distance.specs.Calls.{cellsFit, joins, slotsFit}
-use Rattle.distance.specs.Laws.List.{every-fails}
+use Rattle.metric.specs.Fit.{ColumnsWithin, SlotsWithin, cellsFit, joins, slotsFit}
+use Rattle.metric.specs.Laws.List.{every-fails}
+use Rattle.metric.specs.Laws.Fit.{cells-give, slots-give}
+use Rattle.distance.specs.Columns.{linksIn, arcsIn, InColumns}
+use Rattle.distance.specs.Area.{held}
 use Rattle.distance.specs.Laws.Columns.{arcs-columns}
 use Rattle.distance.specs.Laws.Area.{held-filled}
-use Rattle.distance.specs.Laws.Calls.{cells-give, slots-give}
 use Rattle.search.specs.Known.{Known}
 use Rattle.search.specs.Spaces.{protectedIn}
 use Rattle.search.specs.Calls.{priced, linkPriced, linksPriced, answered, prefixHeld, prefixAnswered, heldBy, targetIn, areaBy, spaceBy, linkBy, prefixBy}

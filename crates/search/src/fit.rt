@@ -1,8 +1,8 @@
 // Whether numbers that are handed in are those of a network, of a link of it and of one of its prefixes.
 use crate::space::wide;
-use distance::fit::cells_fit;
-use distance::fit::joins;
-use distance::fit::slots_fit;
+use metric::fit::cells_fit;
+use metric::fit::joins;
+use metric::fit::slots_fit;
 use network_file::network::Network;
 ghost use mathlib.Core.Path.{_≡_};
 ghost use mathlib.Core.Bool.{_&&_};

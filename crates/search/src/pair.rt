@@ -7,7 +7,8 @@ ghost use Rattle.lfa.specs.Network.{Target};
 ghost use Rattle.lfa.specs.Distance.{towards};
 ghost use Rattle.lfa.specs.Repair.{key, noLater, orElse, firstPair, outcomeOf, linkOutcome, prefixOutcome};
 ghost use Rattle.distance.specs.Columns.{arcsIn};
-ghost use Rattle.distance.specs.Area.{held, column, SlotsWithin, slotsIn};
+ghost use Rattle.metric.specs.Fit.{SlotsWithin};
+ghost use Rattle.distance.specs.Area.{held, column, slotsIn};
 ghost use Rattle.search.specs.Known.{Readable, Known};
 ghost use Rattle.search.specs.Spaces.{asked, RoutersWithin};
 ghost use Rattle.search.specs.Choice.{keysIn, foundIn, outcomeFor, outcomeIn, addKeys, firstOf, classBy, keysAt, mayEnd, hopKeys, columnKeys};
@@ -15,9 +16,9 @@ use crate::Found;
 use crate::FoundPair;
 use crate::space;
 use crate::space::ProtectedLink;
-use distance::Distance;
 use distance::towards_prefix;
 use distance::towards_router;
+use metric::Distance;
 
 // A pair that serves: the first hop, the endpoint, the class, the tunnel cost, and the distance from S to the endpoint, by which pairs
 // of a class are ordered.

@@ -9,7 +9,8 @@ ghost use Prim.Native.Nat.{_*_, _≤_, _<_};
 ghost use lib.ListN.{length};
 ghost use Rattle.lfa.specs.Network as lfa;
 ghost use Rattle.lfa.specs.Distance.{filled};
-ghost use Rattle.distance.specs.Columns.{ColumnsWithin, InColumns};
+ghost use Rattle.metric.specs.Fit.{ColumnsWithin};
+ghost use Rattle.distance.specs.Columns.{InColumns};
 ghost use Rattle.search.specs.Spaces.{protectedIn, asked};
 
 // The protected link, seen from its end.

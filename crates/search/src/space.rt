@@ -11,8 +11,8 @@ ghost use Rattle.distance.specs.Area.{held};
 ghost use Rattle.search.specs.Known.{Readable, Known};
 ghost use Rattle.search.specs.Spaces.{asked, belowBoth, clears, clearsTo, RoutersWithin, routersIn, someClears, leavesNear, crossesOut, firstsIn, spaceNamed};
 use crate::Which;
-use distance::Distance;
 use distance::towards_router;
+use metric::Distance;
 
 // The protected link, seen from the end that the question names: its number, the repairing router S (near), the far router E (far),
 // and the costs from S to E (out) and from E to S (back).

@@ -4,7 +4,7 @@ use mathlib.Core.Path.{_≡_, sym, _∙_}
 use mathlib.Core.Bool.{true}
 use borrow.Author.Tests.{not-true, not-false, lt-ltb, le-ltb}
 use borrow.Author.Needs.{needs}
-use Rattle.distance.specs.Calls.{cellsFit}
+use Rattle.metric.specs.Fit.{cellsFit}
 use Rattle.search.specs.Calls.{linksPriced}
 use Rattle.search.proofs.CallLaws.{cells-refuse, links-refuse, rest-decides}
 use Rattle.search.proofs.fit.answers.Statement.{statement}

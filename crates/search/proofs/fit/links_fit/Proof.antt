@@ -7,7 +7,7 @@ use native.Mathlib.Omega.{arith}
 use borrow.Author.Tests.{not-true, not-false}
 use borrow.Author.Needs.{needs}
 use Rattle.lfa.specs.Laws.Test.{and-make}
-use Rattle.distance.specs.Laws.List.{every-more}
+use Rattle.metric.specs.Laws.List.{every-more}
 use Rattle.search.specs.Calls.{linkPriced}
 use Rattle.search.proofs.CallLaws.{links-many, ends-fail, costs-fail, links-pass}
 use Rattle.search.proofs.fit.links_fit.Statement.{statement}

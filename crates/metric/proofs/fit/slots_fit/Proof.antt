@@ -1,4 +1,4 @@
--- `distance::fit::slots_fit` meets its contract. The loop's invariant: the slots before s hold routers.
+-- `metric::fit::slots_fit` meets its contract. The loop's invariant: the slots before s hold routers.
 -- Assumes nothing.
 use Prim.Native.Nat.{ℕ, _+_, _-_, _≤_, _<_}
 use mathlib.Core.Path.{_≡_}
@@ -7,11 +7,11 @@ use native.Mathlib.Omega.{arith}
 use lib.ListN.{getD}
 use borrow.Author.Tests.{lt-ltb}
 use borrow.Author.Needs.{needs}
-use Rattle.distance.specs.Calls.{attaches}
-use Rattle.distance.specs.Laws.List.{every-more}
-use Rattle.distance.specs.Laws.Calls.{slots-many, slot-fails, slots-pass}
-use Rattle.distance.proofs.fit.slots_fit.Statement.{statement}
-use Rattle.distance.proofs.fit.slots_fit.Tie as tie
+use Rattle.metric.specs.Fit.{attaches}
+use Rattle.metric.specs.Laws.List.{every-more}
+use Rattle.metric.proofs.FitLaws.{slots-many, slot-fails, slots-pass}
+use Rattle.metric.proofs.fit.slots_fit.Statement.{statement}
+use Rattle.metric.proofs.fit.slots_fit.Tie as tie
 
 abbrev Inv-loop : tie.InvT-loop
 Inv-loop n at first count s₀ s = (s ≤ count) × ((j : ℕ) → j < s → attaches n first at j ≡ true)

@@ -1,4 +1,4 @@
--- `distance::fit::links_fit` meets its contract. The loop's invariant: the links before k join routers.
+-- `metric::fit::links_fit` meets its contract. The loop's invariant: the links before k join routers.
 -- Assumes nothing.
 use Prim.Native.Nat.{ℕ, _-_, _≤_, _<_}
 use mathlib.Core.Path.{_≡_, sym, _∙_}
@@ -6,11 +6,11 @@ use mathlib.Core.Bool.{true}
 use native.Mathlib.Omega.{arith}
 use borrow.Author.Tests.{not-true, not-false}
 use borrow.Author.Needs.{needs}
-use Rattle.distance.specs.Calls.{joins}
-use Rattle.distance.specs.Laws.List.{every-more}
-use Rattle.distance.proofs.CallLaws.{links-many, link-fails, links-pass}
-use Rattle.distance.proofs.fit.links_fit.Statement.{statement}
-use Rattle.distance.proofs.fit.links_fit.Tie as tie
+use Rattle.metric.specs.Fit.{joins}
+use Rattle.metric.specs.Laws.List.{every-more}
+use Rattle.metric.proofs.FitLaws.{links-many, link-fails, links-pass}
+use Rattle.metric.proofs.fit.links_fit.Statement.{statement}
+use Rattle.metric.proofs.fit.links_fit.Tie as tie
 
 abbrev Inv-loop : tie.InvT-loop
 Inv-loop routers links from to k₀ k = (k ≤ links) × ((j : ℕ) → j < k → joins routers from to j ≡ true)

@@ -1,9 +1,9 @@
--- `distance::fit::joins` meets its contract. The second end is tried where the first is a router.
+-- `metric::fit::joins` meets its contract. The second end is tried where the first is a router.
 -- Assumes nothing.
 use borrow.Author.Tests.{lt-ltb, le-ltb}
 use borrow.Author.Needs.{needs}
-use Rattle.distance.proofs.fit.joins.Statement.{statement}
-use Rattle.distance.proofs.fit.joins.Tie as tie
+use Rattle.metric.proofs.fit.joins.Statement.{statement}
+use Rattle.metric.proofs.fit.joins.Tie as tie
 
 wide-requires : tie.Need-wide-requires
 wide-requires c κs = search needs

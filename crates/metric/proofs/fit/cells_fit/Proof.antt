@@ -1,12 +1,12 @@
--- `distance::fit::cells_fit` meets its contract. At most 64 routers have at most 4096 cells.
+-- `metric::fit::cells_fit` meets its contract. At most 64 routers have at most 4096 cells.
 -- Assumes nothing.
 use Prim.Native.Nat.{_*_, _≤_}
 use native.Mathlib.Omega.{arith}
 use native.Mathlib.Nat.{mul-le-mul}
 use borrow.Author.Tests.{le-leb, lt-leb}
-use Rattle.distance.specs.Calls.{cellsFit}
-use Rattle.distance.proofs.fit.cells_fit.Statement.{statement}
-use Rattle.distance.proofs.fit.cells_fit.Tie as tie
+use Rattle.metric.specs.Fit.{cellsFit}
+use Rattle.metric.proofs.fit.cells_fit.Statement.{statement}
+use Rattle.metric.proofs.fit.cells_fit.Tie as tie
 
 mul-result : tie.Need-mul-result
 mul-result c =

@@ -2,7 +2,7 @@
 ghost use mathlib.Core.Path.{_≡_};
 ghost use mathlib.Core.Bool.{_&&_};
 ghost use lib.Dec.{ltb};
-ghost use Rattle.distance.specs.Calls.{cellsFit, linksFit, slotsFit};
+ghost use Rattle.metric.specs.Fit.{cellsFit, linksFit, slotsFit};
 
 // Whether there are at most 64 routers, and a cell for each two of them.
 pub fn cells_fit(n: usize, cells: usize) -> bool
@@ -12,7 +12,7 @@ pub fn cells_fit(n: usize, cells: usize) -> bool
 }
 
 // A router's number as an index.
-pub(crate) fn wide(x: u8) -> usize
+fn wide(x: u8) -> usize
     ensures { λ r. ⌜ r ≡ x ⌝ }
 {
     x as usize
@@ -26,7 +26,7 @@ pub fn joins(routers: usize, a: u8, b: u8) -> bool
 }
 
 // Whether there are at most 128 links, and each joins routers.
-pub(crate) fn links_fit(routers: usize, links: usize, from: &[u8; 128], to: &[u8; 128]) -> bool
+pub fn links_fit(routers: usize, links: usize, from: &[u8; 128], to: &[u8; 128]) -> bool
     ensures { λ r. ⌜ r ≡ linksFit routers links (now (from .entry)) (now (to .entry)) ⌝ }
 {
     if 128 < links {
