@@ -5,7 +5,7 @@ use mathlib.Core.List.{List}
 use lib.Dec.{ltb}
 use lib.ListN.{length}
 use denote.Ref.{now}
-use Rattle.route.specs.declared.choice.Choices.{Choices}
+use Rattle.supply.specs.declared.Choices.{Choices}
 
 -- the place of the byte after: where the bytes have run out it stays
 unfoldable pub placeAfter : List ℕ → ℕ → ℕ

@@ -1,4 +1,4 @@
--- `route::choice::Choices::next` meets its contract: a walk of its MIR, by hand. The borrow of the struct is opened, the slice and the place are read from it, `byte_at` and then `place_after` are called on them, the place is stored, and the borrow is closed at the struct with that place.
+-- `supply::Choices::next` meets its contract: a walk of its MIR, by hand. The borrow of the struct is opened, the slice and the place are read from it, `byte_at` and then `place_after` are called on them, the place is stored, and the borrow is closed at the struct with that place.
 -- All that the proof knows of the two is that each meets its contract; they take the same arguments, so one `apart` serves both calls. The struct is Copy: what it owns is had twice, and one copy goes to the callee.
 -- Assumes nothing.
 use mathlib.Core.Path.{_≡_, refl, ap}
@@ -45,23 +45,23 @@ use denote.Triple.Statement.{Contract, Triple}
 use denote.Triple.Table.{entered, cited}
 use denote.Triple.Walked.{says, Stays, stay-ref, walkOf, goes-ref, Walks, ends-at, walked, walk-meets}
 use Rattle.lfa.specs.Route.{choiceAt}
-use Rattle.route.specs.Supply.{placeAfter}
-use Rattle.route.specs.declared.choice.Choices.{Choices}
-use Rattle.route.proofs.Loan.{α, B}
-use Rattle.route.proofs.choice.Choices as T
-use Rattle.route.proofs.choice.Choices.Laws as T′
-use Rattle.route.proofs.choice.byte_at as byte-at
-use Rattle.route.proofs.choice.byte_at.Symbol as byte-at-def
-use Rattle.route.proofs.choice.byte_at.Symbol.{name as #byte-at}
-use Rattle.route.proofs.choice.byte_at.Met as byte-at-thm
-use Rattle.route.proofs.choice.place_after as place-after
-use Rattle.route.proofs.choice.place_after.Symbol as place-after-def
-use Rattle.route.proofs.choice.place_after.Symbol.{name as #place-after}
-use Rattle.route.proofs.choice.place_after.Met as place-after-thm
-use Rattle.route.proofs.choice.Choices.next.Key.{name as #next}
-use Rattle.route.proofs.choice.Choices.next as next
-use Rattle.route.proofs.choice.Choices.next.Statement as stated
-use Rattle.route.proofs.choice.Choices.next.Code as code
+use Rattle.supply.specs.Supply.{placeAfter}
+use Rattle.supply.specs.declared.Choices.{Choices}
+use Rattle.supply.proofs.Loan.{α, B}
+use Rattle.supply.proofs.Choices as T
+use Rattle.supply.proofs.Choices.Laws as T′
+use Rattle.supply.proofs.byte_at as byte-at
+use Rattle.supply.proofs.byte_at.Symbol as byte-at-def
+use Rattle.supply.proofs.byte_at.Symbol.{name as #byte-at}
+use Rattle.supply.proofs.byte_at.Met as byte-at-thm
+use Rattle.supply.proofs.place_after as place-after
+use Rattle.supply.proofs.place_after.Symbol as place-after-def
+use Rattle.supply.proofs.place_after.Symbol.{name as #place-after}
+use Rattle.supply.proofs.place_after.Met as place-after-thm
+use Rattle.supply.proofs.Choices.next.Key.{name as #next}
+use Rattle.supply.proofs.Choices.next as next
+use Rattle.supply.proofs.Choices.next.Statement as stated
+use Rattle.supply.proofs.Choices.next.Code as code
 
 -- `Choices<'a>`, as the referent's place in the signature
 abbrev behind : Slot 2
@@ -200,5 +200,5 @@ next-spec 𝓤 H 𝓜 𝓖 𝓡 =
     entered 𝓤 H (tripleOf 𝓤 H (𝓖 .A) next.signature (next.spec 𝓤 H (𝓖 .A) (𝓜 .mem) (𝓡 .run)))
     (tables 𝓤 H 𝓜 𝓡 code.env .C) (tables 𝓤 H 𝓜 𝓡 code.env .Λ) #next code.function (code.unfolded 𝓤 H 𝓜 𝓡)
     (next-meets 𝓤 H (𝓖 .A) (givenOf 𝓤 H 𝓜 𝓖) (𝓜 .mem) (𝓡 .run) (tablesOf 𝓤 H 𝓜 (tables 𝓤 H 𝓜 𝓡 code.env))
-    (cited 𝓤 H (ByteAt 𝓤 H (𝓖 .A) (𝓜 .mem) (𝓡 .run)) 𝓜 𝓡 code.env #byte-at byte-at-def.routine code.calls-route·choice·byte-at (byte-at-thm.met 𝓤 H 𝓜 𝓖 𝓡))
-    (cited 𝓤 H (PlaceAfter 𝓤 H (𝓖 .A) (𝓜 .mem) (𝓡 .run)) 𝓜 𝓡 code.env #place-after place-after-def.routine code.calls-route·choice·place-after (place-after-thm.met 𝓤 H 𝓜 𝓖 𝓡)))
+    (cited 𝓤 H (ByteAt 𝓤 H (𝓖 .A) (𝓜 .mem) (𝓡 .run)) 𝓜 𝓡 code.env #byte-at byte-at-def.routine code.calls-supply·byte-at (byte-at-thm.met 𝓤 H 𝓜 𝓖 𝓡))
+    (cited 𝓤 H (PlaceAfter 𝓤 H (𝓖 .A) (𝓜 .mem) (𝓡 .run)) 𝓜 𝓡 code.env #place-after place-after-def.routine code.calls-supply·place-after (place-after-thm.met 𝓤 H 𝓜 𝓖 𝓡)))

@@ -1,9 +1,9 @@
--- `route::choice::place_after` meets its contract: the test says which case of `placeAfter` holds. Assumes nothing.
+-- `supply::place_after` meets its contract: the test says which case of `placeAfter` holds. Assumes nothing.
 use borrow.Author.Needs.{needs}
 use borrow.Author.Tests.{le-ltb, lt-ltb}
-use Rattle.route.specs.Supply.{placeAfter}
-use Rattle.route.proofs.choice.place_after.Statement.{statement}
-use Rattle.route.proofs.choice.place_after.Tie as tie
+use Rattle.supply.specs.Supply.{placeAfter}
+use Rattle.supply.proofs.place_after.Statement.{statement}
+use Rattle.supply.proofs.place_after.Tie as tie
 
 add-result : tie.Need-add-result
 add-result c = search needs

@@ -23,9 +23,9 @@ use denote.Memory.{mem, cellAt, partOf}
 use denote.Ref.{NamedLft}
 use denote.Struct.Laws as LL
 use denote.Struct.Steps.{spelt}
-use Rattle.route.specs.declared.choice.Choices.{Choices}
-use Rattle.route.proofs.choice.Choices as T
-use Rattle.route.proofs.choice.Choices.Laws as T′
+use Rattle.supply.specs.declared.Choices.{Choices}
+use Rattle.supply.proofs.Choices as T
+use Rattle.supply.proofs.Choices.Laws as T′
 
 -- 'a as `next` has it, and the struct's type at it
 abbrev pub α : Lft → NamedLft

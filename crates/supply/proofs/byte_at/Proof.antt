@@ -1,10 +1,10 @@
--- `route::choice::byte_at` meets its contract: past the end the list has the default, 0. Assumes nothing.
+-- `supply::byte_at` meets its contract: past the end the list has the default, 0. Assumes nothing.
 use mathlib.Core.Path.{sym}
 use lib.ListN.{List·getD-eq-default}
 use borrow.Author.Needs.{needs}
 use Rattle.lfa.specs.Route.{choiceAt}
-use Rattle.route.proofs.choice.byte_at.Statement.{statement}
-use Rattle.route.proofs.choice.byte_at.Tie as tie
+use Rattle.supply.proofs.byte_at.Statement.{statement}
+use Rattle.supply.proofs.byte_at.Tie as tie
 
 shared-slice-read-result : tie.Need-shared-slice-read-result
 shared-slice-read-result c = search needs

@@ -1,4 +1,4 @@
--- `route::choice::choice` meets its contract: a walk of its MIR, by hand. The supply is made in a local, which is lent to `next` for a lifetime that is made for the call and ended after it; then the local is had again, and let go. All that the proof knows of `next` is that it meets its contract.
+-- `supply::choice` meets its contract: a walk of its MIR, by hand. The supply is made in a local, which is lent to `next` for a lifetime that is made for the call and ended after it; then the local is had again, and let go. All that the proof knows of `next` is that it meets its contract.
 -- `../../Loan.antt` has the tokens for the call, and the local as a loan holds it.
 -- Assumes nothing.
 use mathlib.Core.Path.{_≡_, refl}
@@ -47,19 +47,19 @@ use denote.Triple.Table.{entered, cited}
 use denote.Triple.Walked.{says, Stays, stay-none, stay-none-slice, walkOf, goes-none, goes-none-slice, Walks, ends-at, walked, walk-meets}
 use denote.Exit.{yes}
 use Rattle.lfa.specs.Route.{choiceAt}
-use Rattle.route.specs.Supply.{advanced}
-use Rattle.route.specs.declared.choice.Choices.{Choices}
-use Rattle.route.proofs.Loan.{α, B, half, other, Tok, Toks, Back, taken, lies, room}
-use Rattle.route.proofs.choice.Choices as T
-use Rattle.route.proofs.choice.Choices.Laws as T′
-use Rattle.route.proofs.choice.Choices.next as next
-use Rattle.route.proofs.choice.Choices.next.Symbol as next-def
-use Rattle.route.proofs.choice.Choices.next.Symbol.{name as #next}
-use Rattle.route.proofs.choice.Choices.next.Met as next-thm
-use Rattle.route.proofs.choice.choice.Key.{name as #choice}
-use Rattle.route.proofs.choice.choice as choice
-use Rattle.route.proofs.choice.choice.Statement as stated
-use Rattle.route.proofs.choice.choice.Code as code
+use Rattle.supply.specs.Supply.{advanced}
+use Rattle.supply.specs.declared.Choices.{Choices}
+use Rattle.supply.proofs.Loan.{α, B, half, other, Tok, Toks, Back, taken, lies, room}
+use Rattle.supply.proofs.Choices as T
+use Rattle.supply.proofs.Choices.Laws as T′
+use Rattle.supply.proofs.Choices.next as next
+use Rattle.supply.proofs.Choices.next.Symbol as next-def
+use Rattle.supply.proofs.Choices.next.Symbol.{name as #next}
+use Rattle.supply.proofs.Choices.next.Met as next-thm
+use Rattle.supply.proofs.choice.Key.{name as #choice}
+use Rattle.supply.proofs.choice as choice
+use Rattle.supply.proofs.choice.Statement as stated
+use Rattle.supply.proofs.choice.Code as code
 
 abbrev stayed : Stays (choice.ended .signature .params) (choice.ended .kept)
 stayed = (stay-none-slice (0 ∷ []) tt (plain (λ _. u8)) yes, (stay-none (λ _. usize) yes, tt))
@@ -158,4 +158,4 @@ choice-spec 𝓤 H 𝓜 𝓖 𝓡 =
     entered 𝓤 H (tripleOf 𝓤 H (𝓖 .A) choice.signature (choice.spec 𝓤 H (𝓖 .A) (𝓜 .mem) (𝓡 .run)))
     (tables 𝓤 H 𝓜 𝓡 code.env .C) (tables 𝓤 H 𝓜 𝓡 code.env .Λ) #choice code.function (code.unfolded 𝓤 H 𝓜 𝓡)
     (choice-meets 𝓤 H (𝓖 .A) (givenOf 𝓤 H 𝓜 𝓖) (𝓜 .mem) (𝓡 .run) (tablesOf 𝓤 H 𝓜 (tables 𝓤 H 𝓜 𝓡 code.env))
-    (cited 𝓤 H (Next 𝓤 H (𝓖 .A) (𝓜 .mem) (𝓡 .run)) 𝓜 𝓡 code.env #next next-def.routine code.calls-route·choice·Choices·next (next-thm.met 𝓤 H 𝓜 𝓖 𝓡)))
+    (cited 𝓤 H (Next 𝓤 H (𝓖 .A) (𝓜 .mem) (𝓡 .run)) 𝓜 𝓡 code.env #next next-def.routine code.calls-supply·Choices·next (next-thm.met 𝓤 H 𝓜 𝓖 𝓡)))

@@ -2,7 +2,7 @@
 // such a struct, so `next` and `choice` are proved by hand; they leave the work to functions on a plain slice and a number.
 ghost use mathlib.Core.Path.{_≡_};
 ghost use Rattle.lfa.specs.Route.{choiceAt};
-ghost use Rattle.route.specs.Supply.{placeAfter, advanced};
+ghost use Rattle.supply.specs.Supply.{placeAfter, advanced};
 
 pub struct Choices<'a> {
     pub bytes: &'a [u8],
@@ -10,14 +10,14 @@ pub struct Choices<'a> {
 }
 
 // The byte at a place, and 0 where the bytes have run out.
-pub(crate) fn byte_at(bytes: &[u8], place: usize) -> u8
+fn byte_at(bytes: &[u8], place: usize) -> u8
     ensures { λ r. ⌜ r ≡ choiceAt (now (bytes .entry)) place ⌝ }
 {
     if place < bytes.len() { bytes[place] } else { 0 }
 }
 
 // The place of the byte after: where the bytes have run out it stays.
-pub(crate) fn place_after(bytes: &[u8], at: usize) -> usize
+fn place_after(bytes: &[u8], at: usize) -> usize
     ensures { λ r. ⌜ r ≡ placeAfter (now (bytes .entry)) at ⌝ }
 {
     if at < bytes.len() { at + 1 } else { at }
@@ -36,7 +36,7 @@ impl<'a> Choices<'a> {
 }
 
 // The choice byte at a place, drawn from a supply that stands there. Its parameters are plain, so whoever calls it needs no walk.
-pub(crate) fn choice(bytes: &[u8], place: usize) -> u8
+pub fn choice(bytes: &[u8], place: usize) -> u8
     ensures { λ r. ⌜ r ≡ choiceAt (now (bytes .entry)) place ⌝ }
 {
     let mut supply = Choices { bytes, place };
