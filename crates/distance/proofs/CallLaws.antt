@@ -1,50 +1,20 @@
--- The answers of the public functions, return by return, and what the tests before them tell.
+-- The answers of the public functions, return by return.
 -- Assumes nothing.
 use Prim.Native.Nat.{ℕ, _*_, _≤_, _<_}
 use mathlib.Core.Path.{_≡_, refl, sym, _∙_}
-use mathlib.Core.Bool.{Bool, true, false, _&&_}
+use mathlib.Core.Bool.{Bool, false, _&&_}
 use mathlib.Core.Logic.{_⊎_, inl, inr}
 use mathlib.Core.List.{List}
-use lib.Dec.{ltb, leb}
-use lib.ListN.{length, getD, replicate}
-use borrow.Author.Tests.{ltb-true, leb-true, le-leb, lt-leb}
+use lib.Dec.{ltb}
+use lib.ListN.{length, replicate}
 use Rattle.lfa.specs.Network.{Network, router}
 use Rattle.lfa.specs.Distance.{towards, filled}
-use Rattle.lfa.specs.Laws.Test.{and-left, and-right, and-make, fails-left, fails-right}
-use Rattle.lfa.specs.Laws.List.{every-gives, every-make}
-use Rattle.distance.specs.Columns.{ColumnsWithin, InColumns, networkIn}
-use Rattle.distance.specs.Area.{held, column, SlotsWithin, slotsIn}
-use Rattle.distance.specs.Calls.{cellsFit, joins, linksFit, slotsFit, areaFilled, routerColumn, prefixColumn}
-use Rattle.distance.specs.Laws.List.{every-fails}
+use Rattle.lfa.specs.Laws.Test.{fails-left, fails-right}
+use Rattle.metric.specs.Fit.{cellsFit, linksFit, slotsFit, ColumnsWithin, SlotsWithin}
+use Rattle.distance.specs.Columns.{InColumns, networkIn}
+use Rattle.distance.specs.Area.{held, column, slotsIn}
+use Rattle.distance.specs.Calls.{areaFilled, routerColumn, prefixColumn}
 use Rattle.distance.specs.Laws.Calls.{filled-columns, router-known, prefix-known}
-
--- ---- what a test that passed tells
-
-pub links-give : (n links : ℕ) (from to : List ℕ) → n ≤ 64 → linksFit n links from to ≡ true → ColumnsWithin n links from to
-unfolding linksFit
-links-give n links from to few e =
-    let each = every-gives (joins n from to) links (and-right (leb links 128) _ e) in
-    record {
-      few-routers = few;
-      few-links = leb-true links 128 (and-left _ _ e);
-      from-in = λ k h. ltb-true _ _ (and-left _ _ (each k h));
-      to-in = λ k h. ltb-true _ _ (and-right (ltb (getD from k 0) n) _ (each k h));
-    }
-
--- ---- the test of the links, return by return
-
-module _ (n links : ℕ) (from to : List ℕ) where
-  pub links-many : 128 < links → false ≡ linksFit n links from to
-  unfolding linksFit
-  links-many h = sym (fails-left _ _ (lt-leb links 128 h))
-
-  pub link-fails : (k : ℕ) → k < links → joins n from to k ≡ false → false ≡ linksFit n links from to
-  unfolding linksFit
-  link-fails k h e = sym (fails-right (leb links 128) _ (every-fails (joins n from to) links k h e))
-
-  pub links-pass : links ≤ 128 → ((k : ℕ) → k < links → joins n from to k ≡ true) → true ≡ linksFit n links from to
-  unfolding linksFit
-  links-pass h each = sym (and-make _ _ (le-leb links 128 h) (every-make (joins n from to) links each))
 
 -- ---- the answers where one of two tests fails
 

@@ -8,7 +8,8 @@ use lib.ListN.{length}
 use Rattle.lfa.specs.Network.{Network, arcs}
 use Rattle.lfa.specs.Distance.{filled}
 use Rattle.distance.specs.Laws.Columns.{columns-within, arcs-columns}
-use Rattle.distance.specs.Columns.{arcsIn, ColumnsWithin, InColumns}
+use Rattle.metric.specs.Fit.{ColumnsWithin}
+use Rattle.distance.specs.Columns.{arcsIn, InColumns}
 use Rattle.distance.specs.Leaving.{ArcsHeld, LastHeld}
 use Rattle.distance.specs.Search.{ArcsReady, RowsFilled}
 use Rattle.distance.proofs.LeavingLaws.{columns-count}

@@ -1,6 +1,6 @@
 -- The distances as an area holds them, and columns of numbers, one for each router.
 -- Assumes nothing.
-use Prim.Native.Nat.{ℕ, _+_, _*_, _≤_, _<_}
+use Prim.Native.Nat.{ℕ, _+_, _*_}
 use mathlib.Core.Bool.{true, false, _&&_}
 use mathlib.Core.List.{List, map}
 use lib.Dec.{eqb, ltb}
@@ -17,11 +17,6 @@ held n area x t = elim (ltb x n && ltb t n) [ true ↦ getD area (x * n + t) 0 |
 -- a number for each of n routers, and zeros up to 64 cells
 unfoldable pub column : ℕ → (ℕ → ℕ) → List ℕ
 column n f = pad 64 (map f (below n))
-
--- the slots in use hold routers below n
-pub record SlotsWithin (n first count : ℕ) (routers : List ℕ) : Type 0 where
-  pub few : first + count ≤ 1024
-  pub router-in : (s : ℕ) → s < count → getD routers (first + s) 0 < n
 
 -- the attachments of the prefix that starts at slot `first`
 unfoldable pub slotsIn : (routers costs : List ℕ) → ℕ → ℕ → Target

@@ -1,7 +1,7 @@
 -- The network in columns of numbers: link k joins routers from[k] and to[k], at cost out[k] from the first to the second and
 -- back[k] from the second to the first.
 -- Assumes nothing.
-use Prim.Native.Nat.{ℕ, _≤_, _<_}
+use Prim.Native.Nat.{ℕ}
 use mathlib.Core.Path.{_≡_}
 use mathlib.Core.List.{List, [], map}
 use lib.ListN.{getD}
@@ -19,13 +19,6 @@ arcsIn from to out back links = arcsFrom 0 (linksIn from to out back links)
 -- a network of these routers and of these links, without prefixes
 abbrev pub networkIn : (routers links : ℕ) → (from to out back : List ℕ) → Network
 networkIn routers links from to out back = record { routers = routers; links = linksIn from to out back links; prefixes = [] }
-
--- at most 64 routers and 128 links, and each link joins routers
-pub record ColumnsWithin (routers links : ℕ) (from to : List ℕ) : Type 0 where
-  pub few-routers : routers ≤ 64
-  pub few-links : links ≤ 128
-  pub from-in : (k : ℕ) → k < links → getD from k 0 < routers
-  pub to-in : (k : ℕ) → k < links → getD to k 0 < routers
 
 -- the network has these routers and links, and any prefixes
 pub record InColumns (net : Network) (routers links : ℕ) (from to out back : List ℕ) : Type 0 where

@@ -1,12 +1,12 @@
 // The distances to a target, one for each router, read from an area that holds the distances.
-use crate::Distance;
-use crate::fit::wide;
+use metric::Distance;
 ghost use mathlib.Core.Path.{_≡_};
 ghost use Prim.Native.Nat.{_*_, _≤_, _<_};
 ghost use lib.ListN.{length};
 ghost use Rattle.lfa.specs.Distance.{towards};
 ghost use Rattle.lfa.specs.Network.{router};
-ghost use Rattle.distance.specs.Area.{held, column, SlotsWithin, slotsIn};
+ghost use Rattle.metric.specs.Fit.{SlotsWithin};
+ghost use Rattle.distance.specs.Area.{held, column, slotsIn};
 
 // D(x,t), read from the area.
 fn cell(dist: &[u32], n: usize, x: usize, t: usize) -> u32
@@ -28,6 +28,13 @@ pub(crate) fn router_column(dist: &[u32], n: usize, t: usize) -> [u32; 64]
         x += 1;
     }
     to
+}
+
+// A router's number as an index.
+fn wide(x: u8) -> usize
+    ensures { λ r. ⌜ r ≡ x ⌝ }
+{
+    x as usize
 }
 
 // An attachment's cost as a distance.

@@ -4,45 +4,16 @@
 // Each of the three takes any numbers. Where they are not those of a network, the area stays as it was, and a column is all zeros.
 use column::prefix_column;
 use column::router_column;
-use fit::cells_fit;
-use fit::links_fit;
-use fit::slots_fit;
+use metric::fit::cells_fit;
+use metric::fit::links_fit;
+use metric::fit::slots_fit;
 use rows::fill_area;
 ghost use mathlib.Core.Path.{_≡_};
-ghost use Prim.Native.Nat.{_+_, min};
-ghost use Rattle.lfa.specs.Distance.{unreachable};
 ghost use Rattle.distance.specs.Calls.{areaFilled, routerColumn, prefixColumn};
 
 mod arcs;
 mod column;
-pub mod fit;
 mod rows;
-
-// A distance between routers, as a 32-bit number.
-pub struct Distance(pub u32);
-
-impl Distance {
-    // The distance where no path leads.
-    pub const UNREACHABLE: u32 = 4294967295;
-
-    // The sum of two distances, and unreachable where it would be larger.
-    pub fn add(a: u32, b: u32) -> u32
-        ensures { λ r. ⌜ r ≡ min (a + b) unreachable ⌝ }
-    {
-        if a <= Self::UNREACHABLE - b {
-            a + b
-        } else {
-            Self::UNREACHABLE
-        }
-    }
-
-    // The sum of three distances, and unreachable where it would be larger.
-    pub fn add3(a: u32, b: u32, c: u32) -> u32
-        ensures { λ r. ⌜ r ≡ min (a + b + c) unreachable ⌝ }
-    {
-        Self::add(Self::add(a, b), c)
-    }
-}
 
 // Fills the first routers * routers cells with the distances, row by row, row = start.
 pub fn fill<'a>(

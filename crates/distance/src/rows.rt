@@ -2,8 +2,8 @@
 // a cell; the search ends when none is. Which pending router is taken next matters for speed alone: the nearest one is taken once only.
 //
 // The list of all arcs is known to proofs only, so the inner contracts speak of any list that the columns hold.
-use crate::Distance;
 use crate::arcs::hold_arcs;
+use metric::Distance;
 ghost use mathlib.Core.Path.{_≡_};
 ghost use mathlib.Core.Bool.{true};
 ghost use mathlib.Core.List.{List};
@@ -13,7 +13,8 @@ ghost use lib.Bits.{bitOr};
 ghost use Rattle.lfa.specs.Network.{Network, Arc};
 ghost use Rattle.lfa.specs.Space.{has};
 ghost use Rattle.lfa.specs.Distance.{unreachable, filled};
-ghost use Rattle.distance.specs.Columns.{ColumnsWithin, InColumns};
+ghost use Rattle.metric.specs.Fit.{ColumnsWithin};
+ghost use Rattle.distance.specs.Columns.{InColumns};
 ghost use Rattle.distance.specs.Search.{Searched, Relaxing, Relaxed, ArcsReady, RowOf, RowsFilled};
 
 // The set with router r put in.

@@ -2,4 +2,3 @@ pub mod OptionLaws
 pub mod LegLaws
 pub mod PlayLaws
 pub mod RouteLaws
-pub mod Loan

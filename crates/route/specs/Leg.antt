@@ -6,8 +6,8 @@ use mathlib.Core.List.{List, [], _∷_}
 use lib.ListN.{length}
 use Rattle.lfa.specs.Route.{Move, deliver, go, Takes}
 use Rattle.lfa.specs.Laws.Walk.{Positive}
-use Rattle.distance.specs.Columns.{ColumnsWithin, arcsIn}
-use Rattle.distance.specs.Area.{SlotsWithin}
+use Rattle.metric.specs.Fit.{ColumnsWithin, SlotsWithin}
+use Rattle.distance.specs.Columns.{arcsIn}
 
 -- the routers of a leg from x, choice byte number i being the next. It stops at the router `stop` without a choice byte: y on the
 -- first leg, and no router on the second.

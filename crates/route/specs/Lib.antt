@@ -1,4 +1,3 @@
 pub mod Options
-pub mod Supply
 pub mod Leg
 pub mod Answer

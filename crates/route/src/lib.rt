@@ -14,7 +14,6 @@ ghost use Rattle.lfa.specs.Refusal.{askRoute, answerTo, workAfter, routeAfter};
 ghost use Rattle.search.specs.Spaces.{protectedIn};
 ghost use Rattle.route.specs.Answer.{playedOf, passedOn};
 
-mod choice;
 mod options;
 mod play;
 

@@ -5,11 +5,12 @@ ghost use lib.ListN.{getD};
 ghost use Rattle.lfa.specs.Network.{arc};
 ghost use Rattle.lfa.specs.Space.{setOf};
 ghost use Rattle.lfa.specs.Route.{movesOf, options, optionTaken};
-ghost use Rattle.distance.specs.Columns.{ColumnsWithin, arcsIn};
-ghost use Rattle.distance.specs.Area.{column, SlotsWithin, slotsIn};
+ghost use Rattle.metric.specs.Fit.{ColumnsWithin, SlotsWithin};
+ghost use Rattle.distance.specs.Columns.{arcsIn};
+ghost use Rattle.distance.specs.Area.{column, slotsIn};
 ghost use Rattle.lfa.specs.Distance.{towards};
 ghost use Rattle.route.specs.Options.{moveIn, stepTo, nextBy, deliversBy, membersOf};
-use distance::Distance;
+use metric::Distance;
 
 // What an option does: it delivers the packet, or takes it to the next router.
 pub(crate) enum Move {

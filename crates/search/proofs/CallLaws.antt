@@ -12,21 +12,21 @@ use Rattle.lfa.specs.Network.{Link, link, Arc, arcs}
 use Rattle.lfa.specs.Distance.{distances, distanceIn, filled}
 use Rattle.lfa.specs.Space.{Protected, protectedBy, protected, Space, spaceOf}
 use Rattle.lfa.specs.Repair.{Outcome, noneServes, linkOutcome, prefixOutcome}
-use Rattle.lfa.specs.Laws.Test.{and-left, and-right, and-make, fails-left, fails-right}
+use Rattle.lfa.specs.Laws.Test.{and-left, and-right, and-make, fails-left, fails-right, same-test}
 use Rattle.lfa.specs.Laws.List.{every-gives, every-make}
 use Rattle.lfa.specs.Laws.Counting.{length-map-below, map-below-gives, map-below-at}
 use Rattle.lfa.specs.Laws.Network.{LinkSound, LinksSound}
 use Rattle.network_file.specs.declared.network.Network.{Network}
-use Rattle.distance.specs.Columns.{linksIn, arcsIn, ColumnsWithin, InColumns}
-use Rattle.distance.specs.Area.{held, SlotsWithin}
-use Rattle.distance.specs.Calls.{cellsFit, joins, slotsFit}
-use Rattle.distance.specs.Laws.List.{every-fails}
+use Rattle.metric.specs.Fit.{ColumnsWithin, SlotsWithin, cellsFit, joins, linksFit, slotsFit}
+use Rattle.metric.specs.Laws.List.{every-fails}
+use Rattle.metric.specs.Laws.Fit.{cells-give, slots-give}
+use Rattle.distance.specs.Columns.{linksIn, arcsIn, InColumns}
+use Rattle.distance.specs.Area.{held}
 use Rattle.distance.specs.Laws.Columns.{arcs-columns}
 use Rattle.distance.specs.Laws.Area.{held-filled}
-use Rattle.distance.specs.Laws.Calls.{cells-give, slots-give}
 use Rattle.search.specs.Known.{Known}
 use Rattle.search.specs.Spaces.{protectedIn}
-use Rattle.search.specs.Calls.{priced, linkPriced, linksPriced, answered, prefixHeld, prefixAnswered, heldBy, targetIn, areaBy, spaceBy, linkBy, prefixBy}
+use Rattle.search.specs.Calls.{priced, linkPriced, linksPriced, linkCosts, costsFit, answered, prefixHeld, prefixAnswered, heldBy, targetIn, areaBy, spaceBy, linkBy, prefixBy, SpaceTold, LinkTold, PrefixTold}
 use Rattle.search.proofs.AreaLaws.{known-filled}
 
 -- ---- the costs of a link
@@ -42,32 +42,46 @@ module _ (a b : ℕ) (a-most : a ≤ 65535) (b-most : b ≤ 65535) where
   pub one-free : a ≤ 0 → ltb 0 a ≡ (priced a && priced b)
   one-free h = le-ltb 0 a h ∙ sym (fails-left (priced a) (priced b) (fails-left (ltb 0 a) (leb a 65535) (le-ltb 0 a h)))
 
--- ---- the links, return by return
+-- ---- the costs, return by return
 
-module _ (n links : ℕ) (from to out back : List ℕ) where
-  pub links-many : 128 < links → false ≡ linksPriced n links from to out back
-  unfolding linksPriced
-  links-many h = sym (fails-left _ _ (lt-leb links 128 h))
+module _ (links : ℕ) (out back : List ℕ) where
+  pub costs-fail : (k : ℕ) → k < links → linkCosts out back k ≡ false → false ≡ costsFit links out back
+  unfolding costsFit
+  costs-fail k h e = sym (every-fails (linkCosts out back) links k h e)
 
-  link-fails : (k : ℕ) → k < links → linkPriced n from to out back k ≡ false → false ≡ linksPriced n links from to out back
-  unfolding linksPriced
-  link-fails k h e = sym (fails-right (leb links 128) _ (every-fails (linkPriced n from to out back) links k h e))
+  pub costs-pass : ((k : ℕ) → k < links → linkCosts out back k ≡ true) → true ≡ costsFit links out back
+  unfolding costsFit
+  costs-pass each = sym (every-make (linkCosts out back) links each)
 
-  pub ends-fail : (k : ℕ) → k < links → joins n from to k ≡ false → false ≡ linksPriced n links from to out back
-  ends-fail k h e = link-fails k h (fails-left _ _ e)
+-- the ends and the costs of the links are tried one after the other
+priced-split : (n links : ℕ) (from to out back : List ℕ) → linksPriced n links from to out back ≡ (linksFit n links from to && costsFit links out back)
+unfolding linksPriced linksFit costsFit
+priced-split n links from to out back = same-test _ _ there back-again
+  where
+    there : linksPriced n links from to out back ≡ true → (linksFit n links from to && costsFit links out back) ≡ true
+    there t =
+        let each = every-gives (linkPriced n from to out back) links (and-right (leb links 128) _ t) in
+        and-make _ _ (and-make _ _ (and-left (leb links 128) _ t) (every-make (joins n from to) links (λ k h. and-left (joins n from to k) _ (each k h))))
+        (every-make (linkCosts out back) links (λ k h. and-right (joins n from to k) _ (each k h)))
 
-  pub costs-fail : (k : ℕ) → k < links → (priced (getD out k 0) && priced (getD back k 0)) ≡ false → false ≡ linksPriced n links from to out back
-  costs-fail k h e = link-fails k h (fails-right (joins n from to k) _ e)
-
-  pub links-pass : links ≤ 128 → ((k : ℕ) → k < links → linkPriced n from to out back k ≡ true) → true ≡ linksPriced n links from to out back
-  unfolding linksPriced
-  links-pass h each = sym (and-make _ _ (le-leb links 128 h) (every-make (linkPriced n from to out back) links each))
+    back-again : (linksFit n links from to && costsFit links out back) ≡ true → linksPriced n links from to out back ≡ true
+    back-again t =
+        let ends = and-left (linksFit n links from to) _ t in
+        let joined = every-gives (joins n from to) links (and-right (leb links 128) _ ends) in
+        let costs = every-gives (linkCosts out back) links (and-right (linksFit n links from to) _ t) in
+        and-make _ _ (and-left (leb links 128) _ ends) (every-make (linkPriced n from to out back) links (λ k h. and-make _ _ (joined k h) (costs k h)))
 
 -- ---- the test of a link, return by return
 
 module _ (network : Network) (l e cells : ℕ) where
   abbrev Links : Bool
-  Links = linksPriced (network .routers) (network .links) (network .from) (network .to) (network .out) (network .back)
+  Links = linksFit (network .routers) (network .links) (network .from) (network .to)
+
+  abbrev Costs : Bool
+  Costs = costsFit (network .links) (network .out) (network .back)
+
+  split : linksPriced (network .routers) (network .links) (network .from) (network .to) (network .out) (network .back) ≡ (Links && Costs)
+  split = priced-split (network .routers) (network .links) (network .from) (network .to) (network .out) (network .back)
 
   pub cells-refuse : cellsFit (network .routers) cells ≡ false → false ≡ answered network l e cells
   unfolding answered
@@ -75,11 +89,15 @@ module _ (network : Network) (l e cells : ℕ) where
 
   pub links-refuse : Links ≡ false → false ≡ answered network l e cells
   unfolding answered
-  links-refuse f = sym (fails-right (cellsFit (network .routers) cells) _ (fails-left _ _ f))
+  links-refuse f = sym (fails-right (cellsFit (network .routers) cells) _ (fails-left _ _ (split ∙ fails-left Links Costs f)))
 
-  pub rest-decides : {r : Bool} → cellsFit (network .routers) cells ≡ true → Links ≡ true → r ≡ (ltb l (network .links) && leb e 1) → r ≡ answered network l e cells
+  pub costs-refuse : Costs ≡ false → false ≡ answered network l e cells
   unfolding answered
-  rest-decides a b r = r ∙ rw (a, b)
+  costs-refuse f = sym (fails-right (cellsFit (network .routers) cells) _ (fails-left _ _ (split ∙ fails-right Links Costs f)))
+
+  pub rest-decides : {r : Bool} → cellsFit (network .routers) cells ≡ true → Links ≡ true → Costs ≡ true → r ≡ (ltb l (network .links) && leb e 1) → r ≡ answered network l e cells
+  unfolding answered
+  rest-decides a b c r = r ∙ rw (a, split ∙ and-make Links Costs b c)
 
 -- ---- what the test of a link tells once it passes
 
@@ -181,29 +199,27 @@ module _ (network : Network) (l e : ℕ) (area : List ℕ) (passes : answered ne
     unfolding areaBy
     area-is = after-is ∙ rw (passes, areaBy)
 
-    pub space-answered : (s : Space) {set : ℕ} → set ≡ spaceOf s (network .routers) Hops (held (network .routers) after) p →
-        (set ≡ spaceBy s network l e (length area)) × (after ≡ areaBy (answered network l e (length area)) network area)
+    pub space-answered : (s : Space) {set : ℕ} → set ≡ spaceOf s (network .routers) Hops (held (network .routers) after) p → SpaceTold s network l e set area after
     unfolding spaceBy
-    space-answered s e = (e ∙ rw (held-is, hops-are, p-is, protected-is, passes, spaceBy), area-is)
+    space-answered s e = record { set-is = e ∙ rw (held-is, hops-are, p-is, protected-is, passes, spaceBy); area-is = area-is }
 
-    pub link-answered : {o : Outcome} → o ≡ linkOutcome (network .routers) Hops (held (network .routers) after) p →
-        (o ≡ linkBy network l e (length area)) × (after ≡ areaBy (answered network l e (length area)) network area)
+    pub link-answered : {o : Outcome} → o ≡ linkOutcome (network .routers) Hops (held (network .routers) after) p → LinkTold network l e o area after
     unfolding linkBy
-    link-answered e = (e ∙ rw (held-is, hops-are, p-is, protected-is, passes, linkBy), area-is)
+    link-answered e = record { found-is = e ∙ rw (held-is, hops-are, p-is, protected-is, passes, linkBy); area-is = area-is }
 
     pub prefix-answered : (x : ℕ) {o : Outcome} → prefixHeld network x ≡ true → o ≡ prefixOutcome (network .routers) Hops (held (network .routers) after) p (targetIn network x) →
-        (o ≡ prefixBy network l e x (length area)) × (after ≡ areaBy (prefixAnswered network l e x (length area)) network area)
+        PrefixTold network l e x o area after
     unfolding prefixBy areaBy
     prefix-answered x t e =
         let both = both-pass x t in
-        (e ∙ rw (held-is, hops-are, p-is, protected-is, both, prefixBy), after-is ∙ rw (both, areaBy))
+        record { found-is = e ∙ rw (held-is, hops-are, p-is, protected-is, both, prefixBy); area-is = after-is ∙ rw (both, areaBy) }
 
 -- ---- the test of a prefix
 
 module _ (network : Network) (x : ℕ) where
-  pub prefix-many : 128 ≤ x → false ≡ prefixHeld network x
+  pub prefix-many : 128 ≤ x → prefixHeld network x ≡ false
   unfolding prefixHeld
-  prefix-many h = sym (fails-left _ _ (le-ltb x 128 h))
+  prefix-many h = fails-left _ _ (le-ltb x 128 h)
 
   pub slots-decide : {r : Bool} → x < 128 → r ≡ slotsFit (network .routers) (8 * x) (getD (network .attached) x 0) (network .at) → r ≡ prefixHeld network x
   unfolding prefixHeld
@@ -213,28 +229,34 @@ module _ (network : Network) (x : ℕ) where
   unfolding prefixHeld
   prefix-in t = (ltb-true x 128 (and-left _ _ t), slots-give _ _ _ _ (and-right (ltb x 128) _ t))
 
--- ---- nothing is found where a test fails
+-- ---- the area that the test of a link leaves
 
-module _ (network : Network) (l e : ℕ) (area : List ℕ) where
-  pub space-none : (s : Space) → answered network l e (length area) ≡ false → (0 ≡ spaceBy s network l e (length area)) × (area ≡ areaBy (answered network l e (length area)) network area)
-  unfolding spaceBy areaBy
-  space-none s f = (rw (f, spaceBy), rw (f, areaBy))
+module _ (network : Network) (l e : ℕ) (area : List ℕ) {r : Bool} {after : List ℕ} (r-is : r ≡ answered network l e (length area)) (after-is : after ≡ areaBy r network area) where
+  pub filled-is : r ≡ true → after ≡ filled (heldBy network) area
+  unfolding areaBy
+  filled-is t = after-is ∙ rw (t, areaBy)
 
-  pub link-none : answered network l e (length area) ≡ false → (noneServes ≡ linkBy network l e (length area)) × (area ≡ areaBy (answered network l e (length area)) network area)
-  unfolding linkBy areaBy
-  link-none f = (rw (f, linkBy), rw (f, areaBy))
+  left-is : r ≡ false → after ≡ area
+  unfolding areaBy
+  left-is f = after-is ∙ rw (f, areaBy)
 
-  prefix-refused : (x : ℕ) → prefixAnswered network l e x (length area) ≡ false →
-      (noneServes ≡ prefixBy network l e x (length area)) × (area ≡ areaBy (prefixAnswered network l e x (length area)) network area)
-  unfolding prefixBy areaBy
-  prefix-refused x f = (rw (f, prefixBy), rw (f, areaBy))
+  -- and nothing is found where it fails
+  pub space-none : (s : Space) → r ≡ false → SpaceTold s network l e 0 area after
+  unfolding spaceBy
+  space-none s f = let g = sym r-is ∙ f in record { set-is = rw (g, spaceBy); area-is = after-is ∙ rw (← r-is) }
 
-  pub prefix-none-link : (x : ℕ) → answered network l e (length area) ≡ false →
-      (noneServes ≡ prefixBy network l e x (length area)) × (area ≡ areaBy (prefixAnswered network l e x (length area)) network area)
-  unfolding prefixAnswered
-  prefix-none-link x f = prefix-refused x (fails-left _ _ f)
+  pub link-none : r ≡ false → LinkTold network l e noneServes area after
+  unfolding linkBy
+  link-none f = let g = sym r-is ∙ f in record { found-is = rw (g, linkBy); area-is = after-is ∙ rw (← r-is) }
 
-  pub prefix-none : (x : ℕ) → prefixHeld network x ≡ false →
-      (noneServes ≡ prefixBy network l e x (length area)) × (area ≡ areaBy (prefixAnswered network l e x (length area)) network area)
-  unfolding prefixAnswered
-  prefix-none x f = prefix-refused x (fails-right (answered network l e (length area)) _ f)
+  pub prefix-none-link : (x : ℕ) → r ≡ false → PrefixTold network l e x noneServes area after
+  unfolding prefixBy prefixAnswered areaBy
+  prefix-none-link x f =
+      let g = fails-left (answered network l e (length area)) (prefixHeld network x) (sym r-is ∙ f) in
+      record { found-is = rw (g, prefixBy); area-is = left-is f ∙ rw (g, areaBy) }
+
+pub prefix-none : (network : Network) (l e : ℕ) (area : List ℕ) (x : ℕ) → prefixHeld network x ≡ false → PrefixTold network l e x noneServes area area
+unfolding prefixBy prefixAnswered areaBy
+prefix-none network l e area x f =
+    let g = fails-right (answered network l e (length area)) (prefixHeld network x) f in
+    record { found-is = rw (g, prefixBy); area-is = rw (g, areaBy) }

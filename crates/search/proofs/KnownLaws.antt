@@ -6,21 +6,20 @@ use mathlib.Core.Path.{_≡_, sym, ap, ap₂, _∙_}
 use mathlib.Core.Logic.{_⊎_, inl, inr}
 use mathlib.Core.Bool.{Bool, true, false, not, _&&_}
 use mathlib.Core.Option.{Option, none}
-use mathlib.Core.List.{List, map, map-map, List·Memᴰ, Memᴰ·cast}
+use mathlib.Core.List.{List, map, map-map, List·Memᴰ}
 use native.Mathlib.Omega.{arith}
 use lib.Dec.{eqb, ltb}
 use lib.Bits.{bitAnd}
 use lib.ListN.{getD}
 use borrow.Author.Tests.{ltb-true, lt-ltb, le-ltb, eqb-true, eq-eqb}
-use Rattle.lfa.specs.Lists.{below, select, flat, anyOf}
+use Rattle.lfa.specs.Lists.{below, select, flat}
 use Rattle.lfa.specs.Network.{Arc, arc, Target, router}
 use Rattle.lfa.specs.Distance.{unreachable, towards, stay}
 use Rattle.lfa.specs.Walk.{avoids}
 use Rattle.lfa.specs.Space.{Protected, FirstHop, first, hopRouter, firstHops, pSpace, extendedP, qSpace, inSpace, spaceOf, setOf, has}
 use Rattle.lfa.specs.Repair.{pair, MayCross, mayCross, isEndpoint, withEndpoint, pairsOf, pairs, serves, classOf, tunnelCost, Keys, keysOf, firstPair, Outcome, outcomeOf, prefixUnreachable, prefixUntouched, prefixOutcome}
 use Rattle.lfa.specs.Laws.Test.{and-left, and-right, and-make, same-test}
-use Rattle.lfa.specs.Laws.List.{any-make, below-mem, select-gives, getD-in}
-use Rattle.lfa.specs.Laws.Counting.{length-map-below, map-below-at}
+use Rattle.lfa.specs.Laws.List.{any-make, below-mem, select-gives}
 use Rattle.lfa.specs.Laws.Set.{setOf-same, has-setOf, has-and}
 use Rattle.lfa.specs.Laws.Target.{towards-router, towards-most}
 use Rattle.lfa.specs.Laws.Bound.{distance-small}
@@ -32,9 +31,9 @@ use Rattle.distance.specs.Area.{held, column}
 use Rattle.distance.specs.Laws.Area.{column-at}
 use Rattle.distance.specs.Laws.List.{any-same, select-same}
 use Rattle.search.specs.Known.{Readable, Known}
-use Rattle.search.specs.Spaces.{clears, clearsTo, RoutersWithin, routersIn, someClears, crossesOut, firstsIn}
-use Rattle.search.specs.Choice.{outcomeFor, firstOf, keysAt, mayEnd, hopKeys, endsOf, keysOfHop, columnKeys}
-use Rattle.search.proofs.ListLaws.{and-reorder, any-map, select-select, select-map, map-same, select-flat, map-flat}
+use Rattle.search.specs.Spaces.{clears, clearsTo, someClears, crossesOut}
+use Rattle.search.specs.Choice.{outcomeFor, firstOf, keysAt, mayEnd, hopKeys, endsOf, keysOfHop, overFirst, keysOver}
+use Rattle.search.proofs.ListLaws.{and-reorder, select-select, select-map, map-same, select-flat, map-flat}
 use Rattle.search.proofs.ChoiceLaws.{first-chosen}
 
 module _ (n : ℕ) (hops : List Arc) (q : Protected) (area : List ℕ) (known : Known n hops q area) where
@@ -54,11 +53,11 @@ module _ (n : ℕ) (hops : List Arc) (q : Protected) (area : List ℕ) (known : 
 
   -- The test by distances decides avoiding: the sums are at most unreachable, so a distance below them is finite.
   module _ (to : Target) (h : ℕ → ℕ) (same : (z : ℕ) → z < n → h z ≡ towards d to z) where
-    pub clears-avoids : (x : ℕ) → x < n → clears d q h h x ≡ avoids n hops d to (q .number) x
+    pub clears-avoids : (x : ℕ) → x < n → clears d q h x ≡ avoids n hops d to (q .number) x
     unfolding clears
     clears-avoids x i = same-test _ _ there back
       where
-        there : clears d q h h x ≡ true → avoids n hops d to (q .number) x ≡ true
+        there : clears d q h x ≡ true → avoids n hops d to (q .number) x ≡ true
         there t =
             let out : h x < min (d x (q .near) + q .out + h (q .far)) unreachable = search (ltb-true, and-left) in
             let back : h x < min (d x (q .far) + q .back + h (q .near)) unreachable = search (ltb-true, and-right) in
@@ -67,7 +66,7 @@ module _ (n : ℕ) (hops : List Arc) (q : Protected) (area : List ℕ) (known : 
             let ee = same (q .far) far-in in
             avoids-make n hops d to (q .number) x (below-avoids hops d to q (known .costs) (known .named) x (record { finite = omega arith; out = omega arith; back = omega arith }))
 
-        back : avoids n hops d to (q .number) x ≡ true → clears d q h h x ≡ true
+        back : avoids n hops d to (q .number) x ≡ true → clears d q h x ≡ true
         back t =
             let g = known .sound .falls d to in
             let b = avoids-below hops d to q (known .costs) (known .named) x (avoids-gives n hops d to (g .0) (known .sound .within) (g .1) (q .number) x i t) in
@@ -85,38 +84,23 @@ module _ (n : ℕ) (hops : List Arc) (q : Protected) (area : List ℕ) (known : 
   -- ---- the spaces
 
   -- the routers that avoid to a target, from a column of distances to it
-  pub avoiding-set : {set : ℕ} (to : Target) (l : List ℕ) → l ≡ column n (towards d to) → set ≡ setOf n (clears d q (λ x. getD l x 0) (λ x. getD l x 0)) → set ≡ setOf n (avoids n hops d to (q .number))
+  pub avoiding-set : {set : ℕ} (to : Target) (l : List ℕ) → l ≡ column n (towards d to) → set ≡ setOf n (clears d q (λ x. getD l x 0)) → set ≡ setOf n (avoids n hops d to (q .number))
   avoiding-set to l e s = s ∙ setOf-same n _ _ (clears-avoids to (λ x. getD l x 0) (λ z k. rw e (column-at n (towards d to) z k)))
 
   pub p-space : {set : ℕ} → set ≡ setOf n (clearsTo d q (q .near)) → set ≡ spaceOf pSpace n hops d q
   unfolding spaceOf inSpace
   p-space s = s ∙ setOf-same n _ _ (λ r k. clearsTo-avoids (q .near) r near-in)
 
-  pub q-space : {set : ℕ} (l : List ℕ) → l ≡ column n (towards d (router (q .far))) → set ≡ setOf n (clears d q (λ x. getD l x 0) (λ x. getD l x 0)) → set ≡ spaceOf qSpace n hops d q
+  pub q-space : {set : ℕ} (l : List ℕ) → l ≡ column n (towards d (router (q .far))) → set ≡ setOf n (clears d q (λ x. getD l x 0)) → set ≡ spaceOf qSpace n hops d q
   unfolding spaceOf inSpace
   q-space l e = avoiding-set (router (q .far)) l e
 
-  -- the first hops in columns are routers
-  module _ (count : ℕ) (rs cs os : List ℕ) (listed : firstsIn count rs cs os ≡ firstHops q hops) where
-    pub firsts-within : RoutersWithin n count rs
-    unfolding firstsIn
-    firsts-within = record {
-      router-in = λ i k.
-          let f : ℕ → FirstHop = λ i. first (getD rs i 0) (getD cs i 0) (getD os i 0) in
-          let m : List·Memᴰ (f i) (firstsIn count rs cs os) = Memᴰ·cast (sym (map-below-at f (first 0 0 0) count i k)) (getD-in (map f (below count)) i (first 0 0 0) (omega (arith, length-map-below f count))) in
-          known .sound .within .to (firsts-give q hops (getD rs i 0) (getD cs i 0) (getD os i 0) (rw listed at m) .0);
-    }
-
-    pub extended-space : {set : ℕ} → set ≡ setOf n (someClears d q (routersIn count rs)) → set ≡ spaceOf extendedP n hops d q
-    unfolding spaceOf inSpace someClears routersIn firstsIn hopRouter
-    extended-space s = s ∙ setOf-same n _ _ λ r k.
-        any-map (λ x. clearsTo d q x r) (λ i. getD rs i 0) (below count)
-        ∙ sym (any-map (λ f. clearsTo d q (hopRouter f) r) (λ i. first (getD rs i 0) (getD cs i 0) (getD os i 0)) (below count))
-        ∙ ap (anyOf (λ f. clearsTo d q (hopRouter f) r)) listed
-        ∙ any-same (λ f. clearsTo d q (hopRouter f) r) (λ f. avoids n hops d (router r) (q .number) (hopRouter f)) (firstHops q hops) (by r)
-      where
-        by : (r : ℕ) (f : FirstHop) → List·Memᴰ f (firstHops q hops) → clearsTo d q (hopRouter f) r ≡ avoids n hops d (router r) (q .number) (hopRouter f)
-        by r (first m c l) j = clearsTo-avoids m r (known .sound .within .to (firsts-give q hops m c l j .0))
+  pub extended-space : {set : ℕ} → set ≡ setOf n (someClears d q (firstHops q hops)) → set ≡ spaceOf extendedP n hops d q
+  unfolding spaceOf inSpace someClears hopRouter
+  extended-space s = s ∙ setOf-same n _ _ λ r k. any-same (λ f. clearsTo d q (hopRouter f) r) (λ f. avoids n hops d (router r) (q .number) (hopRouter f)) (firstHops q hops) (by r)
+    where
+      by : (r : ℕ) (f : FirstHop) → List·Memᴰ f (firstHops q hops) → clearsTo d q (hopRouter f) r ≡ avoids n hops d (router r) (q .number) (hopRouter f)
+      by r (first m c l) j = clearsTo-avoids m r (known .sound .within .to (firsts-give q hops m c l j .0))
 
   -- ---- crossing
 
@@ -213,34 +197,28 @@ module _ (n : ℕ) (hops : List Arc) (q : Protected) (area : List ℕ) (known : 
           by y k = keys-serve y (below-mem n y (k .0)) (and-left _ _ (and-right (isEndpoint q y) _ (k .1)))
 
     -- The keys that the search tries are those of the serving pairs, in the same order.
-    module _ (count : ℕ) (rs cs os : List ℕ) (listed : firstsIn count rs cs os ≡ firstHops q hops) where
-      overFirst : FirstHop → List Keys
-      overFirst (first m c o) = keysOfHop d q (λ x. getD l x 0) both n m c
+    tried : keysOver d q (λ x. getD l x 0) both n (firstHops q hops) ≡ map (keysOf d q to) (select (serves n hops d q to) (pairs q n hops))
+    unfolding keysOver pairs overFirst
+    tried =
+        ap flat (map-same (overFirst d q (λ x. getD l x 0) both n) (λ f. map (keysOf d q to) (select (serves n hops d q to) (pairsOf q n f))) (firstHops q hops) by)
+        ∙ sym (ap (map (keysOf d q to)) (select-flat (serves n hops d q to) (pairsOf q n) (firstHops q hops)) ∙ map-flat (keysOf d q to) (λ f. select (serves n hops d q to) (pairsOf q n f)) (firstHops q hops))
+      where
+        by : (f : FirstHop) → List·Memᴰ f (firstHops q hops) → overFirst d q (λ x. getD l x 0) both n f ≡ map (keysOf d q to) (select (serves n hops d q to) (pairsOf q n f))
+        by (first m c o) j = hop-serves m c o j
 
-      tried : columnKeys d q (λ x. getD l x 0) both n count rs cs ≡ map (keysOf d q to) (select (serves n hops d q to) (pairs q n hops))
-      unfolding columnKeys firstsIn pairs overFirst
-      tried =
-          ap flat (sym (map-map overFirst (λ i. first (getD rs i 0) (getD cs i 0) (getD os i 0)) (below count)) ∙ ap (map overFirst) listed)
-          ∙ ap flat (map-same overFirst (λ f. map (keysOf d q to) (select (serves n hops d q to) (pairsOf q n f))) (firstHops q hops) by)
-          ∙ sym (ap (map (keysOf d q to)) (select-flat (serves n hops d q to) (pairsOf q n) (firstHops q hops)) ∙ map-flat (keysOf d q to) (λ f. select (serves n hops d q to) (pairsOf q n f)) (firstHops q hops))
-        where
-          by : (f : FirstHop) → List·Memᴰ f (firstHops q hops) → overFirst f ≡ map (keysOf d q to) (select (serves n hops d q to) (pairsOf q n f))
-          by (first m c o) j = hop-serves m c o j
-
-      pub search-outcome : outcomeFor (firstOf none (columnKeys d q (λ x. getD l x 0) both n count rs cs)) ≡ outcomeOf d q to (firstPair n hops d q to)
-      unfolding firstPair
-      search-outcome = ap (λ (k : List Keys). outcomeFor (firstOf none k)) tried ∙ first-chosen d q to (select (serves n hops d q to) (pairs q n hops))
+    pub search-outcome : outcomeFor (firstOf none (keysOver d q (λ x. getD l x 0) both n (firstHops q hops))) ≡ outcomeOf d q to (firstPair n hops d q to)
+    unfolding firstPair
+    search-outcome = ap (λ (k : List Keys). outcomeFor (firstOf none k)) tried ∙ first-chosen d q to (select (serves n hops d q to) (pairs q n hops))
 
   -- ---- the answers of the repairs
 
   -- what the search finds over the mask of the two sets that were computed
-  pub found-outcome : {found : Option Keys} {extended set : ℕ} (count : ℕ) (rs cs os l : List ℕ) → firstsIn count rs cs os ≡ firstHops q hops →
-      extended ≡ setOf n (someClears d q (routersIn count rs)) → set ≡ setOf n (clears d q (λ x. getD l x 0) (λ x. getD l x 0)) →
-      found ≡ firstOf none (columnKeys d q (λ x. getD l x 0) (bitAnd extended set) n count rs cs) →
+  pub found-outcome : {found : Option Keys} {extended set : ℕ} (l : List ℕ) → extended ≡ setOf n (someClears d q (firstHops q hops)) → set ≡ setOf n (clears d q (λ x. getD l x 0)) →
+      found ≡ firstOf none (keysOver d q (λ x. getD l x 0) (bitAnd extended set) n (firstHops q hops)) →
       (to : Target) → l ≡ column n (towards d to) → outcomeFor found ≡ outcomeOf d q to (firstPair n hops d q to)
-  found-outcome count rs cs os l listed ee es e to held-to =
-      let m = ap₂ bitAnd (extended-space count rs cs os listed ee) (avoiding-set to l held-to es) in
-      ap outcomeFor (e ∙ ap (λ (mask : ℕ). firstOf none (columnKeys d q (λ x. getD l x 0) mask n count rs cs)) m) ∙ search-outcome to l held-to count rs cs os listed
+  found-outcome l ee es e to held-to =
+      let m = ap₂ bitAnd (extended-space ee) (avoiding-set to l held-to es) in
+      ap outcomeFor (e ∙ ap (λ (mask : ℕ). firstOf none (keysOver d q (λ x. getD l x 0) mask n (firstHops q hops))) m) ∙ search-outcome to l held-to
 
   module _ (to : Target) (l : List ℕ) (held-to : l ≡ column n (towards d to)) where
     near-held : getD l (q .near) 0 ≡ towards d to (q .near)

@@ -1,7 +1,7 @@
 -- Laws of the definitions that all crates share: lists made by selecting, sets of routers, and the choice of the first key.
 -- Assumes nothing.
 use Prim.Native.Nat.{ℕ, _+_, _*_, _%_, _^_, _<_}
-use mathlib.Core.Path.{_≡_, refl, sym, ap, ap₂, _∙_, fun-ext}
+use mathlib.Core.Path.{_≡_, refl, sym, ap, ap₂, _∙_}
 use mathlib.Core.Bool.{Bool, true, false, _&&_, _||_}
 use mathlib.Core.List.{List, [], _∷_, _++_, map, append-assoc, map-append, List·Memᴰ, List·Memᴰ·head, List·Memᴰ·tail}
 use native.Mathlib.Numerals.{add-one}
@@ -39,6 +39,35 @@ module _ {A : Type 0} where
       go true rest = ap (keepIf (p x) x) rest
       go false rest = rest
 
+module _ {A : Type 0} (p : A → Bool) where
+  any-append : (l m : List A) → anyOf p (l ++ m) ≡ (anyOf p l || anyOf p m)
+  unfolding anyOf
+  any-append [] m = refl
+  any-append (x ∷ l) m = go (p x) (any-append l m)
+    where
+      go : (b : Bool) → anyOf p (l ++ m) ≡ (anyOf p l || anyOf p m) → (b || anyOf p (l ++ m)) ≡ ((b || anyOf p l) || anyOf p m)
+      go true rest = refl
+      go false rest = rest
+
+  any-keep : (t : Bool) (x : A) → anyOf p (keepIf t x []) ≡ (t && p x)
+  unfolding anyOf
+  any-keep true x = go (p x)
+    where
+      go : (b : Bool) → (b || false) ≡ b
+      go true = refl
+      go false = refl
+  any-keep false x = refl
+
+  -- a test over a list and two elements more that may be left out
+  pub any-two : (l : List A) (s t : Bool) (x y : A) → anyOf p (l ++ (keepIf s x [] ++ keepIf t y [])) ≡ ((anyOf p l || (s && p x)) || (t && p y))
+  any-two l s t x y =
+      any-append l (keepIf s x [] ++ keepIf t y []) ∙ ap (λ (b : Bool). anyOf p l || b) (any-append (keepIf s x []) (keepIf t y []) ∙ ap₂ (λ (b c : Bool). b || c) (any-keep s x) (any-keep t y))
+      ∙ go (anyOf p l) (s && p x) (t && p y)
+    where
+      go : (a b c : Bool) → (a || (b || c)) ≡ ((a || b) || c)
+      go true b c = refl
+      go false b c = refl
+
 module _ {A B : Type 0} where
   pub select-map : (p : B → Bool) (f : A → B) (l : List A) → select p (map f l) ≡ map f (select (λ x. p (f x)) l)
   unfolding select
@@ -48,11 +77,6 @@ module _ {A B : Type 0} where
       go : (b : Bool) → select p (map f l) ≡ map f (select (λ x. p (f x)) l) → keepIf b (f x) (select p (map f l)) ≡ map f (keepIf b x (select (λ x. p (f x)) l))
       go true rest = ap (λ (k : List B). f x ∷ k) rest
       go false rest = rest
-
-  pub any-map : (p : B → Bool) (f : A → B) (l : List A) → anyOf p (map f l) ≡ anyOf (λ x. p (f x)) l
-  unfolding anyOf
-  any-map p f [] = refl
-  any-map p f (x ∷ l) = ap (λ (b : Bool). p (f x) || b) (any-map p f l)
 
   -- functions that agree on the list
   pub map-same : (f g : A → B) (l : List A) → ((x : A) → List·Memᴰ x l → f x ≡ g x) → map f l ≡ map g l
@@ -86,14 +110,6 @@ firsts-two q a b ab ba k = go (isFirst q (arc a b ab k)) (isFirst q (arc b a ba 
     go true false = refl
     go false true = refl
     go false false = refl
-
--- first hops depend on the ends of the link alone
-pub firsts-same : (q r : Protected) (hops : List Arc) → q .near ≡ r .near → q .far ≡ r .far → firstHops q hops ≡ firstHops r hops
-unfolding firstHops isFirst
-firsts-same q r hops e f = ap (λ (p : Arc → Bool). map firstOver (select p hops)) (fun-ext go)
-  where
-    go : (a : Arc) → isFirst q a ≡ isFirst r a
-    go (arc x z c l) = rw (e, f)
 
 -- ---- sets of routers
 

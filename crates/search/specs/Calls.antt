@@ -2,10 +2,11 @@
 -- links and of one of its prefixes. Where the test fails, the area stays as it was, and nothing is found.
 -- Assumes nothing.
 use Prim.Native.Nat.{ℕ, _*_}
+use mathlib.Core.Path.{_≡_}
 use mathlib.Core.Bool.{Bool, true, false, _&&_}
 use mathlib.Core.List.{List}
 use lib.Dec.{ltb, leb}
-use lib.ListN.{getD}
+use lib.ListN.{length, getD}
 use Rattle.lfa.specs.Lists.{everyBelow}
 use Rattle.lfa.specs.Network as lfa
 use Rattle.lfa.specs.Distance.{distances, distanceIn, filled}
@@ -14,7 +15,7 @@ use Rattle.lfa.specs.Repair.{Outcome, noneServes, linkOutcome, prefixOutcome}
 use Rattle.network_file.specs.declared.network.Network.{Network}
 use Rattle.distance.specs.Columns.{networkIn}
 use Rattle.distance.specs.Area.{slotsIn}
-use Rattle.distance.specs.Calls.{cellsFit, joins, slotsFit}
+use Rattle.metric.specs.Fit.{cellsFit, joins, slotsFit}
 
 -- ---- the tests
 
@@ -28,6 +29,13 @@ linkPriced routers from to out back k = joins routers from to k && (priced (getD
 
 unfoldable pub linksPriced : (routers links : ℕ) → (from to out back : List ℕ) → Bool
 linksPriced routers links from to out back = leb links 128 && everyBelow (linkPriced routers from to out back) links
+
+-- both costs of each link are from 1 to 65,535
+abbrev pub linkCosts : (out back : List ℕ) → ℕ → Bool
+linkCosts out back k = priced (getD out k 0) && priced (getD back k 0)
+
+unfoldable pub costsFit : (links : ℕ) → (out back : List ℕ) → Bool
+costsFit links out back = everyBelow (linkCosts out back) links
 
 -- the network is one of at most 64 routers with such links and with a cell for each two routers, and an end of one of its links is named
 unfoldable pub answered : Network → (link end cells : ℕ) → Bool
@@ -76,3 +84,21 @@ prefixBy network link end prefix cells =
       | true ↦ prefixOutcome (net .routers) (lfa.arcs net) (distanceIn (distances net)) (protected net link end) (targetIn network prefix)
       | false ↦ noneServes
     ]
+
+-- ---- the network by value, made of columns that are lent one by one, and the answers about it
+
+abbrev pub columnsOf : (routers links : ℕ) → (from to out back attached at own : List ℕ) → Network
+columnsOf routers links from to out back attached at own =
+    record { routers = routers; links = links; prefixes = 0; from = from; to = to; out = out; back = back; attached = attached; at = at; own = own }
+
+pub record SpaceTold (s : Space) (network : Network) (link end set : ℕ) (area after : List ℕ) : Type 0 where
+  pub set-is : set ≡ spaceBy s network link end (length area)
+  pub area-is : after ≡ areaBy (answered network link end (length area)) network area
+
+pub record LinkTold (network : Network) (link end : ℕ) (found : Outcome) (area after : List ℕ) : Type 0 where
+  pub found-is : found ≡ linkBy network link end (length area)
+  pub area-is : after ≡ areaBy (answered network link end (length area)) network area
+
+pub record PrefixTold (network : Network) (link end prefix : ℕ) (found : Outcome) (area after : List ℕ) : Type 0 where
+  pub found-is : found ≡ prefixBy network link end prefix (length area)
+  pub area-is : after ≡ areaBy (prefixAnswered network link end prefix (length area)) network area

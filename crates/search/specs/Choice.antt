@@ -6,17 +6,16 @@ use mathlib.Core.Option.{Option, none, some}
 use mathlib.Core.List.{List, [], _∷_, map}
 use lib.Dec.{eqb, ltb}
 use lib.Bits.{bitAnd}
-use lib.ListN.{getD}
 use Rattle.lfa.specs.Lists.{below, select, flat}
 use Rattle.lfa.specs.Distance.{unreachable}
-use Rattle.lfa.specs.Space.{Protected, has, setOf}
+use Rattle.lfa.specs.Space.{Protected, FirstHop, first, has, setOf}
 use Rattle.lfa.specs.Repair.{Keys, key, noLater, orElse, Outcome, prefixUnreachable, prefixUntouched, noneServes, chosen}
 use Rattle.search.specs.declared.pair.Chosen.{Chosen}
 use Rattle.search.specs.declared.pair.Best.{Best}
 use Rattle.search.specs.declared.pair.Best.the-variants.{Nothing, Pair}
 use Rattle.search.specs.declared.Found.{Found}
 use Rattle.search.specs.declared.Found.the-variants.{Unreachable, Untouched, Nothing as None, Pair as Serving}
-use Rattle.search.specs.Spaces.{clearsTo}
+use Rattle.search.specs.Spaces.{clearsTo, leavesNear}
 
 -- ---- what the code holds
 
@@ -73,9 +72,17 @@ hopKeys d near far h n c set routers = map (keysAt d near h n c) (select (mayEnd
 unfoldable pub endsOf : (ℕ → ℕ → ℕ) → Protected → (mask routers n : ℕ) → ℕ
 endsOf d q mask routers n = bitAnd mask (setOf routers (clearsTo d q n))
 
--- the keys of the pairs of one first hop whose endpoints are in the mask, and of all first hops that columns hold
+-- the keys of the pairs of one first hop, at cost c from S, whose endpoints are in the mask
 unfoldable pub keysOfHop : (ℕ → ℕ → ℕ) → Protected → (h : ℕ → ℕ) → (mask routers n c : ℕ) → List Keys
 keysOfHop d q h mask routers n c = hopKeys d (q .near) (q .far) h n c (endsOf d q mask routers n) routers
 
-unfoldable pub columnKeys : (ℕ → ℕ → ℕ) → Protected → (h : ℕ → ℕ) → (mask routers count : ℕ) → (router cost : List ℕ) → List Keys
-columnKeys d q h mask routers count router cost = flat (map (λ i. keysOfHop d q h mask routers (getD router i 0) (getD cost i 0)) (below count))
+-- those of the hop from x to z: none where it is no first hop
+unfoldable pub arcKeys : (ℕ → ℕ → ℕ) → Protected → (h : ℕ → ℕ) → (mask routers x z c : ℕ) → List Keys
+arcKeys d q h mask routers x z c = elim (leavesNear x z (q .near) (q .far)) [ true ↦ keysOfHop d q h mask routers z c | false ↦ [] ]
+
+-- and those of all first hops
+unfoldable pub overFirst : (ℕ → ℕ → ℕ) → Protected → (h : ℕ → ℕ) → (mask routers : ℕ) → FirstHop → List Keys
+overFirst d q h mask routers (first n c l) = keysOfHop d q h mask routers n c
+
+unfoldable pub keysOver : (ℕ → ℕ → ℕ) → Protected → (h : ℕ → ℕ) → (mask routers : ℕ) → List FirstHop → List Keys
+keysOver d q h mask routers firsts = flat (map (overFirst d q h mask routers) firsts)

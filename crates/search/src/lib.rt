@@ -3,14 +3,10 @@
 //
 // Each takes any numbers. Where they are not those of a network, of an end of one of its links and of one of its prefixes, the area
 // stays as it was, and nothing is found.
-use fit::answers;
-use fit::holds_prefix;
 use network_file::network::Network;
-use pair::link_found;
-use pair::prefix_found;
-use protected::prepare;
-use space::space_of;
-use space::wide;
+use pair::link_asked;
+use pair::prefix_asked;
+use space::space_asked;
 ghost use mathlib.Core.Path.{_≡_};
 ghost use lib.ListN.{length};
 ghost use Rattle.search.specs.Spaces.{spaceNamed};
@@ -21,6 +17,16 @@ mod fit;
 mod pair;
 mod protected;
 mod space;
+
+// The protected link, seen from the end that the question names: its number, the repairing router S (near), the far router E (far),
+// and the costs from S to E (out) and from E to S (back).
+pub(crate) struct Link {
+    pub(crate) number: usize,
+    pub(crate) near: usize,
+    pub(crate) far: usize,
+    pub(crate) out: u32,
+    pub(crate) back: u32,
+}
 
 // One of the three spaces.
 pub enum Which {
@@ -50,22 +56,19 @@ pub fn space_in(which: Which, network: Network, link: usize, end: usize, work: &
     ensures { λ r. ⌜ (r ≡ spaceBy (spaceNamed which) network link end (length (now (work .entry))))
         × (now (work .exit) ≡ areaBy (answered network link end (length (now (work .entry)))) network (now (work .entry))) ⌝ }
 {
-    if !answers(network, link, end, work.len()) {
-        return 0;
-    }
     let routers = network.routers;
     let links = network.links;
-    let protected = prepare(network, link, end, work);
-    space_of(
+    space_asked(
         which,
-        work,
         routers,
         links,
         &network.from,
         &network.to,
         &network.out,
         &network.back,
-        protected,
+        link,
+        end,
+        work,
     )
 }
 
@@ -74,21 +77,18 @@ pub fn link_pair(network: Network, link: usize, end: usize, work: &mut [u32]) ->
     ensures { λ r. ⌜ (outcomeIn r ≡ linkBy network link end (length (now (work .entry))))
         × (now (work .exit) ≡ areaBy (answered network link end (length (now (work .entry)))) network (now (work .entry))) ⌝ }
 {
-    if !answers(network, link, end, work.len()) {
-        return Found::Nothing;
-    }
     let routers = network.routers;
     let links = network.links;
-    let protected = prepare(network, link, end, work);
-    link_found(
-        work,
+    link_asked(
         routers,
         links,
         &network.from,
         &network.to,
         &network.out,
         &network.back,
-        protected,
+        link,
+        end,
+        work,
     )
 }
 
@@ -103,29 +103,21 @@ pub fn prefix_pair(
     ensures { λ r. ⌜ (outcomeIn r ≡ prefixBy network link end prefix (length (now (work .entry))))
         × (now (work .exit) ≡ areaBy (prefixAnswered network link end prefix (length (now (work .entry)))) network (now (work .entry))) ⌝ }
 {
-    if !answers(network, link, end, work.len()) {
-        return Found::Nothing;
-    }
-    if !holds_prefix(network, prefix) {
-        return Found::Nothing;
-    }
     let routers = network.routers;
     let links = network.links;
-    let attached = network.attached;
-    let count = wide(attached[prefix]);
-    let protected = prepare(network, link, end, work);
-    prefix_found(
-        work,
+    prefix_asked(
         routers,
         links,
         &network.from,
         &network.to,
         &network.out,
         &network.back,
-        protected,
+        &network.attached,
         &network.at,
         &network.own,
-        8 * prefix,
-        count,
+        link,
+        end,
+        prefix,
+        work,
     )
 }

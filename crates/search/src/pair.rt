@@ -1,23 +1,30 @@
 // The search for the pair that serves a repair.
 ghost use mathlib.Core.Path.{_≡_};
+ghost use mathlib.Core.List.{[]};
 ghost use mathlib.Core.Option.{none};
 ghost use Prim.Native.Nat.{_*_, _≤_, _<_};
 ghost use lib.ListN.{length, getD};
 ghost use Rattle.lfa.specs.Network.{Target};
 ghost use Rattle.lfa.specs.Distance.{towards};
+ghost use Rattle.lfa.specs.Space.{firstHops};
 ghost use Rattle.lfa.specs.Repair.{key, noLater, orElse, firstPair, outcomeOf, linkOutcome, prefixOutcome};
 ghost use Rattle.distance.specs.Columns.{arcsIn};
-ghost use Rattle.distance.specs.Area.{held, column, SlotsWithin, slotsIn};
+ghost use Rattle.metric.specs.Fit.{ColumnsWithin, SlotsWithin};
+ghost use Rattle.distance.specs.Area.{held, column, slotsIn};
 ghost use Rattle.search.specs.Known.{Readable, Known};
-ghost use Rattle.search.specs.Spaces.{asked, RoutersWithin};
-ghost use Rattle.search.specs.Choice.{keysIn, foundIn, outcomeFor, outcomeIn, addKeys, firstOf, classBy, keysAt, mayEnd, hopKeys, columnKeys};
+ghost use Rattle.search.specs.Spaces.{asked};
+ghost use Rattle.search.specs.Choice.{keysIn, foundIn, outcomeFor, outcomeIn, addKeys, firstOf, classBy, keysAt, mayEnd, hopKeys, arcKeys, keysOver};
+ghost use Rattle.search.specs.Calls.{columnsOf, LinkTold, PrefixTold};
 use crate::Found;
 use crate::FoundPair;
+use crate::Link;
+use crate::protected::protect;
+use crate::protected::ready;
 use crate::space;
-use crate::space::ProtectedLink;
-use distance::Distance;
 use distance::towards_prefix;
 use distance::towards_router;
+use metric::Distance;
+use metric::fit::slots_fit;
 
 // A pair that serves: the first hop, the endpoint, the class, the tunnel cost, and the distance from S to the endpoint, by which pairs
 // of a class are ordered.
@@ -143,39 +150,65 @@ fn over_hop(
     best
 }
 
+// The earliest of what was found and, where the hop from x to z is a first hop, its pairs with an endpoint in the mask that z avoids
+// the link on the way to.
+fn over_arc(
+    dist: &[u32],
+    n: usize,
+    link: Link,
+    target: &[u32; 64],
+    x: u8,
+    z: u8,
+    cost: u16,
+    mask: u64,
+    before: Best,
+) -> Best
+    requires { ⌜ Readable n (asked link) (now dist) × (z < n) ⌝ }
+    ensures { λ r. ⌜ foundIn r ≡ firstOf (foundIn before) (arcKeys (held n (now (dist .entry))) (asked link) (λ x. getD (now (target .entry)) x 0) mask n x z cost) ⌝ }
+{
+    let near = link.near;
+    let far = link.far;
+    if !space::leaves(x, z, near, far) {
+        return before;
+    }
+    let hop = space::wide(z);
+    let ends = mask & space::avoiding_from(dist, n, link, hop);
+    over_hop(
+        dist,
+        n,
+        near,
+        far,
+        target,
+        hop,
+        space::cost_of(cost),
+        ends,
+        before,
+    )
+}
+
 // The earliest of the pairs of the first hops with an endpoint in the mask that the first hop avoids the link on the way to.
 pub(crate) fn search(
     dist: &[u32],
     n: usize,
-    link: ProtectedLink,
-    to: &[u32; 64],
-    count: usize,
-    router: &[u8; 256],
-    cost: &[u16; 256],
+    links: usize,
+    from: &[u8; 128],
+    to: &[u8; 128],
+    out: &[u16; 128],
+    back: &[u16; 128],
+    link: Link,
+    target: &[u32; 64],
     mask: u64,
 ) -> Best
-    requires { ⌜ Readable n (asked link) (now dist) × (count ≤ 256) × RoutersWithin n count (now router) ⌝ }
-    ensures { λ r. ⌜ foundIn r ≡ firstOf none (columnKeys (held n (now (dist .entry))) (asked link) (λ x. getD (now (to .entry)) x 0) mask n count (now (router .entry)) (now (cost .entry))) ⌝ }
+    requires { ⌜ Readable n (asked link) (now dist) × ColumnsWithin n links (now from) (now to) ⌝ }
+    ensures { λ r. ⌜ foundIn r ≡ firstOf none (keysOver (held n (now (dist .entry))) (asked link) (λ x. getD (now (target .entry)) x 0) mask n
+        (firstHops (asked link) (arcsIn (now (from .entry)) (now (to .entry)) (now (out .entry)) (now (back .entry)) links))) ⌝ }
 {
-    let near = link.near;
-    let far = link.far;
     let mut best = Best::Nothing;
-    let mut i = 0;
-    while i < count {
-        let hop = space::wide(router[i]);
-        let ends = mask & space::avoiding_from(dist, n, link, hop);
-        best = over_hop(
-            dist,
-            n,
-            near,
-            far,
-            to,
-            hop,
-            space::cost_of(cost[i]),
-            ends,
-            best,
-        );
-        i += 1;
+    let mut k = 0;
+    while k < links {
+        best = over_arc(dist, n, link, target, from[k], to[k], out[k], mask, best);
+        best = over_arc(dist, n, link, target, to[k], from[k], back[k], mask, best);
+        k += 1;
     }
     best
 }
@@ -190,21 +223,17 @@ pub(crate) fn first_pair(
     to: &[u8; 128],
     out: &[u16; 128],
     back: &[u16; 128],
-    link: ProtectedLink,
+    link: Link,
     target: &[u32; 64],
 ) -> Best
-    requires { ⌜ (links ≤ 128) × Known n (arcsIn (now from) (now to) (now out) (now back) links) (asked link) (now dist) ⌝ }
+    requires { ⌜ ColumnsWithin n links (now from) (now to) × Known n (arcsIn (now from) (now to) (now out) (now back) links) (asked link) (now dist) ⌝ }
     ensures { λ r. ⌜ ((t : Target) → now (target .entry) ≡ column n (towards (held n (now (dist .entry))) t)
         → outcomeFor (foundIn r) ≡ outcomeOf (held n (now (dist .entry))) (asked link) t
         (firstPair n (arcsIn (now (from .entry)) (now (to .entry)) (now (out .entry)) (now (back .entry)) links) (held n (now (dist .entry))) (asked link) t)) ⌝ }
 {
-    let hops = space::first_hops(links, from, to, out, back, link);
-    let count = hops.count;
-    let router = hops.router;
-    let cost = hops.cost;
-    let extended = space::extended_p(dist, n, link, count, &router);
-    let mask = extended & space::avoiding_to(dist, n, link, target, target);
-    search(dist, n, link, target, count, &router, &cost, mask)
+    let extended = space::extended_p(dist, n, links, from, to, link);
+    let mask = extended & space::avoiding_to(dist, n, link, target);
+    search(dist, n, links, from, to, out, back, link, target, mask)
 }
 
 // What was found, told without the distance that ordered it.
@@ -231,9 +260,9 @@ pub(crate) fn link_found<'a>(
     to: &'a [u8; 128],
     out: &'a [u16; 128],
     back: &'a [u16; 128],
-    link: ProtectedLink,
+    link: Link,
 ) -> Found
-    requires { ⌜ (links ≤ 128) × Known n (arcsIn (now from) (now to) (now out) (now back) links) (asked link) (now dist) ⌝ }
+    requires { ⌜ ColumnsWithin n links (now from) (now to) × Known n (arcsIn (now from) (now to) (now out) (now back) links) (asked link) (now dist) ⌝ }
     ensures { λ r. ⌜ outcomeIn r ≡ linkOutcome n (arcsIn (now (from .entry)) (now (to .entry)) (now (out .entry)) (now (back .entry)) links) (held n (now (dist .entry))) (asked link) ⌝ }
 {
     let far = link.far;
@@ -251,13 +280,13 @@ pub(crate) fn prefix_found<'a>(
     to: &'a [u8; 128],
     out: &'a [u16; 128],
     back: &'a [u16; 128],
-    link: ProtectedLink,
+    link: Link,
     at: &'a [u8; 1024],
     own: &'a [u16; 1024],
     first: usize,
     count: usize,
 ) -> Found
-    requires { ⌜ (links ≤ 128) × Known n (arcsIn (now from) (now to) (now out) (now back) links) (asked link) (now dist) × SlotsWithin n first count (now at) ⌝ }
+    requires { ⌜ ColumnsWithin n links (now from) (now to) × Known n (arcsIn (now from) (now to) (now out) (now back) links) (asked link) (now dist) × SlotsWithin n first count (now at) ⌝ }
     ensures { λ r. ⌜ outcomeIn r ≡ prefixOutcome n (arcsIn (now (from .entry)) (now (to .entry)) (now (out .entry)) (now (back .entry)) links) (held n (now (dist .entry))) (asked link)
         (slotsIn (now (at .entry)) (now (own .entry)) first count) ⌝ }
 {
@@ -271,4 +300,72 @@ pub(crate) fn prefix_found<'a>(
     }
     let best = first_pair(dist, n, links, from, to, out, back, link, &target);
     told(best)
+}
+
+// What a link repair finds, and the area filled with the distances, where the question is answered.
+pub(crate) fn link_asked<'a>(
+    routers: usize,
+    links: usize,
+    from: &'a [u8; 128],
+    to: &'a [u8; 128],
+    out: &'a [u16; 128],
+    back: &'a [u16; 128],
+    link: usize,
+    end: usize,
+    work: &mut [u32],
+) -> Found
+    ensures { λ r. ⌜ LinkTold (columnsOf routers links (now (from .entry)) (now (to .entry)) (now (out .entry)) (now (back .entry)) [] [] []) link end (outcomeIn r) (now (work .entry)) (now (work .exit)) ⌝ }
+{
+    if !ready(routers, links, from, to, out, back, link, end, work) {
+        return Found::Nothing;
+    }
+    let protected = protect(from, to, out, back, link, end);
+    link_found(work, routers, links, from, to, out, back, protected)
+}
+
+// What a prefix repair finds, and the area filled with the distances, where the question is answered.
+pub(crate) fn prefix_asked<'a>(
+    routers: usize,
+    links: usize,
+    from: &'a [u8; 128],
+    to: &'a [u8; 128],
+    out: &'a [u16; 128],
+    back: &'a [u16; 128],
+    attached: &'a [u8; 128],
+    at: &'a [u8; 1024],
+    own: &'a [u16; 1024],
+    link: usize,
+    end: usize,
+    prefix: usize,
+    work: &mut [u32],
+) -> Found
+    ensures { λ r. ⌜ PrefixTold (columnsOf routers links (now (from .entry)) (now (to .entry)) (now (out .entry)) (now (back .entry)) (now (attached .entry)) (now (at .entry)) (now (own .entry)))
+        link end prefix (outcomeIn r) (now (work .entry)) (now (work .exit)) ⌝ }
+{
+    if 128 <= prefix {
+        return Found::Nothing;
+    }
+    let first = 8 * prefix;
+    let count = space::wide(attached[prefix]);
+    if !slots_fit(routers, at, first, count) {
+        return Found::Nothing;
+    }
+    if !ready(routers, links, from, to, out, back, link, end, work) {
+        return Found::Nothing;
+    }
+    let protected = protect(from, to, out, back, link, end);
+    prefix_found(
+        work,
+        routers,
+        links,
+        from,
+        to,
+        out,
+        back,
+        protected,
+        at,
+        own,
+        first,
+        count,
+    )
 }

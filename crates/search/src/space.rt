@@ -1,28 +1,22 @@
-// The sets of routers that avoid the protected link, and the first hops of a repair.
+// The sets of routers that avoid the protected link.
 ghost use mathlib.Core.Path.{_≡_};
-ghost use mathlib.Core.List.{List};
-ghost use Prim.Native.Nat.{_*_, _≤_, _<_};
+ghost use mathlib.Core.List.{List, []};
+ghost use Prim.Native.Nat.{ℕ, _*_, _≤_, _<_};
 ghost use lib.ListN.{length, getD};
-ghost use Rattle.lfa.specs.Lists.{one};
 ghost use Rattle.lfa.specs.Network.{Arc, router};
-ghost use Rattle.lfa.specs.Space.{pSpace, extendedP, qSpace, spaceOf, setOf, firstHops};
+ghost use Rattle.lfa.specs.Space.{pSpace, qSpace, spaceOf, setOf, firstHops};
+ghost use Rattle.metric.specs.Fit.{ColumnsWithin};
 ghost use Rattle.distance.specs.Columns.{arcsIn};
 ghost use Rattle.distance.specs.Area.{held};
 ghost use Rattle.search.specs.Known.{Readable, Known};
-ghost use Rattle.search.specs.Spaces.{asked, belowBoth, clears, clearsTo, RoutersWithin, routersIn, someClears, leavesNear, crossesOut, firstsIn, spaceNamed};
+ghost use Rattle.search.specs.Spaces.{asked, belowBoth, clears, clearsTo, leavesNear, hopClears, someClears, crossesOut, spaceNamed};
+ghost use Rattle.search.specs.Calls.{columnsOf, SpaceTold};
+use crate::Link;
 use crate::Which;
-use distance::Distance;
+use crate::protected::protect;
+use crate::protected::ready;
 use distance::towards_router;
-
-// The protected link, seen from the end that the question names: its number, the repairing router S (near), the far router E (far),
-// and the costs from S to E (out) and from E to S (back).
-pub(crate) struct ProtectedLink {
-    pub(crate) number: usize,
-    pub(crate) near: usize,
-    pub(crate) far: usize,
-    pub(crate) out: u32,
-    pub(crate) back: u32,
-}
+use metric::Distance;
 
 // D(x,t), read from the table.
 pub(crate) fn cell(dist: &[u32], n: usize, x: usize, t: usize) -> u32
@@ -48,23 +42,16 @@ pub(crate) fn cost_of(c: u16) -> u32
 
 // Whether a distance is below the costs over the link in both directions: near and far lead from x to S and E, s and e from
 // S and E to the target. Such a distance is finite, since a sum is at most unreachable.
-pub(crate) fn below_both(own: u32, near: u32, far: u32, link: ProtectedLink, s: u32, e: u32) -> bool
+pub(crate) fn below_both(own: u32, near: u32, far: u32, link: Link, s: u32, e: u32) -> bool
     ensures { λ r. ⌜ r ≡ belowBoth own near far (link .out) (link .back) s e ⌝ }
 {
     own < Distance::add3(near, link.out, e) && own < Distance::add3(far, link.back, s)
 }
 
-// The routers x that avoid the link on the way to a target, `to` holding the distances to it and `own` those that are to be below
-// the sums over the link.
-pub(crate) fn avoiding_to(
-    dist: &[u32],
-    n: usize,
-    link: ProtectedLink,
-    own: &[u32; 64],
-    to: &[u32; 64],
-) -> u64
+// The routers x that avoid the link on the way to a target, `to` holding the distances to it.
+pub(crate) fn avoiding_to(dist: &[u32], n: usize, link: Link, to: &[u32; 64]) -> u64
     requires { ⌜ Readable n (asked link) (now dist) ⌝ }
-    ensures { λ r. ⌜ r ≡ setOf n (clears (held n (now (dist .entry))) (asked link) (λ x. getD (now (own .entry)) x 0) (λ x. getD (now (to .entry)) x 0)) ⌝ }
+    ensures { λ r. ⌜ r ≡ setOf n (clears (held n (now (dist .entry))) (asked link) (λ x. getD (now (to .entry)) x 0)) ⌝ }
 {
     let near = link.near;
     let far = link.far;
@@ -75,7 +62,7 @@ pub(crate) fn avoiding_to(
     while x < n {
         let x_near = cell(dist, n, x, near);
         let x_far = cell(dist, n, x, far);
-        if below_both(own[x], x_near, x_far, link, to_near, to_far) {
+        if below_both(to[x], x_near, x_far, link, to_near, to_far) {
             set = set | (1u64 << x);
         }
         x += 1;
@@ -84,7 +71,7 @@ pub(crate) fn avoiding_to(
 }
 
 // The routers that x avoids the link on the way to.
-pub(crate) fn avoiding_from(dist: &[u32], n: usize, link: ProtectedLink, x: usize) -> u64
+pub(crate) fn avoiding_from(dist: &[u32], n: usize, link: Link, x: usize) -> u64
     requires { ⌜ Readable n (asked link) (now dist) × (x < n) ⌝ }
     ensures { λ s. ⌜ s ≡ setOf n (clearsTo (held n (now (dist .entry))) (asked link) x) ⌝ }
 {
@@ -106,88 +93,48 @@ pub(crate) fn avoiding_from(dist: &[u32], n: usize, link: ProtectedLink, x: usiz
     set
 }
 
-// Counts a hop from x to z where it is a first hop: it leaves S and does not lead to E.
-fn leaves(x: u8, z: u8, near: usize, far: usize) -> usize
-    ensures { λ r. ⌜ (r ≡ one (leavesNear x z near far)) × (r ≤ 1) ⌝ }
+// Whether a hop from x to z is a first hop: it leaves S and does not lead to E.
+pub(crate) fn leaves(x: u8, z: u8, near: usize, far: usize) -> bool
+    ensures { λ r. ⌜ r ≡ leavesNear x z near far ⌝ }
 {
-    if wide(x) != near {
+    wide(x) == near && wide(z) != far
+}
+
+// The routers that z avoids the link on the way to, where the hop from x to z is a first hop, and else none.
+fn avoiding_over(dist: &[u32], n: usize, link: Link, x: u8, z: u8) -> u64
+    requires { ⌜ Readable n (asked link) (now dist) × (z < n) ⌝ }
+    ensures { λ s. ⌜ s ≡ setOf n (hopClears (held n (now (dist .entry))) (asked link) x z) ⌝ }
+{
+    if !leaves(x, z, link.near, link.far) {
         return 0;
     }
-    if wide(z) == far {
-        return 0;
-    }
-    1
+    avoiding_from(dist, n, link, wide(z))
 }
 
-// The first hops of a repair: the neighbours of S other than E, with the cost from S and the link that leads there.
-pub(crate) struct FirstHops {
-    pub(crate) count: usize,
-    pub(crate) router: [u8; 256],
-    pub(crate) cost: [u16; 256],
-    pub(crate) over: [u8; 256],
-}
-
-// Lists the first hops in file order of the links. Each direction of each link is put after those found, and counted where it is one.
-pub(crate) fn first_hops(
-    links: usize,
-    from: &[u8; 128],
-    to: &[u8; 128],
-    out: &[u16; 128],
-    back: &[u16; 128],
-    link: ProtectedLink,
-) -> FirstHops
-    requires { ⌜ links ≤ 128 ⌝ }
-    ensures { λ r. ⌜ firstsIn (r .count) (r .router) (r .cost) (r .over) ≡ firstHops (asked link) (arcsIn (now (from .entry)) (now (to .entry)) (now (out .entry)) (now (back .entry)) links)
-        × (r .count ≤ 256) ⌝ }
-{
-    let near = link.near;
-    let far = link.far;
-    let mut router = [0u8; 256];
-    let mut cost = [0u16; 256];
-    let mut over = [0u8; 256];
-    let mut count = 0;
-    let mut k = 0;
-    while k < links {
-        router[count] = to[k];
-        cost[count] = out[k];
-        over[count] = k as u8;
-        count += leaves(from[k], to[k], near, far);
-        router[count] = from[k];
-        cost[count] = back[k];
-        over[count] = k as u8;
-        count += leaves(to[k], from[k], near, far);
-        k += 1;
-    }
-    FirstHops {
-        count,
-        router,
-        cost,
-        over,
-    }
-}
-
-// The routers that one of `count` routers avoids the link on the way to: extended P, where these are the first hops.
+// The routers that one of the first hops avoids the link on the way to: extended P. The costs of the links have no part in it.
 pub(crate) fn extended_p(
     dist: &[u32],
     n: usize,
-    link: ProtectedLink,
-    count: usize,
-    router: &[u8; 256],
+    links: usize,
+    from: &[u8; 128],
+    to: &[u8; 128],
+    link: Link,
 ) -> u64
-    requires { ⌜ Readable n (asked link) (now dist) × (count ≤ 256) × RoutersWithin n count (now router) ⌝ }
-    ensures { λ s. ⌜ s ≡ setOf n (someClears (held n (now (dist .entry))) (asked link) (routersIn count (now (router .entry)))) ⌝ }
+    requires { ⌜ Readable n (asked link) (now dist) × ColumnsWithin n links (now from) (now to) ⌝ }
+    ensures { λ s. ⌜ ((out back : List ℕ) → s ≡ setOf n (someClears (held n (now (dist .entry))) (asked link) (firstHops (asked link) (arcsIn (now (from .entry)) (now (to .entry)) out back links)))) ⌝ }
 {
     let mut set: u64 = 0;
-    let mut i = 0;
-    while i < count {
-        set = set | avoiding_from(dist, n, link, wide(router[i]));
-        i += 1;
+    let mut k = 0;
+    while k < links {
+        set = set | avoiding_over(dist, n, link, from[k], to[k]);
+        set = set | avoiding_over(dist, n, link, to[k], from[k]);
+        k += 1;
     }
     set
 }
 
 // P space.
-pub(crate) fn p_space(dist: &[u32], n: usize, link: ProtectedLink) -> u64
+pub(crate) fn p_space(dist: &[u32], n: usize, link: Link) -> u64
     requires { ⌜ ((hops : List Arc) × Known n hops (asked link) (now dist)) ⌝ }
     ensures { λ s. ⌜ ((hops : List Arc) → Known n hops (asked link) (now (dist .entry)) → s ≡ spaceOf pSpace n hops (held n (now (dist .entry))) (asked link)) ⌝ }
 {
@@ -195,34 +142,14 @@ pub(crate) fn p_space(dist: &[u32], n: usize, link: ProtectedLink) -> u64
     avoiding_from(dist, n, link, near)
 }
 
-// Extended P space.
-pub(crate) fn extended_p_space<'a>(
-    dist: &[u32],
-    n: usize,
-    links: usize,
-    from: &'a [u8; 128],
-    to: &'a [u8; 128],
-    out: &'a [u16; 128],
-    back: &'a [u16; 128],
-    link: ProtectedLink,
-) -> u64
-    requires { ⌜ (links ≤ 128) × Known n (arcsIn (now from) (now to) (now out) (now back) links) (asked link) (now dist) ⌝ }
-    ensures { λ s. ⌜ s ≡ spaceOf extendedP n (arcsIn (now (from .entry)) (now (to .entry)) (now (out .entry)) (now (back .entry)) links) (held n (now (dist .entry))) (asked link) ⌝ }
-{
-    let hops = first_hops(links, from, to, out, back, link);
-    let count = hops.count;
-    let router = hops.router;
-    extended_p(dist, n, link, count, &router)
-}
-
 // Q space.
-pub(crate) fn q_space(dist: &[u32], n: usize, link: ProtectedLink) -> u64
+pub(crate) fn q_space(dist: &[u32], n: usize, link: Link) -> u64
     requires { ⌜ ((hops : List Arc) × Known n hops (asked link) (now dist)) ⌝ }
     ensures { λ s. ⌜ ((hops : List Arc) → Known n hops (asked link) (now (dist .entry)) → s ≡ spaceOf qSpace n hops (held n (now (dist .entry))) (asked link)) ⌝ }
 {
     let far = link.far;
     let to = towards_router(dist, n, far);
-    avoiding_to(dist, n, link, &to, &to)
+    avoiding_to(dist, n, link, &to)
 }
 
 // The space that is asked for.
@@ -233,22 +160,43 @@ pub(crate) fn space_of<'a>(
     links: usize,
     from: &'a [u8; 128],
     to: &'a [u8; 128],
-    out: &'a [u16; 128],
-    back: &'a [u16; 128],
-    link: ProtectedLink,
+    link: Link,
 ) -> u64
-    requires { ⌜ (links ≤ 128) × Known n (arcsIn (now from) (now to) (now out) (now back) links) (asked link) (now dist) ⌝ }
-    ensures { λ s. ⌜ s ≡ spaceOf (spaceNamed which) n (arcsIn (now (from .entry)) (now (to .entry)) (now (out .entry)) (now (back .entry)) links) (held n (now (dist .entry))) (asked link) ⌝ }
+    requires { ⌜ ColumnsWithin n links (now from) (now to) × ((out : List ℕ) × (back : List ℕ) × Known n (arcsIn (now from) (now to) out back links) (asked link) (now dist)) ⌝ }
+    ensures { λ s. ⌜ ((out back : List ℕ) → Known n (arcsIn (now (from .entry)) (now (to .entry)) out back links) (asked link) (now (dist .entry))
+        → s ≡ spaceOf (spaceNamed which) n (arcsIn (now (from .entry)) (now (to .entry)) out back links) (held n (now (dist .entry))) (asked link)) ⌝ }
 {
     match which {
         Which::P => p_space(dist, n, link),
-        Which::ExtendedP => extended_p_space(dist, n, links, from, to, out, back, link),
+        Which::ExtendedP => extended_p(dist, n, links, from, to, link),
         Which::Q => q_space(dist, n, link),
     }
 }
 
+// The space that is asked for, and the area filled with the distances, where the question is answered.
+pub(crate) fn space_asked<'a>(
+    which: Which,
+    routers: usize,
+    links: usize,
+    from: &'a [u8; 128],
+    to: &'a [u8; 128],
+    out: &'a [u16; 128],
+    back: &'a [u16; 128],
+    link: usize,
+    end: usize,
+    work: &mut [u32],
+) -> u64
+    ensures { λ r. ⌜ SpaceTold (spaceNamed which) (columnsOf routers links (now (from .entry)) (now (to .entry)) (now (out .entry)) (now (back .entry)) [] [] []) link end r (now (work .entry)) (now (work .exit)) ⌝ }
+{
+    if !ready(routers, links, from, to, out, back, link, end, work) {
+        return 0;
+    }
+    let protected = protect(from, to, out, back, link, end);
+    space_of(which, work, routers, links, from, to, protected)
+}
+
 // Whether traffic from S to a target may cross the link from S to E.
-pub(crate) fn may_cross(to: &[u32; 64], link: ProtectedLink) -> bool
+pub(crate) fn may_cross(to: &[u32; 64], link: Link) -> bool
     requires { ⌜ (link .near < 64) × (link .far < 64) ⌝ }
     ensures { λ r. ⌜ r ≡ crossesOut (asked link) (λ x. getD (now (to .entry)) x 0) ⌝ }
 {

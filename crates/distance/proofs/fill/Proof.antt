@@ -6,10 +6,9 @@ use mathlib.Core.Logic.{inl, inr}
 use lib.ListN.{length}
 use borrow.Author.Tests.{not-true, not-false}
 use borrow.Author.Needs.{needs}
-use Rattle.distance.specs.Columns.{ColumnsWithin}
-use Rattle.distance.specs.Calls.{cellsFit}
-use Rattle.distance.specs.Laws.Calls.{cells-give}
-use Rattle.distance.proofs.CallLaws.{links-give, area-left, area-found}
+use Rattle.metric.specs.Fit.{ColumnsWithin, cellsFit}
+use Rattle.metric.specs.Laws.Fit.{cells-give, links-give}
+use Rattle.distance.proofs.CallLaws.{area-left, area-found}
 use Rattle.distance.proofs.fill.Statement.{statement}
 use Rattle.distance.proofs.fill.Tie as tie
 

@@ -6,9 +6,8 @@ use mathlib.Core.Logic.{inl, inr}
 use lib.ListN.{length}
 use borrow.Author.Tests.{not-true, not-false}
 use borrow.Author.Needs.{needs}
-use Rattle.distance.specs.Area.{SlotsWithin}
-use Rattle.distance.specs.Calls.{cellsFit}
-use Rattle.distance.specs.Laws.Calls.{cells-give, slots-give}
+use Rattle.metric.specs.Fit.{SlotsWithin, cellsFit}
+use Rattle.metric.specs.Laws.Fit.{cells-give, slots-give}
 use Rattle.distance.proofs.CallLaws.{prefix-none, prefix-found}
 use Rattle.distance.proofs.towards_prefix.Statement.{statement}
 use Rattle.distance.proofs.towards_prefix.Tie as tie

@@ -6,8 +6,8 @@ use mathlib.Core.Logic.{inl, inr}
 use lib.ListN.{length}
 use borrow.Author.Tests.{not-true, not-false, le-ltb}
 use borrow.Author.Needs.{needs}
-use Rattle.distance.specs.Calls.{cellsFit}
-use Rattle.distance.specs.Laws.Calls.{cells-give}
+use Rattle.metric.specs.Fit.{cellsFit}
+use Rattle.metric.specs.Laws.Fit.{cells-give}
 use Rattle.distance.proofs.CallLaws.{router-none, router-found}
 use Rattle.distance.proofs.towards_router.Statement.{statement}
 use Rattle.distance.proofs.towards_router.Tie as tie

@@ -16,7 +16,8 @@ use Rattle.lfa.specs.FileOf.{WithinLimits}
 use Rattle.lfa.specs.Laws.List.{getD-in}
 use Rattle.lfa.specs.Laws.Counting.{length-map-below, map-below-at}
 use Rattle.distance.specs.Laws.List.{map-below-more}
-use Rattle.distance.specs.Columns.{linksIn, arcsIn, ColumnsWithin, InColumns}
+use Rattle.metric.specs.Fit.{ColumnsWithin}
+use Rattle.distance.specs.Columns.{linksIn, arcsIn, InColumns}
 
 -- link k of the columns is a link between routers, where the network's links are
 pub link-held : {net : Network} {n links : ℕ} {from to out back : List ℕ} → LinksSound net → InColumns net n links from to out back → (k : ℕ) → k < links →

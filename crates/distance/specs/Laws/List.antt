@@ -1,16 +1,14 @@
--- Laws of lists made by counting up, one element more, of tests over numbers that are counted up, and of padding.
+-- Laws of lists made by counting up, one element more, and of padding.
 -- Assumes nothing.
 use Prim.Native.Nat.{ℕ, zero, suc, _+_, _-_, _<_}
 use mathlib.Core.Path.{refl, ap₂, _≡_, ap, _∙_}
-use mathlib.Core.Bool.{Bool, true, false, _||_, true≢false}
+use mathlib.Core.Bool.{Bool, true, false, _||_}
 use mathlib.Core.List.{[], List·Memᴰ, List·Memᴰ·head, List·Memᴰ·tail, List, _∷_, _++_, map, map-append}
 use native.Mathlib.Numerals.{add-one}
 use native.Mathlib.Omega.{arith}
-use native.Mathlib.Decide.{ℕ-discrete}
 use lib.ListN.{length, getD, replicate, List·getD-append}
-use Rattle.lfa.specs.Lists.{keepIf, select, anyOf, countUp, below, everyBelow}
+use Rattle.lfa.specs.Lists.{keepIf, select, anyOf, countUp, below}
 use Rattle.lfa.specs.FileOf.{pad}
-use Rattle.lfa.specs.Laws.List.{every-gives}
 
 -- ---- counting up
 
@@ -62,24 +60,6 @@ module _ {A : Type 0} where
   unfolding select
   select-same p q [] h = refl
   select-same p q (x ∷ l) h = ap₂ (λ (b : Bool) (k : List A). keepIf b x k) (h x (List·Memᴰ·head refl)) (select-same p q l (λ y m. h y (List·Memᴰ·tail m)))
-
--- ---- a test over numbers that are counted up
-
--- one of them fails
-pub every-fails : (p : ℕ → Bool) (n k : ℕ) → k < n → p k ≡ false → everyBelow p n ≡ false
-every-fails p n k h e = go (everyBelow p n) refl
-  where
-    go : (b : Bool) → everyBelow p n ≡ b → b ≡ false
-    go true f = absurd (true≢false (cc (every-gives p n f k h, e)))
-    go false f = refl
-
--- and one number more passes
-pub every-more : (p : ℕ → Bool) (k : ℕ) → ((j : ℕ) → j < k → p j ≡ true) → p k ≡ true → (j : ℕ) → j < k + 1 → p j ≡ true
-every-more p k before this j h = go (ℕ-discrete j k)
-  where
-    go : Dec (j ≡ k) → p j ≡ true
-    go (yes e) = ap p e ∙ this
-    go (no e) = before j (omega arith)
 
 -- ---- padding
 

@@ -22,7 +22,8 @@ use Rattle.network_file.specs.declared.Loaded.{Loaded}
 use Rattle.network_file.specs.Struct.{fromOf, toOf, outOf, backOf, linkColumn, structOf}
 use Rattle.network_file.specs.Load.{faultRow, faultOf, answerOf}
 use Rattle.network_file.specs.declared.network.Network as struct
-use Rattle.distance.specs.Columns.{linksIn, ColumnsWithin, InColumns}
+use Rattle.metric.specs.Fit.{ColumnsWithin}
+use Rattle.distance.specs.Columns.{linksIn, InColumns}
 use Rattle.distance.specs.Laws.Columns.{limits-columns}
 use Rattle.repair.specs.Asked.{Taken}
 

@@ -11,7 +11,8 @@ use Rattle.lfa.specs.FileOf.{pad, WithinLimits, PrefixWithin}
 use Rattle.lfa.specs.Laws.Chunks.{element-mapped, part-element, part-flat, EachLong, made-again}
 use Rattle.lfa.specs.Laws.List.{getD-in}
 use Rattle.network_file.specs.Struct.{routerOf, costOf, slotColumn, attachedColumn, structOf}
-use Rattle.distance.specs.Area.{SlotsWithin, slotsIn}
+use Rattle.metric.specs.Fit.{SlotsWithin}
+use Rattle.distance.specs.Area.{slotsIn}
 use Rattle.distance.specs.Laws.List.{pad-at}
 
 -- a list padded to its size

@@ -16,9 +16,10 @@ use Rattle.lfa.specs.Laws.List.{every-make}
 use Rattle.lfa.specs.Laws.Network.{LinksSound}
 use Rattle.network_file.specs.declared.network.Network.{Network}
 use Rattle.distance.specs.Columns.{InColumns}
-use Rattle.distance.specs.Area.{SlotsWithin}
+use Rattle.metric.specs.Fit.{SlotsWithin}
+use Rattle.metric.specs.Laws.Fit.{cells-fit, slots-fit}
 use Rattle.distance.specs.Laws.Columns.{link-held}
-use Rattle.distance.specs.Laws.Calls.{cells-fit, slots-fit, same-filled}
+use Rattle.distance.specs.Laws.Calls.{same-filled}
 use Rattle.search.specs.Calls.{linkPriced, linksPriced, answered, prefixHeld, prefixAnswered, heldBy, targetIn, areaBy, spaceBy, linkBy, prefixBy}
 
 -- the columns hold a network whose links are sound, the area has a cell for each two routers, and an end of a link is named

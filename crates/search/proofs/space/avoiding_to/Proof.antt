@@ -16,10 +16,10 @@ use Rattle.search.proofs.space.avoiding_to.Statement.{statement}
 use Rattle.search.proofs.space.avoiding_to.Tie as tie
 
 abbrev Inv-loop : tie.InvT-loop
-Inv-loop dist n link own to near far to-near to-far set₀ x₀ set x = (x ≤ n) × (set ≡ setOf x (clears (held n dist) (asked link) (λ x. getD own x 0) (λ x. getD to x 0)))
+Inv-loop dist n link to near far to-near to-far set₀ x₀ set x = (x ≤ n) × (set ≡ setOf x (clears (held n dist) (asked link) (λ x. getD to x 0)))
 
 abbrev μ-loop : tie.MeasureT-loop
-μ-loop dist n link own to near far to-near to-far set₀ x₀ set x = n - x
+μ-loop dist n link to near far to-near to-far set₀ x₀ set x = n - x
 
 mul-to-near : tie.Need-mul-to-near Inv-loop μ-loop
 mul-to-near c = search needs
@@ -68,17 +68,16 @@ loop-again c =
     let i = at-loop .loop .x in
     let d = held (s .args .n) (s .args .dist .now) in
     let q = asked (s .args .link) in
-    let own : ℕ → ℕ = λ x. getD (s .args .own .now) x 0 in
     let h : ℕ → ℕ = λ x. getD (s .args .to .now) x 0 in
-    let p : ℕ → Bool = clears d q own h in
-    let e : c .before .below-both .result ≡ p i = cells-clear d q own h i refl (c .before .before .before .before .cell .ensures) (c .before .before .before .cell2 .ensures) refl refl (c .before .below-both .ensures) in
+    let p : ℕ → Bool = clears d q h in
+    let e : c .before .below-both .result ≡ p i = cells-clear d q h i refl (c .before .before .before .before .cell .ensures) (c .before .before .before .cell2 .ensures) refl refl (c .before .below-both .ensures) in
     (omega arith, ⊎-elim (λ w. w .1 ∙ put-in p (omega arith) (at-loop .loop .inv .1) (sym e ∙ w .0 .taken)) (λ w. w .1 ∙ left-out p (at-loop .loop .inv .1) (sym e ∙ w .0 .left)) (c .if1 .came))
 
 returns : tie.Need-returns Inv-loop μ-loop
 returns c =
     let s = c .before .before .before .before .before in
     let e : c .before .loop .x ≡ s .args .n = omega arith in
-    c .before .loop .inv .1 ∙ ap (λ (k : ℕ). setOf k (clears (held (s .args .n) (s .args .dist .now)) (asked (s .args .link)) (λ x. getD (s .args .own .now) x 0) (λ x. getD (s .args .to .now) x 0))) e
+    c .before .loop .inv .1 ∙ ap (λ (k : ℕ). setOf k (clears (held (s .args .n) (s .args .dist .now)) (asked (s .args .link)) (λ x. getD (s .args .to .now) x 0))) e
 
 pub avoiding-to-spec : {M : Type 1} → statement M
 avoiding-to-spec =

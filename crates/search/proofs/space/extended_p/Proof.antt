@@ -1,56 +1,72 @@
--- `search::space::extended_p` meets its contract. The loop's invariant: the set holds the routers that one of the routers passed avoids to.
+-- `search::space::extended_p` meets its contract. The loop's invariant: the set holds the routers that a first hop of the links passed avoids to.
 -- Assumes nothing.
 use Prim.Native.Nat.{ℕ, _-_, _≤_}
 use mathlib.Core.Path.{_≡_, ap, _∙_}
+use mathlib.Core.List.{List}
 use native.Mathlib.Omega.{arith}
-use lib.ListN.{set}
 use borrow.Author.Needs.{needs}
-use Rattle.lfa.specs.Space.{setOf}
+use Rattle.lfa.specs.Space.{firstHops, setOf}
+use Rattle.distance.specs.Columns.{arcsIn}
 use Rattle.distance.specs.Area.{held}
-use Rattle.search.specs.Spaces.{asked, routersIn, someClears}
-use Rattle.search.proofs.SpaceLaws.{no-routers, router-more}
+use Rattle.search.specs.Spaces.{asked, someClears}
+use Rattle.search.proofs.SpaceLaws.{no-links, link-more}
 use Rattle.search.proofs.space.extended_p.Statement.{statement}
 use Rattle.search.proofs.space.extended_p.Tie as tie
 
 abbrev Inv-loop : tie.InvT-loop
-Inv-loop dist n link count router set₀ i₀ set i = (i ≤ count) × (set ≡ setOf n (someClears (held n dist) (asked link) (routersIn i router)))
+Inv-loop dist n links from to link set₀ k₀ set k = (k ≤ links) × ((out back : List ℕ) → set ≡ setOf n (someClears (held n dist) (asked link) (firstHops (asked link) (arcsIn from to out back k))))
 
 abbrev μ-loop : tie.MeasureT-loop
-μ-loop dist n link count router set₀ i₀ set i = count - i
+μ-loop dist n links from to link set₀ k₀ set k = links - k
 
 loop-holds : tie.Need-loop-holds Inv-loop μ-loop
-loop-holds c = (omega arith, no-routers _ _ _ _)
+loop-holds c = (omega arith, λ out back. no-links _ _ _ _ _ out back)
 
-element-copy-out-wide : tie.Need-element-copy-out-wide Inv-loop μ-loop
-element-copy-out-wide c = search needs
+element-copy-out-avoiding-over : tie.Need-element-copy-out-avoiding-over Inv-loop μ-loop
+element-copy-out-avoiding-over c = search needs
 
-wide-requires : tie.Need-wide-requires Inv-loop μ-loop
-wide-requires c κs = search needs
+element-copy-out-avoiding-over-2 : tie.Need-element-copy-out-avoiding-over-2 Inv-loop μ-loop
+element-copy-out-avoiding-over-2 c = search needs
 
-avoiding-from-requires : tie.Need-avoiding-from-requires Inv-loop μ-loop
-avoiding-from-requires c κs =
-    let s = c .before .before .before .before .before in
-    let p = s .pre in
-    (p .0, omega (arith, c .wide .ensures, p .2 .router-in (c .before .before .before .loop .i) (c .before .before .loop-test .taken)))
+avoiding-over-requires : tie.Need-avoiding-over-requires Inv-loop μ-loop
+avoiding-over-requires c κs =
+    let at-loop = c .before .before .before in
+    let s = at-loop .before .before in
+    (s .pre .0, s .pre .1 .to-in (at-loop .loop .k) (c .before .before .loop-test .taken))
 
-add-i : tie.Need-add-i Inv-loop μ-loop
-add-i c = search needs
+element-copy-out-avoiding-over-3 : tie.Need-element-copy-out-avoiding-over-3 Inv-loop μ-loop
+element-copy-out-avoiding-over-3 c = search needs
+
+element-copy-out-avoiding-over-4 : tie.Need-element-copy-out-avoiding-over-4 Inv-loop μ-loop
+element-copy-out-avoiding-over-4 c = search needs
+
+avoiding-over-requires-2 : tie.Need-avoiding-over-requires-2 Inv-loop μ-loop
+avoiding-over-requires-2 c κs =
+    let at-loop = c .before .before .before .before .before .before in
+    let s = at-loop .before .before in
+    (s .pre .0, s .pre .1 .from-in (at-loop .loop .k) (c .before .before .before .before .before .loop-test .taken))
+
+add-k : tie.Need-add-k Inv-loop μ-loop
+add-k c = search needs
 
 loop-less : tie.Need-loop-less Inv-loop μ-loop
 loop-less c = search needs
 
 loop-again : tie.Need-loop-again Inv-loop μ-loop
 loop-again c =
-    let at-loop = c .before .before .before .before in
-    let s = at-loop .before .before in
-    let d = held (s .args .n) (s .args .dist .now) in
-    (omega arith, router-more (s .args .n) d (asked (s .args .link)) (s .args .router .now) (at-loop .loop .i) (at-loop .loop .inv .1) (rw (← c .before .wide .ensures) (c .avoiding-from .ensures)))
+    let at-loop = c .before .before .before .before .before .before .before in
+    let a = at-loop .before .before .args in (
+      omega arith,
+      λ out back. link-more (a .n) (held (a .n) (a .dist .now)) (asked (a .link)) (a .from .now) (a .to .now) out back (at-loop .loop .k) (at-loop .loop .inv .1 out back)
+          (c .before .before .before .avoiding-over .ensures) (c .avoiding-over2 .ensures),
+    )
 
 returns : tie.Need-returns Inv-loop μ-loop
-returns c =
-    let s = c .before .before .before in
-    let e : c .before .loop .i ≡ s .args .count = omega arith in
-    c .before .loop .inv .1 ∙ ap (λ (k : ℕ). setOf (s .args .n) (someClears (held (s .args .n) (s .args .dist .now)) (asked (s .args .link)) (routersIn k (s .args .router .now)))) e
+returns c = λ out back.
+    let a = c .before .before .before .args in
+    let e : c .before .loop .k ≡ a .links = omega arith in
+    c .before .loop .inv .1 out back
+    ∙ ap (λ (k : ℕ). setOf (a .n) (someClears (held (a .n) (a .dist .now)) (asked (a .link)) (firstHops (asked (a .link)) (arcsIn (a .from .now) (a .to .now) out back k)))) e
 
 pub extended-p-spec : {M : Type 1} → statement M
 extended-p-spec =
@@ -59,10 +75,13 @@ extended-p-spec =
     Inv-loop
     μ-loop
     loop-holds
-    element-copy-out-wide
-    wide-requires
-    avoiding-from-requires
-    add-i
+    element-copy-out-avoiding-over
+    element-copy-out-avoiding-over-2
+    avoiding-over-requires
+    element-copy-out-avoiding-over-3
+    element-copy-out-avoiding-over-4
+    avoiding-over-requires-2
+    add-k
     loop-less
     loop-again
     returns)

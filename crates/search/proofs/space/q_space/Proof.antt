@@ -16,12 +16,12 @@ towards-router-requires : tie.Need-towards-router-requires
 towards-router-requires c κs = search needs
 
 avoiding-to-requires : tie.Need-avoiding-to-requires
-avoiding-to-requires c κs = known (c .before .before .before .before)
+avoiding-to-requires c κs = known (c .before .before .before)
 
 returns : tie.Need-returns
 returns c = λ hops k.
-    let r = known (c .before .before .before .before .before) in
-    let to = c .before .before .before .towards-router in
+    let r = known (c .before .before .before .before) in
+    let to = c .before .before .towards-router in
     q-space _ hops _ _ k (to .result) (router-known _ _ (r .few) (r .long) _ (r .far-in) (to .ensures)) (c .avoiding-to .ensures)
 
 pub q-space-spec : {M : Type 1} → statement M

@@ -1,8 +1,16 @@
--- `search::space::space_of` meets its contract.
+-- `search::space::space_of` meets its contract. By distances the first hops avoid to just the routers of extended P.
 -- Assumes nothing.
 use borrow.Author.Needs.{needs}
+use Rattle.distance.specs.Columns.{arcsIn}
+use Rattle.search.specs.Known.{Readable}
+use Rattle.search.specs.Spaces.{asked}
+use Rattle.search.proofs.KnownLaws.{readable, extended-space}
 use Rattle.search.proofs.space.space_of.Statement.{statement}
 use Rattle.search.proofs.space.space_of.Tie as tie
+
+-- the table can be read
+known : (s : tie.Start) → Readable (s .args .n) (asked (s .args .link)) (s .args .dist .now)
+known s = readable (s .args .n) (arcsIn (s .args .from .now) (s .args .to .now) (s .pre .1 .0) (s .pre .1 .1) (s .args .links)) (asked (s .args .link)) (s .args .dist .now) (s .pre .1 .2)
 
 enum-told : tie.Need-enum-told
 enum-told c = search needs
@@ -13,8 +21,8 @@ p-space-requires c κs = search needs
 enum-told-2 : tie.Need-enum-told-2
 enum-told-2 c = search needs
 
-extended-p-space-requires : tie.Need-extended-p-space-requires
-extended-p-space-requires c κs = search needs
+extended-p-requires : tie.Need-extended-p-requires
+extended-p-requires c κs = let s = c .before .before .before in (known s, s .pre .0)
 
 enum-told-3 : tie.Need-enum-told-3
 enum-told-3 c = search needs
@@ -23,13 +31,13 @@ q-space-requires : tie.Need-q-space-requires
 q-space-requires c κs = search needs
 
 returns : tie.Need-returns
-returns c = rw (c .before .enum-told .given .1) (c .p-space .ensures _ (c .before .before .before .before .pre .1))
+returns c = λ out back k. rw (c .before .enum-told .given .1) (c .p-space .ensures _ k)
 
 returns-2 : tie.Need-returns-2
-returns-2 c = rw (c .before .enum-told2 .given .1) (c .extended-p-space .ensures)
+returns-2 c = λ out back k. rw (c .before .enum-told2 .given .1) (extended-space _ _ _ _ k (c .extended-p .ensures out back))
 
 returns-3 : tie.Need-returns-3
-returns-3 c = rw (c .before .enum-told3 .given .1) (c .q-space .ensures _ (c .before .before .before .before .pre .1))
+returns-3 c = λ out back k. rw (c .before .enum-told3 .given .1) (c .q-space .ensures _ k)
 
 pub space-of-spec : {M : Type 1} → statement M
 space-of-spec =
@@ -38,7 +46,7 @@ space-of-spec =
     enum-told
     p-space-requires
     enum-told-2
-    extended-p-space-requires
+    extended-p-requires
     enum-told-3
     q-space-requires
     returns

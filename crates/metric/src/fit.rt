@@ -1,0 +1,63 @@
+// Whether numbers that are handed in are those of a network.
+ghost use mathlib.Core.Path.{_≡_};
+ghost use mathlib.Core.Bool.{_&&_};
+ghost use lib.Dec.{ltb};
+ghost use Rattle.metric.specs.Fit.{cellsFit, linksFit, slotsFit};
+
+// Whether there are at most 64 routers, and a cell for each two of them.
+pub fn cells_fit(n: usize, cells: usize) -> bool
+    ensures { λ r. ⌜ r ≡ cellsFit n cells ⌝ }
+{
+    n <= 64 && n * n <= cells
+}
+
+// A router's number as an index.
+fn wide(x: u8) -> usize
+    ensures { λ r. ⌜ r ≡ x ⌝ }
+{
+    x as usize
+}
+
+// Whether both ends of a link are routers.
+pub fn joins(routers: usize, a: u8, b: u8) -> bool
+    ensures { λ r. ⌜ r ≡ (ltb a routers && ltb b routers) ⌝ }
+{
+    wide(a) < routers && wide(b) < routers
+}
+
+// Whether there are at most 128 links, and each joins routers.
+pub fn links_fit(routers: usize, links: usize, from: &[u8; 128], to: &[u8; 128]) -> bool
+    ensures { λ r. ⌜ r ≡ linksFit routers links (now (from .entry)) (now (to .entry)) ⌝ }
+{
+    if 128 < links {
+        return false;
+    }
+    let mut k = 0;
+    while k < links {
+        if !joins(routers, from[k], to[k]) {
+            return false;
+        }
+        k += 1;
+    }
+    true
+}
+
+// Whether the slots in use are among the 1024, and hold routers.
+pub fn slots_fit(n: usize, at: &[u8; 1024], first: usize, count: usize) -> bool
+    ensures { λ r. ⌜ r ≡ slotsFit n first count (now (at .entry)) ⌝ }
+{
+    if 1024 < first {
+        return false;
+    }
+    if 1024 - first < count {
+        return false;
+    }
+    let mut s = 0;
+    while s < count {
+        if n <= wide(at[first + s]) {
+            return false;
+        }
+        s += 1;
+    }
+    true
+}
