@@ -2,19 +2,20 @@
 -- Assumes nothing.
 use Prim.Native.Nat.{ℕ, _+_, _*_, _≤_, _<_}
 use mathlib.Core.Path.{_≡_}
-use mathlib.Core.Bool.{Bool, true, not}
+use mathlib.Core.Bool.{true}
 use mathlib.Core.Option.{Option, none, some}
-use mathlib.Core.List.{List}
+use mathlib.Core.List.{List, [], _∷_}
 use lib.ListN.{length, getD}
-use Rattle.lfa.specs.Lists.{everyBelow}
-use Rattle.lfa.specs.Network.{Link, link}
-use Rattle.lfa.specs.File.{Bytes, routersOf, linksOf, prefixesOf, soundLink, joinSame, prefixGood}
-use Rattle.lfa.specs.Refusal.{badLink, parallelLink, badPrefix, routerTwice, Decided, decided}
-use Rattle.network_file.specs.Judged.{Sized}
-use Rattle.network_file.specs.Struct.{linkColumns, linksIn}
-use Rattle.network_file.specs.declared.link.LinkColumns.{LinkColumns}
+use Rattle.lfa.specs.File.{Bytes, linksOf, prefixesOf, linkOf, prefixGood}
+use Rattle.lfa.specs.Refusal.{Row, badLink, parallelLink, badPrefix, routerTwice, Decided, decided}
+use Rattle.block.specs.Judged.{Sized}
+use Rattle.network_file.specs.Struct.{fromOf, toOf}
 use Rattle.network_file.specs.declared.entry.Entries.{Entries}
 use Rattle.network_file.specs.declared.entry.Entries.the-variants.{BadLink, ParallelLink, BadPrefix, RouterTwice, Passed}
+
+-- the rows that speak of entries, which are tried after those of blocks
+unfoldable pub entryRows : List Row
+entryRows = badLink ∷ parallelLink ∷ badPrefix ∷ routerTwice ∷ []
 
 -- ---- what is known when rows 6 to 9 are tried
 
@@ -24,33 +25,13 @@ pub record Counted (b : Bytes) (links prefixes : ℕ) : Type 0 where
   pub links-right : links ≡ linksOf b
   pub prefixes-right : prefixes ≡ prefixesOf b
 
--- .. and its number of routers and the columns of its links
-pub record Begun (b : Bytes) (routers links prefixes : ℕ) (columns : LinkColumns) : Type 0 where
-  pub counted : Counted b links prefixes
-  pub routers-right : routers ≡ routersOf b
-  pub columns-right : columns ≡ linkColumns (linksIn b links)
-
 -- row 8 turns down none of the first n prefixes
 abbrev pub PrefixesSound : Bytes → ℕ → Type 0
 PrefixesSound b n = (p : ℕ) → p < n → prefixGood b p ≡ true
 
--- ---- rows 6 and 7 over the columns of the links
-
--- row 6 at link k
-unfoldable pub cellsGood : ℕ → List ℕ → List ℕ → List ℕ → List ℕ → ℕ → Bool
-cellsGood routers from to out back k = soundLink routers (link (getD from k 0) (getD to k 0) (getD out k 0) (getD back k 0))
-
--- the two routers of link k, at no cost: row 7 does not look at costs
-unfoldable pub endsAt : List ℕ → List ℕ → ℕ → Link
-endsAt from to k = link (getD from k 0) (getD to k 0) 0 0
-
--- row 7 at link k
-unfoldable pub cellsNew : List ℕ → List ℕ → ℕ → Bool
-cellsNew from to k = everyBelow (λ j. not (joinSame (endsAt from to k) (endsAt from to j))) k
-
--- both routers of each link are below n
-abbrev pub EndsBelow : ℕ → ℕ → List ℕ → List ℕ → Type 0
-EndsBelow n links from to = (k : ℕ) → k < links → (getD from k 0 < n) × (getD to k 0 < n)
+-- both routers of each of the first n links are below 64
+abbrev pub EndsBelow : Bytes → ℕ → Type 0
+EndsBelow b n = (k : ℕ) → k < n → (fromOf (linkOf b k) < 64) × (toOf (linkOf b k) < 64)
 
 -- ---- rows 8 and 9 over the entry of a prefix
 

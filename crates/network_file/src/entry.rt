@@ -1,5 +1,5 @@
 // Rows 6 to 9, the rows of the entries, in the order of the table, and the network of a file to which no row applies.
-use super::link::LinkColumns;
+use super::link::fill_links;
 use super::link::first_bad_link;
 use super::link::first_parallel_link;
 use super::network::Network;
@@ -7,13 +7,14 @@ use super::prefix::fill_attached;
 use super::prefix::fill_slots;
 use super::prefix::first_bad_prefix;
 use super::prefix::first_router_twice;
+use field::word_at;
 ghost use mathlib.Core.Path.{_≡_};
 ghost use mathlib.Core.Option.{none};
 ghost use Rattle.lfa.specs.File.{networkOf};
 ghost use Rattle.lfa.specs.Refusal.{returned, loading, firstRow};
+ghost use Rattle.block.specs.Judged.{Sized};
 ghost use Rattle.network_file.specs.Struct.{structOf};
-ghost use Rattle.network_file.specs.Entry.{Begun, entriesDecided};
-ghost use Rattle.network_file.specs.Judged.{entryRows};
+ghost use Rattle.network_file.specs.Entry.{entryRows, entriesDecided};
 
 // The first of rows 6 to 9 that applies to a file, with the value that it returns, or that none does.
 pub(crate) enum Entries {
@@ -24,29 +25,19 @@ pub(crate) enum Entries {
     Passed,
 }
 
-// Rows 6 to 9, each over the whole file before the next, for a file that rows 1 to 5 pass and whose links have been read.
-pub(crate) fn judge_entries(
-    file: &[u8],
-    routers: usize,
-    links: usize,
-    prefixes: usize,
-    columns: LinkColumns,
-) -> Entries
-    requires { ⌜ Begun (now file) routers links prefixes columns ⌝ }
+// Rows 6 to 9, each over the whole file before the next, for a file that rows 1 to 5 pass.
+pub(crate) fn judge_entries(file: &[u8]) -> Entries
+    requires { ⌜ Sized (now file) ⌝ }
     ensures { λ r. ⌜ entriesDecided r ≡ firstRow (returned (loading (now (file .entry)))) entryRows ⌝ }
 {
-    let bad_link = first_bad_link(
-        routers,
-        links,
-        &columns.from,
-        &columns.to,
-        &columns.out,
-        &columns.back,
-    );
+    let routers = file[4] as usize;
+    let links = word_at(file, 6) as usize;
+    let prefixes = word_at(file, 8) as usize;
+    let bad_link = first_bad_link(file, routers, links);
     if bad_link < links {
         return Entries::BadLink(bad_link);
     }
-    let parallel = first_parallel_link(links, &columns.from, &columns.to);
+    let parallel = first_parallel_link(file, links);
     if parallel < links {
         return Entries::ParallelLink(parallel);
     }
@@ -62,16 +53,14 @@ pub(crate) fn judge_entries(
 }
 
 // The network of a file that rows 1 to 9 pass. An attachment is stored only here, after its count has been tested.
-pub(crate) fn network_of(
-    file: &[u8],
-    routers: usize,
-    links: usize,
-    prefixes: usize,
-    columns: LinkColumns,
-) -> Network
-    requires { ⌜ Begun (now file) routers links prefixes columns × (firstRow (returned (loading (now file))) entryRows ≡ none) ⌝ }
+pub(crate) fn network_of(file: &[u8]) -> Network
+    requires { ⌜ Sized (now file) × (firstRow (returned (loading (now file))) entryRows ≡ none) ⌝ }
     ensures { λ r. ⌜ r ≡ structOf (networkOf (now (file .entry))) ⌝ }
 {
+    let routers = file[4] as usize;
+    let links = word_at(file, 6) as usize;
+    let prefixes = word_at(file, 8) as usize;
+    let columns = fill_links(file, links);
     let attached = fill_attached(file, links, prefixes);
     let slots = fill_slots(file, links, prefixes);
     let from = columns.from;

@@ -1,26 +1,23 @@
 // The network file's reader: judges a file by rows 1 to 9 of document 01, in order, and hands over the network that it holds, or
 // the bytes of one entry.
-use block::word_at;
+use block::Blocks;
+use block::judge_blocks;
 use entry::Entries;
 use entry::judge_entries;
 use entry::network_of;
-use head::Blocks;
-use head::judge_blocks;
-use link::fill_links;
+use field::word_at;
 use link::link_part;
 use network::Network;
 use network::blank;
 use prefix::prefix_part;
 ghost use mathlib.Core.Path.{_≡_};
-ghost use mathlib.Core.Option.{none, some};
-ghost use Rattle.lfa.specs.Refusal.{returned, loading, firstRow, answerTo, networkLoaded, linkPart, prefixPart};
-ghost use Rattle.network_file.specs.Judged.{blockRows};
+ghost use Rattle.lfa.specs.Refusal.{loading, refusalOf, answerTo, networkLoaded, linkPart, prefixPart};
+ghost use Rattle.block.specs.Judged.{blocksDecided};
 ghost use Rattle.network_file.specs.Struct.{structOf};
-ghost use Rattle.network_file.specs.Load.{answerOf, faultOf, emptyNetwork};
+ghost use Rattle.network_file.specs.Entry.{entriesDecided};
+ghost use Rattle.network_file.specs.Load.{answerOf, verdictDecided, undecided};
 
-mod block;
 mod entry;
-mod head;
 mod link;
 pub mod network;
 mod prefix;
@@ -49,64 +46,82 @@ pub struct Loaded {
     pub network: Network,
 }
 
-// The answer for a file that is turned away.
-fn refuse(fault: Fault) -> Loaded
-    ensures { λ r. ⌜ (answerOf (r .verdict) ≡ faultOf fault) × (r .network ≡ structOf emptyNetwork) ⌝ }
+// The verdict of rows 1 to 5.
+fn verdict_of_blocks(judged: Blocks) -> Verdict
+    ensures { λ r. ⌜ verdictDecided r ≡ blocksDecided judged ⌝ }
 {
-    let network = blank();
-    Loaded {
-        verdict: Verdict::Refused(fault),
-        network,
+    match judged {
+        Blocks::BadLength => Verdict::Refused(Fault::Length),
+        Blocks::BadCheck(i) => Verdict::Refused(Fault::Check(i)),
+        Blocks::BadHead => Verdict::Refused(Fault::Head),
+        Blocks::BadBlockCount(n) => Verdict::Refused(Fault::BlockCount(n)),
+        Blocks::BadBlock(i) => Verdict::Refused(Fault::Block(i)),
+        Blocks::Passed => Verdict::Accepted,
     }
 }
 
-// Rows 6 to 9 and the network, for a file that rows 1 to 5 pass.
-fn load_entries(file: &[u8]) -> Loaded
-    requires { ⌜ firstRow (returned (loading (now file))) blockRows ≡ none ⌝ }
-    ensures { λ r. ⌜ (answerOf (r .verdict) ≡ answerTo (loading (now (file .entry)))) × (r .network ≡ structOf (networkLoaded (now (file .entry)))) ⌝ }
+// The verdict of rows 6 to 9.
+fn verdict_of_entries(judged: Entries) -> Verdict
+    ensures { λ r. ⌜ verdictDecided r ≡ entriesDecided judged ⌝ }
 {
-    let routers = file[4] as usize;
-    let links = word_at(file, 6) as usize;
-    let prefixes = word_at(file, 8) as usize;
-    let columns = fill_links(file, links);
-    let judged = judge_entries(file, routers, links, prefixes, columns);
     match judged {
-        Entries::BadLink(k) => refuse(Fault::Link(k)),
-        Entries::ParallelLink(k) => refuse(Fault::ParallelLink(k)),
-        Entries::BadPrefix(p) => refuse(Fault::Prefix(p)),
-        Entries::RouterTwice(p) => refuse(Fault::RouterTwice(p)),
-        Entries::Passed => {
-            let network = network_of(file, routers, links, prefixes, columns);
-            Loaded {
-                verdict: Verdict::Accepted,
-                network,
-            }
-        }
+        Entries::BadLink(k) => Verdict::Refused(Fault::Link(k)),
+        Entries::ParallelLink(k) => Verdict::Refused(Fault::ParallelLink(k)),
+        Entries::BadPrefix(p) => Verdict::Refused(Fault::Prefix(p)),
+        Entries::RouterTwice(p) => Verdict::Refused(Fault::RouterTwice(p)),
+        Entries::Passed => Verdict::Accepted,
     }
+}
+
+// Judges a file. Rows 6 to 9 are tried only where rows 1 to 5 pass.
+fn judge(file: &[u8]) -> Verdict
+    ensures { λ r. ⌜ verdictDecided r ≡ refusalOf (loading (now (file .entry))) ⌝ }
+{
+    let verdict = verdict_of_blocks(judge_blocks(file));
+    match verdict {
+        Verdict::Refused(fault) => Verdict::Refused(fault),
+        Verdict::Accepted => verdict_of_entries(judge_entries(file)),
+    }
+}
+
+// Whether the verdict is that no row applies.
+fn is_accepted(verdict: Verdict) -> bool
+    ensures { λ r. ⌜ r ≡ undecided (verdictDecided verdict) ⌝ }
+{
+    match verdict {
+        Verdict::Accepted => true,
+        Verdict::Refused(_) => false,
+    }
+}
+
+// The network of an accepted file, and for any other the one with nothing in it.
+fn network_if(accepted: bool, file: &[u8]) -> Network
+    requires { ⌜ accepted ≡ undecided (refusalOf (loading (now file))) ⌝ }
+    ensures { λ r. ⌜ r ≡ structOf (networkLoaded (now (file .entry))) ⌝ }
+{
+    if accepted {
+        return network_of(file);
+    }
+    blank()
 }
 
 // Judges a file and hands over its network.
 pub fn load(file: &[u8]) -> Loaded
     ensures { λ r. ⌜ (answerOf (r .verdict) ≡ answerTo (loading (now (file .entry)))) × (r .network ≡ structOf (networkLoaded (now (file .entry)))) ⌝ }
 {
-    let judged = judge_blocks(file);
-    match judged {
-        Blocks::BadLength => refuse(Fault::Length),
-        Blocks::BadCheck(i) => refuse(Fault::Check(i)),
-        Blocks::BadHead => refuse(Fault::Head),
-        Blocks::BadBlockCount(n) => refuse(Fault::BlockCount(n)),
-        Blocks::BadBlock(i) => refuse(Fault::Block(i)),
-        Blocks::Passed => load_entries(file),
-    }
+    let verdict = judge(file);
+    let network = network_if(is_accepted(verdict), file);
+    Loaded { verdict, network }
 }
 
-// The 6 bytes of a link's entry; none for a refused file, whose network has no links, or a link number too large.
+// The 6 bytes of a link's entry; none for a refused file or a link number too large.
 pub fn link_entry(file: &[u8], link: usize) -> &[u8]
     ensures { λ r. ⌜ now r ≡ linkPart (now (file .entry)) link ⌝ }
 {
-    let loaded = load(file);
-    let network = loaded.network;
-    let links = network.links;
+    if !is_accepted(judge(file)) {
+        return &file[0..0];
+    }
+    let links = word_at(file, 6) as usize;
     if links <= link {
         return &file[0..0];
     }
@@ -117,12 +132,12 @@ pub fn link_entry(file: &[u8], link: usize) -> &[u8]
 pub fn prefix_entry(file: &[u8], prefix: usize) -> &[u8]
     ensures { λ r. ⌜ now r ≡ prefixPart (now (file .entry)) prefix ⌝ }
 {
-    let loaded = load(file);
-    let network = loaded.network;
-    let prefixes = network.prefixes;
+    if !is_accepted(judge(file)) {
+        return &file[0..0];
+    }
+    let prefixes = word_at(file, 8) as usize;
     if prefixes <= prefix {
         return &file[0..0];
     }
-    let links = network.links;
-    prefix_part(file, links, prefix)
+    prefix_part(file, word_at(file, 6) as usize, prefix)
 }
