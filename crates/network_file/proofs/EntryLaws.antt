@@ -19,7 +19,7 @@ use Rattle.block.specs.Judged.{Sized}
 use Rattle.block.specs.Laws.First.{answer-found, answer-none}
 use Rattle.block.specs.Laws.Rows.{first-here, first-next}
 use Rattle.network_file.specs.Struct.{fromOf, toOf, outOf, backOf, linkColumn, linksIn, prefixesIn, attachedColumn, slotColumn, routerOf, costOf, structOf}
-use Rattle.network_file.specs.Entry.{entryRows, Counted, PrefixesSound, EndsBelow}
+use Rattle.network_file.specs.Entry.{linkRows, prefixRows, Counted, PrefixesSound, EndsBelow}
 
 -- ---- the numbers of the head
 
@@ -45,80 +45,70 @@ module _ (good : ℕ → Bool) (n m r : ℕ) (right : n ≡ m) (e : r ≡ firstO
 
 -- The returns of the code in turn. At each, the rows before have passed over the whole file; a row whose loop answers with a number
 -- below the end decides with that number.
-module _ (b : Bytes) (links prefixes : ℕ) (counted : Counted b links prefixes) where
-  -- ---- row 6
-  module _ (r6 : ℕ) (e6 : r6 ≡ firstOr links (firstFailing (linkGood b) 0 links)) where
-    pub bad-link-decides : r6 < links → some (decided badLink r6) ≡ firstRow (returned (loading b)) entryRows
-    unfolding returned loading entryRows
-    bad-link-decides h = first-here (returned (loading b)) badLink _ r6 (applies (linkGood b) links _ r6 (counted .links-right) e6 h)
 
-    -- ---- row 7
-    module _ (h6 : links ≤ r6) where
-      no-bad-link : firstFailing (linkGood b) 0 links ≡ none
-      no-bad-link = passes (linkGood b) links links r6 refl e6 h6
+-- ---- rows 6 and 7
+module _ (b : Bytes) (links : ℕ) (right : links ≡ linksOf b) (r6 : ℕ) (e6 : r6 ≡ firstOr links (firstFailing (linkGood b) 0 links)) where
+  pub bad-link-decides : r6 < links → some (decided badLink r6) ≡ firstRow (returned (loading b)) linkRows
+  unfolding returned loading linkRows
+  bad-link-decides h = first-here (returned (loading b)) badLink _ r6 (applies (linkGood b) links _ r6 right e6 h)
 
-      pub ends-below : EndsBelow b links
-      unfolding linkGood linkOf linkIn fromOf toOf
-      ends-below k h =
-          let f = link-facts _ _ _ _ _ (none-failing (linkGood b) 0 links no-bad-link k (omega arith) (omega arith)) in
-          (omega (arith, f .a-in, counted .sized .few-routers), omega (arith, f .b-in, counted .sized .few-routers))
+  module _ (h6 : links ≤ r6) where
+    -- row 6 passes, so both routers of each link are below N
+    pub ends-below : Sized b → EndsBelow b links
+    unfolding linkGood linkOf linkIn fromOf toOf
+    ends-below s k h =
+        let f = link-facts _ _ _ _ _ (none-failing (linkGood b) 0 links (passes (linkGood b) links links r6 refl e6 h6) k (omega arith) (omega arith)) in
+        (omega (arith, f .a-in, s .few-routers), omega (arith, f .b-in, s .few-routers))
 
-      after-6 : firstRow (returned (loading b)) (parallelLink ∷ badPrefix ∷ routerTwice ∷ []) ≡ firstRow (returned (loading b)) entryRows
-      unfolding returned loading entryRows
-      after-6 = first-next (returned (loading b)) badLink _ (passes (linkGood b) links _ r6 (counted .links-right) e6 h6)
+    after-6 : firstRow (returned (loading b)) (parallelLink ∷ []) ≡ firstRow (returned (loading b)) linkRows
+    unfolding returned loading linkRows
+    after-6 = first-next (returned (loading b)) badLink _ (passes (linkGood b) links _ r6 right e6 h6)
 
-      module _ (r7 : ℕ) (e7 : r7 ≡ firstOr links (firstFailing (linkNew b) 0 links)) where
-        pub parallel-decides : r7 < links → some (decided parallelLink r7) ≡ firstRow (returned (loading b)) entryRows
-        unfolding returned loading
-        parallel-decides h =
-            first-here (returned (loading b)) parallelLink _ r7 (applies (linkNew b) links _ r7 (counted .links-right) e7 h) ∙ after-6
+    module _ (r7 : ℕ) (e7 : r7 ≡ firstOr links (firstFailing (linkNew b) 0 links)) where
+      pub parallel-decides : r7 < links → some (decided parallelLink r7) ≡ firstRow (returned (loading b)) linkRows
+      unfolding returned loading
+      parallel-decides h = first-here (returned (loading b)) parallelLink [] r7 (applies (linkNew b) links _ r7 right e7 h) ∙ after-6
 
-        -- ---- row 8
-        module _ (h7 : links ≤ r7) where
-          after-7 : firstRow (returned (loading b)) (badPrefix ∷ routerTwice ∷ []) ≡ firstRow (returned (loading b)) entryRows
-          unfolding returned loading
-          after-7 =
-              first-next (returned (loading b)) parallelLink _ (passes (linkNew b) links _ r7 (counted .links-right) e7 h7) ∙ after-6
+      pub links-pass : links ≤ r7 → none ≡ firstRow (returned (loading b)) linkRows
+      unfolding returned loading firstRow
+      links-pass h = first-next (returned (loading b)) parallelLink [] (passes (linkNew b) links _ r7 right e7 h) ∙ after-6
 
-          module _ (r8 : ℕ) (e8 : r8 ≡ firstOr prefixes (firstFailing (prefixGood b) 0 prefixes)) where
-            pub bad-prefix-decides : r8 < prefixes → some (decided badPrefix r8) ≡ firstRow (returned (loading b)) entryRows
-            unfolding returned loading
-            bad-prefix-decides h =
-                first-here (returned (loading b)) badPrefix _ r8 (applies (prefixGood b) prefixes _ r8 (counted .prefixes-right) e8 h) ∙ after-7
+-- ---- rows 8 and 9
+module _ (b : Bytes) (prefixes : ℕ) (right : prefixes ≡ prefixesOf b) (r8 : ℕ) (e8 : r8 ≡ firstOr prefixes (firstFailing (prefixGood b) 0 prefixes)) where
+  pub bad-prefix-decides : r8 < prefixes → some (decided badPrefix r8) ≡ firstRow (returned (loading b)) prefixRows
+  unfolding returned loading prefixRows
+  bad-prefix-decides h = first-here (returned (loading b)) badPrefix _ r8 (applies (prefixGood b) prefixes _ r8 right e8 h)
 
-            -- ---- row 9
-            module _ (h8 : prefixes ≤ r8) where
-              pub sound-prefixes : PrefixesSound b prefixes
-              sound-prefixes p h = none-failing (prefixGood b) 0 prefixes (passes (prefixGood b) prefixes prefixes r8 refl e8 h8) p (omega arith) (omega arith)
+  module _ (h8 : prefixes ≤ r8) where
+    pub sound-prefixes : PrefixesSound b prefixes
+    sound-prefixes p h = none-failing (prefixGood b) 0 prefixes (passes (prefixGood b) prefixes prefixes r8 refl e8 h8) p (omega arith) (omega arith)
 
-              after-8 : firstRow (returned (loading b)) (routerTwice ∷ []) ≡ firstRow (returned (loading b)) entryRows
-              unfolding returned loading
-              after-8 = first-next (returned (loading b)) badPrefix _ (passes (prefixGood b) prefixes _ r8 (counted .prefixes-right) e8 h8) ∙ after-7
+    after-8 : firstRow (returned (loading b)) (routerTwice ∷ []) ≡ firstRow (returned (loading b)) prefixRows
+    unfolding returned loading prefixRows
+    after-8 = first-next (returned (loading b)) badPrefix _ (passes (prefixGood b) prefixes _ r8 right e8 h8)
 
-              module _ (r9 : ℕ) (e9 : r9 ≡ firstOr prefixes (firstFailing (routersNew b) 0 prefixes)) where
-                pub twice-decides : r9 < prefixes → some (decided routerTwice r9) ≡ firstRow (returned (loading b)) entryRows
-                unfolding returned loading
-                twice-decides h =
-                    first-here (returned (loading b)) routerTwice [] r9 (applies (routersNew b) prefixes _ r9 (counted .prefixes-right) e9 h) ∙ after-8
+    module _ (r9 : ℕ) (e9 : r9 ≡ firstOr prefixes (firstFailing (routersNew b) 0 prefixes)) where
+      pub twice-decides : r9 < prefixes → some (decided routerTwice r9) ≡ firstRow (returned (loading b)) prefixRows
+      unfolding returned loading
+      twice-decides h = first-here (returned (loading b)) routerTwice [] r9 (applies (routersNew b) prefixes _ r9 right e9 h) ∙ after-8
 
-                pub none-decide : prefixes ≤ r9 → none ≡ firstRow (returned (loading b)) entryRows
-                unfolding returned loading firstRow
-                none-decide h =
-                    first-next (returned (loading b)) routerTwice [] (passes (routersNew b) prefixes _ r9 (counted .prefixes-right) e9 h) ∙ after-8
+      pub prefixes-pass : prefixes ≤ r9 → none ≡ firstRow (returned (loading b)) prefixRows
+      unfolding returned loading firstRow
+      prefixes-pass h = first-next (returned (loading b)) routerTwice [] (passes (routersNew b) prefixes _ r9 right e9 h) ∙ after-8
 
 -- ---- the network by value
 
--- where none of rows 6 to 9 applies, row 8 passes each prefix
-pub prefixes-sound : (b : Bytes) → firstRow (returned (loading b)) entryRows ≡ none → PrefixesSound b (prefixesOf b)
-unfolding returned loading entryRows
+-- where neither of rows 8 and 9 applies, row 8 passes each prefix
+pub prefixes-sound : (b : Bytes) → firstRow (returned (loading b)) prefixRows ≡ none → PrefixesSound b (prefixesOf b)
+unfolding returned loading prefixRows
 prefixes-sound b e p h =
-    let none-applies = none-decides (returned (loading b)) entryRows e badPrefix (getD-in entryRows 2 badLink (omega arith)) in
+    let none-applies = none-decides (returned (loading b)) prefixRows e badPrefix (getD-in prefixRows 0 badPrefix (omega arith)) in
     none-failing (prefixGood b) 0 (prefixesOf b) none-applies p (omega arith) (omega arith)
 
 -- The struct that the code puts together of the columns is that of the file's network.
-pub struct-made : (b : Bytes) (links prefixes : ℕ) → Counted b links prefixes →
+pub struct-made : (b : Bytes) (routers links prefixes : ℕ) → routers ≡ routersOf b → Counted b links prefixes →
     record {
-      routers = getD b 4 0;
+      routers = routers;
       links = links;
       prefixes = prefixes;
       from = linkColumn fromOf (linksIn b links);
@@ -129,7 +119,7 @@ pub struct-made : (b : Bytes) (links prefixes : ℕ) → Counted b links prefixe
       at = slotColumn routerOf (prefixesIn b prefixes);
       own = slotColumn costOf (prefixesIn b prefixes);
     } ≡ structOf (networkOf b)
-unfolding structOf networkOf linksIn prefixesIn routersOf byteAt
-struct-made b links prefixes counted =
-    rw (counted .links-right, counted .prefixes-right)
+unfolding structOf networkOf linksIn prefixesIn
+struct-made b routers links prefixes n counted =
+    rw (n, counted .links-right, counted .prefixes-right)
     (rw (length-map-below (linkOf b) (linksOf b), length-map-below (prefixOf b) (prefixesOf b)))

@@ -1,21 +1,24 @@
--- Rows 6 to 9, the rows of the entries: what is known when they are tried, what they look at, and the row that decides.
+-- Rows 6 to 9, the rows of the entries: what is known when they are tried, and what they look at.
 -- Assumes nothing.
 use Prim.Native.Nat.{ℕ, _+_, _*_, _≤_, _<_}
 use mathlib.Core.Path.{_≡_}
 use mathlib.Core.Bool.{true}
-use mathlib.Core.Option.{Option, none, some}
-use mathlib.Core.List.{List, [], _∷_}
+use mathlib.Core.List.{List, [], _∷_, _++_}
 use lib.ListN.{length, getD}
 use Rattle.lfa.specs.File.{Bytes, linksOf, prefixesOf, linkOf, prefixGood}
-use Rattle.lfa.specs.Refusal.{Row, badLink, parallelLink, badPrefix, routerTwice, Decided, decided}
+use Rattle.lfa.specs.Refusal.{Row, badLink, parallelLink, badPrefix, routerTwice}
 use Rattle.block.specs.Judged.{Sized}
 use Rattle.network_file.specs.Struct.{fromOf, toOf}
-use Rattle.network_file.specs.declared.entry.Entries.{Entries}
-use Rattle.network_file.specs.declared.entry.Entries.the-variants.{BadLink, ParallelLink, BadPrefix, RouterTwice, Passed}
 
--- the rows that speak of entries, which are tried after those of blocks
+-- the rows that speak of links, then those that speak of prefixes, which are tried after those of blocks
+unfoldable pub linkRows : List Row
+linkRows = badLink ∷ parallelLink ∷ []
+
+unfoldable pub prefixRows : List Row
+prefixRows = badPrefix ∷ routerTwice ∷ []
+
 unfoldable pub entryRows : List Row
-entryRows = badLink ∷ parallelLink ∷ badPrefix ∷ routerTwice ∷ []
+entryRows = linkRows ++ prefixRows
 
 -- ---- what is known when rows 6 to 9 are tried
 
@@ -40,13 +43,3 @@ pub record Slots (e : Bytes) : Type 0 where
   pub long : length e ≡ 34
   pub few : getD e 0 0 ≤ 8
   pub routers-below : (s : ℕ) → s < getD e 0 0 → getD e (2 + 4 * s) 0 < 64
-
--- ---- the row that decides
-
--- the row that decides, with the value that it returns, for each case of the enum
-unfoldable pub entriesDecided : Entries → Option Decided
-entriesDecided (BadLink k) = some (decided badLink k)
-entriesDecided (ParallelLink k) = some (decided parallelLink k)
-entriesDecided (BadPrefix p) = some (decided badPrefix p)
-entriesDecided (RouterTwice p) = some (decided routerTwice p)
-entriesDecided Passed = none

@@ -2,8 +2,8 @@
 // the bytes of one entry.
 use block::Blocks;
 use block::judge_blocks;
-use entry::Entries;
-use entry::judge_entries;
+use entry::judge_links;
+use entry::judge_prefixes;
 use entry::network_of;
 use field::word_at;
 use link::link_part;
@@ -11,11 +11,13 @@ use network::Network;
 use network::blank;
 use prefix::prefix_part;
 ghost use mathlib.Core.Path.{_≡_};
-ghost use Rattle.lfa.specs.Refusal.{loading, refusalOf, answerTo, networkLoaded, linkPart, prefixPart};
-ghost use Rattle.block.specs.Judged.{blocksDecided};
+ghost use mathlib.Core.Bool.{false};
+ghost use mathlib.Core.Option.{some};
+ghost use Rattle.lfa.specs.Refusal.{returned, loading, firstRow, refusalOf, answerTo, networkLoaded, linkPart, prefixPart};
+ghost use Rattle.block.specs.Judged.{blocksDecided, Sized};
 ghost use Rattle.network_file.specs.Struct.{structOf};
-ghost use Rattle.network_file.specs.Entry.{entriesDecided};
-ghost use Rattle.network_file.specs.Load.{answerOf, verdictDecided, undecided};
+ghost use Rattle.network_file.specs.Entry.{entryRows};
+ghost use Rattle.network_file.specs.Load.{faultRow, answerOf, verdictDecided, undecided, countLoaded};
 
 mod entry;
 mod link;
@@ -46,41 +48,18 @@ pub struct Loaded {
     pub network: Network,
 }
 
-// The verdict of rows 1 to 5.
-fn verdict_of_blocks(judged: Blocks) -> Verdict
-    ensures { λ r. ⌜ verdictDecided r ≡ blocksDecided judged ⌝ }
+// The fault that one of rows 1 to 5 finds. Blocks that pass have none, so their arm is never taken.
+fn block_fault(judged: Blocks) -> Fault
+    requires { ⌜ undecided (blocksDecided judged) ≡ false ⌝ }
+    ensures { λ r. ⌜ some (faultRow r) ≡ blocksDecided judged ⌝ }
 {
     match judged {
-        Blocks::BadLength => Verdict::Refused(Fault::Length),
-        Blocks::BadCheck(i) => Verdict::Refused(Fault::Check(i)),
-        Blocks::BadHead => Verdict::Refused(Fault::Head),
-        Blocks::BadBlockCount(n) => Verdict::Refused(Fault::BlockCount(n)),
-        Blocks::BadBlock(i) => Verdict::Refused(Fault::Block(i)),
-        Blocks::Passed => Verdict::Accepted,
-    }
-}
-
-// The verdict of rows 6 to 9.
-fn verdict_of_entries(judged: Entries) -> Verdict
-    ensures { λ r. ⌜ verdictDecided r ≡ entriesDecided judged ⌝ }
-{
-    match judged {
-        Entries::BadLink(k) => Verdict::Refused(Fault::Link(k)),
-        Entries::ParallelLink(k) => Verdict::Refused(Fault::ParallelLink(k)),
-        Entries::BadPrefix(p) => Verdict::Refused(Fault::Prefix(p)),
-        Entries::RouterTwice(p) => Verdict::Refused(Fault::RouterTwice(p)),
-        Entries::Passed => Verdict::Accepted,
-    }
-}
-
-// Judges a file. Rows 6 to 9 are tried only where rows 1 to 5 pass.
-fn judge(file: &[u8]) -> Verdict
-    ensures { λ r. ⌜ verdictDecided r ≡ refusalOf (loading (now (file .entry))) ⌝ }
-{
-    let verdict = verdict_of_blocks(judge_blocks(file));
-    match verdict {
-        Verdict::Refused(fault) => Verdict::Refused(fault),
-        Verdict::Accepted => verdict_of_entries(judge_entries(file)),
+        Blocks::BadLength => Fault::Length,
+        Blocks::BadCheck(i) => Fault::Check(i),
+        Blocks::BadHead => Fault::Head,
+        Blocks::BadBlockCount(n) => Fault::BlockCount(n),
+        Blocks::BadBlock(i) => Fault::Block(i),
+        Blocks::Passed => Fault::Length,
     }
 }
 
@@ -94,15 +73,41 @@ fn is_accepted(verdict: Verdict) -> bool
     }
 }
 
+// Rows 6 to 9, for a file that rows 1 to 5 pass.
+fn judge_entries(file: &[u8]) -> Verdict
+    requires { ⌜ Sized (now file) ⌝ }
+    ensures { λ r. ⌜ verdictDecided r ≡ firstRow (returned (loading (now (file .entry)))) entryRows ⌝ }
+{
+    let verdict = judge_links(file);
+    if is_accepted(verdict) {
+        return judge_prefixes(file);
+    }
+    verdict
+}
+
+// Judges a file. Rows 6 to 9 are tried only where rows 1 to 5 pass.
+fn judge(file: &[u8]) -> Verdict
+    ensures { λ r. ⌜ verdictDecided r ≡ refusalOf (loading (now (file .entry))) ⌝ }
+{
+    let blocks = judge_blocks(file);
+    match blocks {
+        Blocks::Passed => judge_entries(file),
+        _ => Verdict::Refused(block_fault(blocks)),
+    }
+}
+
 // The network of an accepted file, and for any other the one with nothing in it.
 fn network_if(accepted: bool, file: &[u8]) -> Network
     requires { ⌜ accepted ≡ undecided (refusalOf (loading (now file))) ⌝ }
     ensures { λ r. ⌜ r ≡ structOf (networkLoaded (now (file .entry))) ⌝ }
 {
-    if accepted {
-        return network_of(file);
+    if !accepted {
+        return blank();
     }
-    blank()
+    let routers = file[4] as usize;
+    let links = word_at(file, 6) as usize;
+    let prefixes = word_at(file, 8) as usize;
+    network_of(file, routers, links, prefixes)
 }
 
 // Judges a file and hands over its network.
@@ -114,14 +119,21 @@ pub fn load(file: &[u8]) -> Loaded
     Loaded { verdict, network }
 }
 
+// How many links or prefixes a file has, by the offset of their number in the head; 0 for a refused file.
+fn count_at(file: &[u8], at: usize) -> usize
+    ensures { λ r. ⌜ r ≡ countLoaded (now (file .entry)) at ⌝ }
+{
+    if is_accepted(judge(file)) {
+        return word_at(file, at) as usize;
+    }
+    0
+}
+
 // The 6 bytes of a link's entry; none for a refused file or a link number too large.
 pub fn link_entry(file: &[u8], link: usize) -> &[u8]
     ensures { λ r. ⌜ now r ≡ linkPart (now (file .entry)) link ⌝ }
 {
-    if !is_accepted(judge(file)) {
-        return &file[0..0];
-    }
-    let links = word_at(file, 6) as usize;
+    let links = count_at(file, 6);
     if links <= link {
         return &file[0..0];
     }
@@ -132,10 +144,7 @@ pub fn link_entry(file: &[u8], link: usize) -> &[u8]
 pub fn prefix_entry(file: &[u8], prefix: usize) -> &[u8]
     ensures { λ r. ⌜ now r ≡ prefixPart (now (file .entry)) prefix ⌝ }
 {
-    if !is_accepted(judge(file)) {
-        return &file[0..0];
-    }
-    let prefixes = word_at(file, 8) as usize;
+    let prefixes = count_at(file, 8);
     if prefixes <= prefix {
         return &file[0..0];
     }

@@ -1,21 +1,14 @@
 -- `link_entry` is the entry of a link of an accepted file, and empty for anything else.
 -- Assumes nothing.
-use mathlib.Core.Path.{sym, ap, _∙_}
+use mathlib.Core.Path.{sym, _∙_}
 use native.Mathlib.Omega.{arith}
-use borrow.Author.Tests.{not-true, not-false}
-use Rattle.lfa.specs.File.{linksOf}
-use Rattle.lfa.specs.Laws.Accepted.{no-link-part}
-use Rattle.network_file.specs.Load.{undecided}
-use Rattle.network_file.proofs.LoadLaws.{refused-parts, accepted-sized, is-link-part}
+use Rattle.network_file.proofs.LoadLaws.{link-sized, is-link-part, no-link}
 use borrow.Author.Needs.{needs}
 use Rattle.network_file.proofs.link_entry.Statement.{statement}
 use Rattle.network_file.proofs.link_entry.Tie as tie
 
-judge-requires : tie.Need-judge-requires
-judge-requires c κs = search needs
-
-is-accepted-requires : tie.Need-is-accepted-requires
-is-accepted-requires c κs = search needs
+count-at-requires : tie.Need-count-at-requires
+count-at-requires c κs = search needs
 
 sub-result : tie.Need-sub-result
 sub-result c = search needs
@@ -27,56 +20,22 @@ part-result-end : tie.Need-part-result-end
 part-result-end c = search needs
 
 returns : tie.Need-returns
-returns c =
-    let first = c .before in
-    sym (refused-parts _ _ (sym (first .before .is-accepted .ensures ∙ ap undecided (first .before .before .judge .ensures)) ∙ not-true _ (first .if1 .taken)) .0)
-
-word-at-requires : tie.Need-word-at-requires
-word-at-requires c κs = search needs
-
-cast-links : tie.Need-cast-links
-cast-links c = search needs
-
-sub-result-2 : tie.Need-sub-result-2
-sub-result-2 c = search needs
-
-part-result-start-2 : tie.Need-part-result-start-2
-part-result-start-2 c = search needs
-
-part-result-end-2 : tie.Need-part-result-end-2
-part-result-end-2 c = search needs
-
-returns-2 : tie.Need-returns-2
-unfolding linksOf
-returns-2 c = sym (no-link-part _ _ (omega (arith, c .before .before .word-at .ensures)))
+returns c = sym (no-link _ _ (omega (arith, c .before .before .count-at .ensures)))
 
 link-part-requires : tie.Need-link-part-requires
-unfolding linksOf
-link-part-requires c κs =
-    let first = c .before .before in
-    (accepted-sized _ (sym (first .before .is-accepted .ensures ∙ ap undecided (first .before .before .judge .ensures)) ∙ not-false _ (first .if1 .left)), omega (arith, c .before .word-at .ensures))
+link-part-requires c κs = link-sized _ _ (omega (arith, c .before .count-at .ensures))
 
-returns-3 : tie.Need-returns-3
-unfolding linksOf
-returns-3 c =
-    let first = c .before .before .before in
-    c .link-part .ensures .0 ∙ is-link-part _ _ (sym (first .before .is-accepted .ensures ∙ ap undecided (first .before .before .judge .ensures)) ∙ not-false _ (first .if1 .left)) (omega (arith, c .before .before .word-at .ensures))
+returns-2 : tie.Need-returns-2
+returns-2 c = c .link-part .ensures .0 ∙ is-link-part _ _ (omega (arith, c .before .before .count-at .ensures))
 
 pub link-entry-spec : {M : Type 1} → statement M
 link-entry-spec =
     tie.close
     (tie.spec
-    judge-requires
-    is-accepted-requires
+    count-at-requires
     sub-result
     part-result-start
     part-result-end
     returns
-    word-at-requires
-    cast-links
-    sub-result-2
-    part-result-start-2
-    part-result-end-2
-    returns-2
     link-part-requires
-    returns-3)
+    returns-2)
