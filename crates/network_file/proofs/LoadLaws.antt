@@ -73,7 +73,6 @@ not-passed Passed k = absurd (fifth k)
     fifth : OneOf (0 ∷ 1 ∷ 2 ∷ 3 ∷ 4 ∷ []) 5 → ⊥
     fifth k = miss (0 ∷ 1 ∷ 2 ∷ 3 ∷ 4 ∷ []) 5 tt k
 
-
 -- a verdict that names the row that decides is document 01's answer
 pub verdict-answers : (b : Bytes) (v : Verdict) → verdictDecided v ≡ refusalOf (loading b) → answerOf v ≡ answerTo (loading b)
 unfolding verdictDecided answerOf faultOf answerTo computed loading

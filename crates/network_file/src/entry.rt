@@ -6,7 +6,8 @@ use super::link::first_bad_link;
 use super::link::first_parallel_link;
 use super::network::Network;
 use super::prefix::fill_attached;
-use super::prefix::fill_slots;
+use super::prefix::fill_costs;
+use super::prefix::fill_routers;
 use super::prefix::first_bad_prefix;
 use super::prefix::first_router_twice;
 use field::word_at;
@@ -63,13 +64,12 @@ pub(crate) fn network_of(file: &[u8], routers: usize, links: usize, prefixes: us
 {
     let columns = fill_links(file, links);
     let attached = fill_attached(file, links, prefixes);
-    let slots = fill_slots(file, links, prefixes);
+    let at = fill_routers(file, links, prefixes);
+    let own = fill_costs(file, links, prefixes);
     let from = columns.from;
     let to = columns.to;
     let out = columns.out;
     let back = columns.back;
-    let at = slots.at;
-    let own = slots.own;
     Network {
         routers,
         links,

@@ -42,8 +42,8 @@ returns c =
     let turn = c .before .before .before .before .before in
     let l = turn .before .loop in
     let old =
-        not-new _ _ _ _ _ (c .before .before .before .before .link-part .ensures .0) (turn .before .before .before .pre .2) (turn .loop-test .taken) (l .inv .1)
-        (c .before .pair-cell .ensures .0) (c .if1 .taken)
+    not-new _ _ _ _ _ (c .before .before .before .before .link-part .ensures .0) (turn .before .before .before .pre .2) (turn .loop-test .taken) (l .inv .1)
+    (c .before .pair-cell .ensures .0) (c .if1 .taken)
     in
     search-found _ 0 _ _ _ (l .inv .0) (turn .loop-test .taken) old
 
