@@ -15,8 +15,8 @@ use Rattle.lfa.specs.File.{Bytes, byteAt, wordAt, ceil, linkBlocks, prefixBlock
 use Rattle.lfa.specs.File.{linkEntry, linkIn, linkOf, soundLink, linkGood, joinSame, linkNew}
 use Rattle.block.specs.Judged.{Sized}
 use Rattle.network_file.specs.Struct.{fromOf, toOf, outOf, backOf, column, linkColumn, linksIn}
-use Rattle.network_file.specs.Entry.{EndsBelow}
-use Rattle.network_file.proofs.TableLaws.{mark, mark-both, cell-same}
+use Rattle.network_file.specs.Entry.{EndsBelow, pairCell}
+use Rattle.network_file.proofs.TableLaws.{mark, cell-small, cell-same}
 use Rattle.network_file.proofs.ColumnLaws.{column-map}
 
 -- ---- places
@@ -60,11 +60,10 @@ link-tested b e routers k n is q = rw (← n, ← is) (sym q)
 
 -- ---- row 7: the table of joined pairs
 
--- the table after k links: true at both cells of each pair that one of them joins
+-- the table after k links: true at the cell of each pair that one of them joins
 unfoldable pub joinedBy : Bytes → ℕ → List Bool
 joinedBy b zero = replicate 4096 false
-joinedBy b (suc k) =
-    set (set (joinedBy b k) (64 * fromOf (linkOf b k) + toOf (linkOf b k)) true) (64 * toOf (linkOf b k) + fromOf (linkOf b k)) true
+joinedBy b (suc k) = set (joinedBy b k) (pairCell (fromOf (linkOf b k)) (toOf (linkOf b k))) true
 
 pub joined-none : (b : Bytes) → replicate 4096 false ≡ joinedBy b 0
 unfolding joinedBy
@@ -75,29 +74,21 @@ unfolding joinedBy
 joined-length b zero = length-replicate 4096 false
 joined-length b (suc k) = simp length-set (joined-length b k)
 
--- Cell (x, y) of the table is true exactly when one of the first k links joins x and y. By recursion on k: link k sets the two
--- cells of its pair.
+-- The cell of x and y is true exactly when one of the first k links joins them. By recursion on k: link k sets the cell of its
+-- pair.
 joined-cell : (b : Bytes) (x y xy yx k : ℕ) → x < 64 → y < 64 → EndsBelow b k →
-    getD (joinedBy b k) (64 * x + y) false ≡ not (everyBelow (λ j. not (joinSame (link x y xy yx) (linkOf b j))) k)
+    getD (joinedBy b k) (pairCell x y) false ≡ not (everyBelow (λ j. not (joinSame (link x y xy yx) (linkOf b j))) k)
 unfolding joinedBy everyBelow joinSame linkOf linkIn fromOf toOf
-joined-cell b x y xy yx zero hx hy ends = getD-replicate 4096 (64 * x + y) false false (omega arith)
+joined-cell b x y xy yx zero hx hy ends = getD-replicate 4096 (pairCell x y) false false (cell-small x y hx hy)
 joined-cell b x y xy yx (suc k) hx hy ends =
     go (fromOf (linkOf b k)) (toOf (linkOf b k)) (ends k (omega arith)) (everyBelow (λ j. not (joinSame (link x y xy yx) (linkOf b j))) k)
     (joined-cell b x y xy yx k hx hy (λ j h. ends j (omega arith)))
   where
-    t : List Bool
-    t = joinedBy b k
-
-    long : length t ≡ 4096
-    long = joined-length b k
-
-    go : (a b : ℕ) → (a < 64) × (b < 64) → (p : Bool) → getD t (64 * x + y) false ≡ not p →
-        getD (set (set t (64 * a + b) true) (64 * b + a) true) (64 * x + y) false ≡ not (p && not ((eqb x a && eqb y b) || (eqb x b && eqb y a)))
-    go a b h p e =
-        let c = 64 * x + y in
-        let once = mark t (64 * a + b) c p (omega (arith, long)) e in
-        let again = mark (set t (64 * a + b) true) (64 * b + a) c (p && not (eqb c (64 * a + b))) (simp length-set (omega (arith, long))) once in
-        rw (← cell-same x y a b hx hy (h .0) (h .1), ← cell-same x y b a hx hy (h .1) (h .0)) (again ∙ mark-both p (eqb c (64 * a + b)) (eqb c (64 * b + a)))
+    go : (a b′ : ℕ) → (a < 64) × (b′ < 64) → (p : Bool) → getD (joinedBy b k) (pairCell x y) false ≡ not p →
+        getD (set (joinedBy b k) (pairCell a b′) true) (pairCell x y) false ≡ not (p && not ((eqb x a && eqb y b′) || (eqb x b′ && eqb y a)))
+    go a b′ h p e =
+        rw (← cell-same x y a b′ hx hy (h .0) (h .1))
+        (mark (joinedBy b k) (pairCell a b′) (pairCell x y) p (omega (arith, joined-length b k, cell-small a b′ (h .0) (h .1))) e)
 
 -- What a look at the table tells of link k, whose entry is e, where the ends of the links are below 64: the cell of its pair is
 -- true exactly when an earlier link joins the pair.
@@ -106,7 +97,7 @@ module _ (b e : Bytes) (links k : ℕ) (table : List Bool) (is : e ≡ linkEntry
   pub ends-small : (getD e 0 0 < 64) × (getD e 1 0 < 64)
   ends-small = let here = ends k h in (rw (from-read b e k is) (here .0), rw (to-read b e k is) (here .1))
 
-  module _ {cell : ℕ} (at : cell ≡ 64 * getD e 0 0 + getD e 1 0) where
+  module _ {cell : ℕ} (at : cell ≡ pairCell (getD e 0 0) (getD e 1 0)) where
     seen : getD table cell false ≡ not (linkNew b k)
     unfolding linkNew linkOf linkIn fromOf toOf outOf backOf
     seen =
@@ -120,7 +111,7 @@ module _ (b e : Bytes) (links k : ℕ) (table : List Bool) (is : e ≡ linkEntry
     pub is-new : getD table cell false ≡ false → linkNew b k ≡ true
     is-new e = not-false _ (sym seen ∙ e)
 
-    -- both cells of the pair are set
-    pub joined-more : {other : ℕ} → other ≡ 64 * getD e 1 0 + getD e 0 0 → set (set table cell true) other true ≡ joinedBy b (k + 1)
+    -- the cell of the pair is set
+    pub joined-more : set table cell true ≡ joinedBy b (k + 1)
     unfolding joinedBy
-    joined-more f = rw (filled, at, f, from-read b e k is, to-read b e k is, add-one k)
+    joined-more = rw (filled, at, from-read b e k is, to-read b e k is, add-one k)

@@ -1,6 +1,6 @@
 -- Rows 6 to 9, the rows of the entries: what is known when they are tried, and what they look at.
 -- Assumes nothing.
-use Prim.Native.Nat.{ℕ, _+_, _*_, _≤_, _<_}
+use Prim.Native.Nat.{ℕ, _+_, _-_, _*_, _≤_, _<_, min}
 use mathlib.Core.Path.{_≡_}
 use mathlib.Core.Bool.{true}
 use mathlib.Core.List.{List, [], _∷_, _++_}
@@ -35,6 +35,12 @@ PrefixesSound b n = (p : ℕ) → p < n → prefixGood b p ≡ true
 -- both routers of each of the first n links are below 64
 abbrev pub EndsBelow : Bytes → ℕ → Type 0
 EndsBelow b n = (k : ℕ) → k < n → (fromOf (linkOf b k) < 64) × (toOf (linkOf b k) < 64)
+
+-- ---- row 7 over the links
+
+-- the cell of two routers in a table of 64 rows and columns: the lower router's row, the other's column
+unfoldable pub pairCell : ℕ → ℕ → ℕ
+pairCell a b = 64 * min a b + (a + b - min a b)
 
 -- ---- rows 8 and 9 over the entry of a prefix
 

@@ -8,7 +8,7 @@ ghost use Rattle.lfa.specs.File.{routersOf, linksOf, linkEntry, linkIn, soundLi
 ghost use Rattle.block.specs.First.{firstOr};
 ghost use Rattle.block.specs.Judged.{Sized};
 ghost use Rattle.network_file.specs.Struct.{linkColumns, linksIn};
-ghost use Rattle.network_file.specs.Entry.{EndsBelow};
+ghost use Rattle.network_file.specs.Entry.{EndsBelow, pairCell};
 
 // One column for each number of a link, a cell for each link.
 pub(crate) struct LinkColumns {
@@ -91,16 +91,19 @@ pub(crate) fn first_bad_link(file: &[u8], routers: usize, links: usize) -> usize
     links
 }
 
-// The cell of a pair of routers in a table of 64 rows and columns.
+// The cell of two routers, in either order, in a table of 64 rows and columns.
 fn pair_cell(a: u8, b: u8) -> usize
     requires { ⌜ (a < 64) × (b < 64) ⌝ }
-    ensures { λ r. ⌜ (r ≡ 64 * a + b) × (r < 4096) ⌝ }
+    ensures { λ r. ⌜ (r ≡ pairCell a b) × (r < 4096) ⌝ }
 {
-    64 * (a as usize) + (b as usize)
+    if a <= b {
+        return 64 * (a as usize) + (b as usize);
+    }
+    64 * (b as usize) + (a as usize)
 }
 
 // Row 7: the first link that joins two routers an earlier link joins, or the number of links. A table of the pairs that are
-// joined, both ways round, spares a look at each earlier link.
+// joined spares a look at each earlier link.
 pub(crate) fn first_parallel_link(file: &[u8], links: usize) -> usize
     requires { ⌜ Sized (now file) × (links ≡ linksOf (now file)) × EndsBelow (now file) links ⌝ }
     ensures { λ r. ⌜ r ≡ firstOr links (firstFailing (linkNew (now (file .entry))) 0 links) ⌝ }
@@ -109,13 +112,11 @@ pub(crate) fn first_parallel_link(file: &[u8], links: usize) -> usize
     let mut k: usize = 0;
     while k < links {
         let entry = link_part(file, k);
-        let there = pair_cell(entry[0], entry[1]);
-        if joined[there] {
+        let cell = pair_cell(entry[0], entry[1]);
+        if joined[cell] {
             return k;
         }
-        let back = pair_cell(entry[1], entry[0]);
-        joined[there] = true;
-        joined[back] = true;
+        joined[cell] = true;
         k += 1;
     }
     links

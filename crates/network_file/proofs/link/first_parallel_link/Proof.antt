@@ -41,30 +41,13 @@ returns : tie.Need-returns Inv-loop μ-loop
 returns c =
     let turn = c .before .before .before .before .before in
     let l = turn .before .loop in
-    let old =
-    not-new _ _ _ _ _ (c .before .before .before .before .link-part .ensures .0) (turn .before .before .before .pre .2) (turn .loop-test .taken) (l .inv .1)
-    (c .before .pair-cell .ensures .0) (c .if1 .taken)
-    in
-    search-found _ 0 _ _ _ (l .inv .0) (turn .loop-test .taken) old
-
-shared-slice-read-pair-cell-3 : tie.Need-shared-slice-read-pair-cell-3 Inv-loop μ-loop
-shared-slice-read-pair-cell-3 c = search needs
-
-shared-slice-read-pair-cell-4 : tie.Need-shared-slice-read-pair-cell-4 Inv-loop μ-loop
-shared-slice-read-pair-cell-4 c = search needs
-
-pair-cell-requires-2 : tie.Need-pair-cell-requires-2 Inv-loop μ-loop
-pair-cell-requires-2 c κs =
-    let first = c .before .before .before in
-    let turn = first .before .before .before .before in
-    let ends = ends-small _ _ _ _ _ (first .before .before .before .link-part .ensures .0) (turn .before .before .before .pre .2) (turn .loop-test .taken) (turn .before .loop .inv .1) in
-    (ends .1, ends .0)
+    let h = turn .loop-test .taken in
+    let entry = c .before .before .before .before .link-part .ensures .0 in
+    search-found _ 0 _ _ _ (l .inv .0) h
+    (not-new _ _ _ _ _ entry (turn .before .before .before .pre .2) h (l .inv .1) (c .before .pair-cell .ensures .0) (c .if1 .taken))
 
 array-write-joined : tie.Need-array-write-joined Inv-loop μ-loop
 array-write-joined c = search needs
-
-array-write-joined-2 : tie.Need-array-write-joined-2 Inv-loop μ-loop
-array-write-joined-2 c = search needs
 
 add-k : tie.Need-add-k Inv-loop μ-loop
 add-k c = search needs
@@ -74,16 +57,14 @@ loop-less c = search needs
 
 loop-again : tie.Need-loop-again Inv-loop μ-loop
 loop-again c =
-    let tested = c .before .before .before in
-    let first = tested .before in
-    let turn = first .before .before .before .before in
+    let turn = c .before .before .before .before .before in
     let l = turn .before .loop in
-    let there = first .pair-cell .ensures .0 in
-    let entry = first .before .before .before .link-part .ensures .0 in
+    let h = turn .loop-test .taken in
+    let entry = c .before .before .before .before .link-part .ensures .0 in
     let ends = turn .before .before .before .pre .2 in
-    let new = is-new _ _ _ _ _ entry ends (turn .loop-test .taken) (l .inv .1) there (tested .if1 .left) in (
-      search-passed _ 0 _ _ _ (l .inv .0) (turn .loop-test .taken) new,
-      joined-more _ _ _ _ _ entry ends (turn .loop-test .taken) (l .inv .1) there (c .pair-cell2 .ensures .0),
+    let cell = c .before .pair-cell .ensures .0 in (
+      search-passed _ 0 _ _ _ (l .inv .0) h (is-new _ _ _ _ _ entry ends h (l .inv .1) cell (c .if1 .left)),
+      joined-more _ _ _ _ _ entry ends h (l .inv .1) cell,
     )
 
 returns-2 : tie.Need-returns-2 Inv-loop μ-loop
@@ -102,11 +83,7 @@ first-parallel-link-spec =
     pair-cell-requires
     array-read-if1
     returns
-    shared-slice-read-pair-cell-3
-    shared-slice-read-pair-cell-4
-    pair-cell-requires-2
     array-write-joined
-    array-write-joined-2
     add-k
     loop-less
     loop-again
