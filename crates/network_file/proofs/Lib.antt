@@ -1,9 +1,3 @@
-pub mod FirstLaws
-pub mod RowLaws
-pub mod BlockLaws
-pub mod HeadLaws
-pub mod SizedLaws
-pub mod JudgedLaws
 pub mod ColumnLaws
 pub mod TableLaws
 pub mod LinkLaws

@@ -1,31 +1,31 @@
--- Links: where their entries stand, what a cell of a column is, and rows 6 and 7 over the columns.
+-- Links: where their entries stand, what a cell of a column is, and rows 6 and 7.
 -- Assumes nothing.
-use Prim.Native.Nat.{ℕ, zero, suc, _+_, _-_, _*_, _≤_, _<_}
-use mathlib.Core.Path.{_≡_, sym, _∙_}
+use Prim.Native.Nat.{ℕ, zero, suc, _+_, _*_, _/_, _%_, _≤_, _<_}
+use mathlib.Core.Path.{_≡_, refl, sym, _∙_}
 use mathlib.Core.Bool.{Bool, true, false, not, _&&_, _||_}
 use mathlib.Core.List.{List}
 use native.Mathlib.Omega.{arith}
 use native.Mathlib.Numerals.{add-one}
 use lib.Dec.{eqb}
-use lib.ListN.{length, getD, set, take, drop, replicate, length-take, length-drop, length-set, length-replicate, getD-replicate}
+use lib.ListN.{length, getD, set, replicate, length-set, length-replicate, getD-replicate}
 use borrow.Author.Tests.{not-true, not-false}
 use Rattle.lfa.specs.Lists.{everyBelow}
 use Rattle.lfa.specs.Network.{Link, link}
-use Rattle.lfa.specs.File.{Bytes, byteAt, wordAt, partOf, linkEntry, linkIn, linkOf, joinSame}
+use Rattle.lfa.specs.File.{Bytes, byteAt, wordAt, ceil, linkBlocks, prefixBlocks, blocksNeeded, routersOf, linksOf}
+use Rattle.lfa.specs.File.{linkEntry, linkIn, linkOf, soundLink, linkGood, joinSame, linkNew}
+use Rattle.block.specs.Judged.{Sized}
 use Rattle.network_file.specs.Struct.{fromOf, toOf, outOf, backOf, column, linkColumn, linksIn}
-use Rattle.network_file.specs.Entry.{EndsBelow, endsAt, cellsNew}
-use Rattle.network_file.proofs.TableLaws.{mark, mark-both, cell-same}
+use Rattle.network_file.specs.Entry.{EndsBelow, pairCell}
+use Rattle.network_file.proofs.TableLaws.{mark, cell-small, cell-same}
 use Rattle.network_file.proofs.ColumnLaws.{column-map}
 
 -- ---- places
 
--- what a part of the file from `start` on is, n bytes long
-pub part-taken : (b : Bytes) (start n : ℕ) → start + n ≤ length b →
-    (take (start + n - start) (drop start b) ≡ partOf b start n) × (length (take (start + n - start) (drop start b)) ≡ n)
-unfolding partOf
-part-taken b start n h =
-    let e : start + n - start ≡ n = omega arith in
-    (rw e, simp (length-take, length-drop) (omega arith))
+-- The entry of a link lies inside the file: its block is below the number of blocks needed, and within the block it ends before
+-- the check.
+pub link-inside : (b : Bytes) → Sized b → (k : ℕ) → k < linksOf b → 512 * (1 + k / 84) + 4 + 6 * (k % 84) + 6 ≤ length b
+unfolding blocksNeeded linkBlocks prefixBlocks ceil
+link-inside b s k h = omega (arith, s .whole)
 
 -- ---- the numbers of link k, as they stand in its entry
 
@@ -51,60 +51,67 @@ pub column-links : (b : Bytes) (n : ℕ) (f : Link → ℕ) → column 128 n (λ
 unfolding linkColumn linksIn
 column-links b n f = column-map 128 n f (linkOf b)
 
+-- ---- row 6
+
+-- the test of link k, done on its entry
+pub link-tested : (b e : Bytes) (routers k : ℕ) {r : Bool} → routers ≡ routersOf b → e ≡ linkEntry b k → r ≡ soundLink routers (linkIn e) → linkGood b k ≡ r
+unfolding linkGood linkOf
+link-tested b e routers k n is q = rw (← n, ← is) (sym q)
+
 -- ---- row 7: the table of joined pairs
 
--- the table after k links: true at both cells of each pair that one of them joins
-unfoldable pub joinedBy : List ℕ → List ℕ → ℕ → List Bool
-joinedBy from to zero = replicate 4096 false
-joinedBy from to (suc k) =
-    set (set (joinedBy from to k) (64 * getD from k 0 + getD to k 0) true) (64 * getD to k 0 + getD from k 0) true
+-- the table after k links: true at the cell of each pair that one of them joins
+unfoldable pub joinedBy : Bytes → ℕ → List Bool
+joinedBy b zero = replicate 4096 false
+joinedBy b (suc k) = set (joinedBy b k) (pairCell (fromOf (linkOf b k)) (toOf (linkOf b k))) true
 
-pub joined-more : (from to : List ℕ) (k : ℕ) →
-    set (set (joinedBy from to k) (64 * getD from k 0 + getD to k 0) true) (64 * getD to k 0 + getD from k 0) true ≡ joinedBy from to (k + 1)
+pub joined-none : (b : Bytes) → replicate 4096 false ≡ joinedBy b 0
 unfolding joinedBy
-joined-more from to k = rw (add-one k)
+joined-none b = refl
 
-pub joined-length : (from to : List ℕ) (k : ℕ) → length (joinedBy from to k) ≡ 4096
+pub joined-length : (b : Bytes) (k : ℕ) → length (joinedBy b k) ≡ 4096
 unfolding joinedBy
-joined-length from to zero = length-replicate 4096 false
-joined-length from to (suc k) = simp length-set (joined-length from to k)
+joined-length b zero = length-replicate 4096 false
+joined-length b (suc k) = simp length-set (joined-length b k)
 
--- Cell (x, y) of the table is true exactly when one of the first k links joins x and y. By recursion on k: link k sets the two
--- cells of its pair.
-joined-cell : (from to : List ℕ) (x y k : ℕ) → x < 64 → y < 64 → EndsBelow 64 k from to →
-    getD (joinedBy from to k) (64 * x + y) false ≡ not (everyBelow (λ j. not (joinSame (link x y 0 0) (endsAt from to j))) k)
-unfolding joinedBy everyBelow endsAt joinSame
-joined-cell from to x y zero hx hy ends = getD-replicate 4096 (64 * x + y) false false (omega arith)
-joined-cell from to x y (suc k) hx hy ends =
-    go (getD from k 0) (getD to k 0) (ends k (omega arith)) (everyBelow (λ j. not (joinSame (link x y 0 0) (endsAt from to j))) k)
-    (joined-cell from to x y k hx hy (λ j h. ends j (omega arith)))
+-- The cell of x and y is true exactly when one of the first k links joins them. By recursion on k: link k sets the cell of its
+-- pair.
+joined-cell : (b : Bytes) (x y xy yx k : ℕ) → x < 64 → y < 64 → EndsBelow b k →
+    getD (joinedBy b k) (pairCell x y) false ≡ not (everyBelow (λ j. not (joinSame (link x y xy yx) (linkOf b j))) k)
+unfolding joinedBy everyBelow joinSame linkOf linkIn fromOf toOf
+joined-cell b x y xy yx zero hx hy ends = getD-replicate 4096 (pairCell x y) false false (cell-small x y hx hy)
+joined-cell b x y xy yx (suc k) hx hy ends =
+    go (fromOf (linkOf b k)) (toOf (linkOf b k)) (ends k (omega arith)) (everyBelow (λ j. not (joinSame (link x y xy yx) (linkOf b j))) k)
+    (joined-cell b x y xy yx k hx hy (λ j h. ends j (omega arith)))
   where
-    t : List Bool
-    t = joinedBy from to k
+    go : (a b′ : ℕ) → (a < 64) × (b′ < 64) → (p : Bool) → getD (joinedBy b k) (pairCell x y) false ≡ not p →
+        getD (set (joinedBy b k) (pairCell a b′) true) (pairCell x y) false ≡ not (p && not ((eqb x a && eqb y b′) || (eqb x b′ && eqb y a)))
+    go a b′ h p e =
+        rw (← cell-same x y a b′ hx hy (h .0) (h .1))
+        (mark (joinedBy b k) (pairCell a b′) (pairCell x y) p (omega (arith, joined-length b k, cell-small a b′ (h .0) (h .1))) e)
 
-    long : length t ≡ 4096
-    long = joined-length from to k
+-- What a look at the table tells of link k, whose entry is e, where the ends of the links are below 64: the cell of its pair is
+-- true exactly when an earlier link joins the pair.
+module _ (b e : Bytes) (links k : ℕ) (table : List Bool) (is : e ≡ linkEntry b k) (ends : EndsBelow b links) (h : k < links) (filled : table ≡ joinedBy b k) where
+  -- the numbers of the entry are a row and a column of the table
+  pub ends-small : (getD e 0 0 < 64) × (getD e 1 0 < 64)
+  ends-small = let here = ends k h in (rw (from-read b e k is) (here .0), rw (to-read b e k is) (here .1))
 
-    go : (a b : ℕ) → (a < 64) × (b < 64) → (p : Bool) → getD t (64 * x + y) false ≡ not p →
-        getD (set (set t (64 * a + b) true) (64 * b + a) true) (64 * x + y) false ≡ not (p && not ((eqb x a && eqb y b) || (eqb x b && eqb y a)))
-    go a b h p e =
-        let c = 64 * x + y in
-        let once = mark t (64 * a + b) c p (omega (arith, long)) e in
-        let again = mark (set t (64 * a + b) true) (64 * b + a) c (p && not (eqb c (64 * a + b))) (simp length-set (omega (arith, long))) once in
-        rw (← cell-same x y a b hx hy (h .0) (h .1), ← cell-same x y b a hx hy (h .1) (h .0)) (again ∙ mark-both p (eqb c (64 * a + b)) (eqb c (64 * b + a)))
+  module _ {cell : ℕ} (at : cell ≡ pairCell (getD e 0 0) (getD e 1 0)) where
+    seen : getD table cell false ≡ not (linkNew b k)
+    unfolding linkNew linkOf linkIn fromOf toOf outOf backOf
+    seen =
+        let here = ends k h in
+        rw (filled, at, from-read b e k is, to-read b e k is)
+        (joined-cell b (fromOf (linkOf b k)) (toOf (linkOf b k)) (outOf (linkOf b k)) (backOf (linkOf b k)) k (here .0) (here .1) (λ j l. ends j (omega arith)))
 
--- What a look at the table tells of link k, where the ends of the links are below 64: the cell of its pair is true exactly when
--- an earlier link joins the pair.
-module _ (from to : List ℕ) (links k : ℕ) (table : List Bool) {cell : ℕ} (ends : EndsBelow 64 links from to) (h : k < links) (is : table ≡ joinedBy from to k)
-    (at : cell ≡ 64 * getD from k 0 + getD to k 0) where
-  seen : getD table cell false ≡ not (cellsNew from to k)
-  unfolding cellsNew endsAt
-  seen =
-      let here = ends k h in
-      rw (is, at) (joined-cell from to (getD from k 0) (getD to k 0) k (here .0) (here .1) (λ j l. ends j (omega arith)))
+    pub not-new : getD table cell false ≡ true → linkNew b k ≡ false
+    not-new e = not-true _ (sym seen ∙ e)
 
-  pub not-new : getD table cell false ≡ true → cellsNew from to k ≡ false
-  not-new e = not-true _ (sym seen ∙ e)
+    pub is-new : getD table cell false ≡ false → linkNew b k ≡ true
+    is-new e = not-false _ (sym seen ∙ e)
 
-  pub is-new : getD table cell false ≡ false → cellsNew from to k ≡ true
-  is-new e = not-false _ (sym seen ∙ e)
+    -- the cell of the pair is set
+    pub joined-more : set table cell true ≡ joinedBy b (k + 1)
+    unfolding joinedBy
+    joined-more = rw (filled, at, from-read b e k is, to-read b e k is, add-one k)

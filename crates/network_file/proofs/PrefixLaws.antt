@@ -20,28 +20,23 @@ use Rattle.lfa.specs.Laws.List.{every-gives}
 use Rattle.lfa.specs.Laws.Counting.{map-below-same}
 use Rattle.lfa.specs.Laws.File.Parts.{part-rest}
 use Rattle.lfa.specs.Laws.File.RowFacts.{prefix-facts, slot-facts, prefix-length}
+use Rattle.block.specs.Judged.{Sized}
 use Rattle.network_file.specs.Struct.{routerOf, costOf, column, attachedColumn, slotColumn, prefixesIn}
 use Rattle.network_file.specs.Entry.{PrefixesSound, Slots}
-use Rattle.network_file.specs.Judged.{Sized}
 use Rattle.network_file.proofs.TableLaws.{mark}
 use Rattle.network_file.proofs.ColumnLaws.{column-map, column-same, column-full, eights}
 
 -- ---- places
 
--- the entry of a prefix as the code finds it, after so many blocks of links: its numbers are small, it lies inside the file, and
--- it is the entry
-module _ (b : Bytes) (links p blocks : ℕ) (right : links ≡ linksOf b) (e : blocks ≡ linkBlocks links) where
-  pub prefix-small : Sized b → p < prefixesOf b → blocks + p ≤ 129
-  unfolding linkBlocks ceil
-  prefix-small s h = omega (arith, s .few-links, s .few-prefixes)
-
-  pub prefix-inside : Sized b → p < prefixesOf b → 512 * (1 + blocks + p / 14) + 4 + 34 * (p % 14) + 34 ≤ length b
+-- the entry of a prefix as the code finds it, after the blocks of links: it lies inside the file, and it is the entry
+module _ (b : Bytes) (links p : ℕ) (right : links ≡ linksOf b) where
+  pub prefix-inside : Sized b → p < prefixesOf b → 512 * (1 + (links + 83) / 84 + p / 14) + 4 + 34 * (p % 14) + 34 ≤ length b
   unfolding blocksNeeded linkBlocks prefixBlocks ceil
   prefix-inside s h = omega (arith, s .whole)
 
-  pub prefix-there : partOf b (512 * (1 + blocks + p / 14) + 4 + 34 * (p % 14)) 34 ≡ prefixEntry b p
-  unfolding prefixEntry
-  prefix-there = rw (e, right)
+  pub prefix-there : partOf b (512 * (1 + (links + 83) / 84 + p / 14) + 4 + 34 * (p % 14)) 34 ≡ prefixEntry b p
+  unfolding prefixEntry linkBlocks ceil
+  prefix-there = rw right
 
 -- ---- a loop that tests every number below n
 

@@ -1,7 +1,7 @@
 -- Tables of what has been seen: cell r becomes true once r is seen, so that one look at the table replaces a look at each earlier
 -- link or slot. Rows 7 and 9.
 -- Assumes nothing.
-use Prim.Native.Nat.{ℕ, _+_, _*_, _<_}
+use Prim.Native.Nat.{ℕ, _+_, _-_, _*_, _<_, min}
 use mathlib.Core.Path.{_≡_, refl, sym, _∙_}
 use mathlib.Core.Bool.{Bool, true, false, not, _&&_, _||_}
 use mathlib.Core.Logic.{_⊎_, inl, inr}
@@ -11,7 +11,8 @@ use lib.Dec.{eqb}
 use lib.ListN.{length, getD, set}
 use lib.Seq.{getD-set-same, getD-set-other}
 use borrow.Author.Tests.{eqb-true, eqb-false, eq-eqb}
-use Rattle.lfa.specs.Laws.Test.{and-left, and-right, and-make, decide, same-test}
+use Rattle.lfa.specs.Laws.Test.{and-left, and-right, and-make, or-cases, or-left, or-right, decide, same-test}
+use Rattle.network_file.specs.Entry.{pairCell}
 
 and-none : (p : Bool) → not (p && false) ≡ true
 and-none true = refl
@@ -29,18 +30,36 @@ mark t x r p h e = go (decide (eqb r x))
     go (inl s) = let q : r ≡ x = eqb-true r x s in rw s (rw q (getD-set-same t x true false h) ∙ sym (and-none p))
     go (inr s) = rw s (getD-set-other t x r true false (eqb-false r x s) ∙ e ∙ sym (and-all p))
 
--- two cells set, one after the other
-pub mark-both : (p s u : Bool) → not ((p && not s) && not u) ≡ not (p && not (s || u))
-mark-both true true u = refl
-mark-both true false u = refl
-mark-both false s u = refl
+-- the cell of two numbers below 64 is one of 4,096
+pub cell-small : (a b : ℕ) → a < 64 → b < 64 → pairCell a b < 4096
+unfolding pairCell
+cell-small a b ha hb = omega arith
 
--- two pairs of numbers below 64 have one cell exactly when they are the same pair
-pub cell-same : (x y a b : ℕ) → x < 64 → y < 64 → a < 64 → b < 64 → eqb (64 * x + y) (64 * a + b) ≡ (eqb x a && eqb y b)
-cell-same x y a b hx hy ha hb =
-    same-test _ _
-    (λ e. let q : 64 * x + y ≡ 64 * a + b = eqb-true _ _ e in and-make _ _ (eq-eqb x a (omega arith)) (eq-eqb y b (omega arith)))
-    (λ e.
-    let p : x ≡ a = eqb-true x a (and-left _ _ e) in
-    let q : y ≡ b = eqb-true y b (and-right (eqb x a) _ e) in
-    eq-eqb (64 * x + y) (64 * a + b) (omega arith))
+-- two pairs of numbers below 64 have one cell exactly when they are the same pair, in either order
+pub cell-same : (x y a b : ℕ) → x < 64 → y < 64 → a < 64 → b < 64 → eqb (pairCell x y) (pairCell a b) ≡ ((eqb x a && eqb y b) || (eqb x b && eqb y a))
+unfolding pairCell
+cell-same x y a b hx hy ha hb = same-test _ _ to-pair (λ e. from-pair (or-cases _ _ e))
+  where
+    to-pair : eqb (pairCell x y) (pairCell a b) ≡ true → ((eqb x a && eqb y b) || (eqb x b && eqb y a)) ≡ true
+    to-pair e = go (decide (eqb x a))
+      where
+        q : 64 * min x y + (x + y - min x y) ≡ 64 * min a b + (a + b - min a b)
+        q = eqb-true _ _ e
+
+        go : (eqb x a ≡ true) ⊎ (eqb x a ≡ false) → ((eqb x a && eqb y b) || (eqb x b && eqb y a)) ≡ true
+        go (inl s) =
+            let p : x ≡ a = eqb-true x a s in
+            or-left _ _ (and-make _ _ s (eq-eqb y b (omega (arith, q))))
+        go (inr s) =
+            let p : x ≡ a → ⊥ = eqb-false x a s in
+            or-right (eqb x a && eqb y b) _ (and-make _ _ (eq-eqb x b (omega (arith, q))) (eq-eqb y a (omega (arith, q))))
+
+    from-pair : ((eqb x a && eqb y b) ≡ true) ⊎ ((eqb x b && eqb y a) ≡ true) → eqb (pairCell x y) (pairCell a b) ≡ true
+    from-pair (inl e) =
+        let p : x ≡ a = eqb-true x a (and-left _ _ e) in
+        let q : y ≡ b = eqb-true y b (and-right (eqb x a) _ e) in
+        eq-eqb (pairCell x y) (pairCell a b) (omega arith)
+    from-pair (inr e) =
+        let p : x ≡ b = eqb-true x b (and-left _ _ e) in
+        let q : y ≡ a = eqb-true y a (and-right (eqb x b) _ e) in
+        eq-eqb (pairCell x y) (pairCell a b) (omega arith)

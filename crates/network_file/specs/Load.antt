@@ -1,8 +1,10 @@
 -- What `load` answers, in document 01's numbers and values.
 -- Assumes nothing.
-use mathlib.Core.List.{[]}
-use Rattle.lfa.specs.Network as lfa
-use Rattle.lfa.specs.Refusal.{badLength, badCheck, badHead, badBlockCount, badBlock, badLink, parallelLink, badPrefix, routerTwice, Decided, decided, Answer, accepted, refusal}
+use Prim.Native.Nat.{ℕ}
+use mathlib.Core.Bool.{Bool, true, false}
+use mathlib.Core.Option.{Option, none, some}
+use Rattle.lfa.specs.File.{Bytes, wordAt}
+use Rattle.lfa.specs.Refusal.{badLength, badCheck, badHead, badBlockCount, badBlock, badLink, parallelLink, badPrefix, routerTwice, Decided, decided, Answer, accepted, refusal, loading, refusalOf}
 use Rattle.network_file.specs.declared.Fault.{Fault}
 use Rattle.network_file.specs.declared.Fault.the-variants.{Length, Check, Head, BlockCount, Block, Link, ParallelLink, Prefix, RouterTwice}
 use Rattle.network_file.specs.declared.Verdict.{Verdict}
@@ -28,6 +30,16 @@ unfoldable pub answerOf : Verdict → Answer
 answerOf Accepted = accepted
 answerOf (Refused f) = faultOf f
 
--- the network of a refused file
-unfoldable pub emptyNetwork : lfa.Network
-emptyNetwork = record { routers = 0; links = []; prefixes = [] }
+-- the row that decides, with the value that it returns, for each verdict
+unfoldable pub verdictDecided : Verdict → Option Decided
+verdictDecided Accepted = none
+verdictDecided (Refused f) = some (faultRow f)
+
+-- no row decides
+unfoldable pub undecided : Option Decided → Bool
+undecided none = true
+undecided (some d) = false
+
+-- the number of links or of prefixes, by its offset in the head, of the network that `load` hands over
+unfoldable pub countLoaded : Bytes → ℕ → ℕ
+countLoaded b at = elim (refusalOf (loading b)) [ none ↦ wordAt b at | some d ↦ 0 ]

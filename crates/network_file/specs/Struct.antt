@@ -10,7 +10,6 @@ use Rattle.lfa.specs.File.{Bytes, linkOf, prefixOf}
 use Rattle.lfa.specs.FileOf.{pad}
 use Rattle.network_file.specs.declared.network.Network.{Network}
 use Rattle.network_file.specs.declared.link.LinkColumns.{LinkColumns}
-use Rattle.network_file.specs.declared.prefix.SlotColumns.{SlotColumns}
 
 -- ---- one number of a link or of an attachment
 
@@ -55,9 +54,6 @@ attachedColumn prefixes = pad 128 (map length prefixes)
 unfoldable pub linkColumns : List Link → LinkColumns
 linkColumns links =
     record { from = linkColumn fromOf links; to = linkColumn toOf links; out = linkColumn outOf links; back = linkColumn backOf links }
-
-unfoldable pub slotColumns : List Target → SlotColumns
-slotColumns prefixes = record { at = slotColumn routerOf prefixes; own = slotColumn costOf prefixes }
 
 -- the network by value
 unfoldable pub structOf : lfa.Network → Network

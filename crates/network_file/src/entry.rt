@@ -1,85 +1,75 @@
 // Rows 6 to 9, the rows of the entries, in the order of the table, and the network of a file to which no row applies.
-use super::link::LinkColumns;
+use super::Fault;
+use super::Verdict;
+use super::link::fill_links;
 use super::link::first_bad_link;
 use super::link::first_parallel_link;
 use super::network::Network;
 use super::prefix::fill_attached;
-use super::prefix::fill_slots;
+use super::prefix::fill_costs;
+use super::prefix::fill_routers;
 use super::prefix::first_bad_prefix;
 use super::prefix::first_router_twice;
+use field::word_at;
 ghost use mathlib.Core.Path.{_≡_};
 ghost use mathlib.Core.Option.{none};
-ghost use Rattle.lfa.specs.File.{networkOf};
+ghost use Rattle.lfa.specs.File.{routersOf, networkOf};
 ghost use Rattle.lfa.specs.Refusal.{returned, loading, firstRow};
+ghost use Rattle.block.specs.Judged.{Sized};
 ghost use Rattle.network_file.specs.Struct.{structOf};
-ghost use Rattle.network_file.specs.Entry.{Begun, entriesDecided};
-ghost use Rattle.network_file.specs.Judged.{entryRows};
+ghost use Rattle.network_file.specs.Entry.{linkRows, prefixRows, Counted};
+ghost use Rattle.network_file.specs.Load.{verdictDecided};
 
-// The first of rows 6 to 9 that applies to a file, with the value that it returns, or that none does.
-pub(crate) enum Entries {
-    BadLink(usize),
-    ParallelLink(usize),
-    BadPrefix(usize),
-    RouterTwice(usize),
-    Passed,
+// Rows 6 and 7, the rows of links, each over the whole file before the next, for a file that rows 1 to 5 pass.
+pub(crate) fn judge_links(file: &[u8]) -> Verdict
+    requires { ⌜ Sized (now file) ⌝ }
+    ensures { λ r. ⌜ verdictDecided r ≡ firstRow (returned (loading (now (file .entry)))) linkRows ⌝ }
+{
+    let routers = file[4] as usize;
+    let links = word_at(file, 6) as usize;
+    let bad = first_bad_link(file, routers, links);
+    if bad < links {
+        return Verdict::Refused(Fault::Link(bad));
+    }
+    let parallel = first_parallel_link(file, links);
+    if parallel < links {
+        return Verdict::Refused(Fault::ParallelLink(parallel));
+    }
+    Verdict::Accepted
 }
 
-// Rows 6 to 9, each over the whole file before the next, for a file that rows 1 to 5 pass and whose links have been read.
-pub(crate) fn judge_entries(
-    file: &[u8],
-    routers: usize,
-    links: usize,
-    prefixes: usize,
-    columns: LinkColumns,
-) -> Entries
-    requires { ⌜ Begun (now file) routers links prefixes columns ⌝ }
-    ensures { λ r. ⌜ entriesDecided r ≡ firstRow (returned (loading (now (file .entry)))) entryRows ⌝ }
+// Rows 8 and 9, the rows of prefixes, in the same way.
+pub(crate) fn judge_prefixes(file: &[u8]) -> Verdict
+    requires { ⌜ Sized (now file) ⌝ }
+    ensures { λ r. ⌜ verdictDecided r ≡ firstRow (returned (loading (now (file .entry)))) prefixRows ⌝ }
 {
-    let bad_link = first_bad_link(
-        routers,
-        links,
-        &columns.from,
-        &columns.to,
-        &columns.out,
-        &columns.back,
-    );
-    if bad_link < links {
-        return Entries::BadLink(bad_link);
-    }
-    let parallel = first_parallel_link(links, &columns.from, &columns.to);
-    if parallel < links {
-        return Entries::ParallelLink(parallel);
-    }
-    let bad_prefix = first_bad_prefix(file, routers, links, prefixes);
-    if bad_prefix < prefixes {
-        return Entries::BadPrefix(bad_prefix);
+    let routers = file[4] as usize;
+    let links = word_at(file, 6) as usize;
+    let prefixes = word_at(file, 8) as usize;
+    let bad = first_bad_prefix(file, routers, links, prefixes);
+    if bad < prefixes {
+        return Verdict::Refused(Fault::Prefix(bad));
     }
     let twice = first_router_twice(file, links, prefixes);
     if twice < prefixes {
-        return Entries::RouterTwice(twice);
+        return Verdict::Refused(Fault::RouterTwice(twice));
     }
-    Entries::Passed
+    Verdict::Accepted
 }
 
 // The network of a file that rows 1 to 9 pass. An attachment is stored only here, after its count has been tested.
-pub(crate) fn network_of(
-    file: &[u8],
-    routers: usize,
-    links: usize,
-    prefixes: usize,
-    columns: LinkColumns,
-) -> Network
-    requires { ⌜ Begun (now file) routers links prefixes columns × (firstRow (returned (loading (now file))) entryRows ≡ none) ⌝ }
+pub(crate) fn network_of(file: &[u8], routers: usize, links: usize, prefixes: usize) -> Network
+    requires { ⌜ Counted (now file) links prefixes × (routers ≡ routersOf (now file)) × (firstRow (returned (loading (now file))) prefixRows ≡ none) ⌝ }
     ensures { λ r. ⌜ r ≡ structOf (networkOf (now (file .entry))) ⌝ }
 {
+    let columns = fill_links(file, links);
     let attached = fill_attached(file, links, prefixes);
-    let slots = fill_slots(file, links, prefixes);
+    let at = fill_routers(file, links, prefixes);
+    let own = fill_costs(file, links, prefixes);
     let from = columns.from;
     let to = columns.to;
     let out = columns.out;
     let back = columns.back;
-    let at = slots.at;
-    let own = slots.own;
     Network {
         routers,
         links,

@@ -1,26 +1,25 @@
 // The network file's reader: judges a file by rows 1 to 9 of document 01, in order, and hands over the network that it holds, or
 // the bytes of one entry.
-use block::word_at;
-use entry::Entries;
-use entry::judge_entries;
+use block::Blocks;
+use block::judge_blocks;
+use entry::judge_links;
+use entry::judge_prefixes;
 use entry::network_of;
-use head::Blocks;
-use head::judge_blocks;
-use link::fill_links;
+use field::word_at;
 use link::link_part;
 use network::Network;
 use network::blank;
 use prefix::prefix_part;
 ghost use mathlib.Core.Path.{_≡_};
-ghost use mathlib.Core.Option.{none, some};
-ghost use Rattle.lfa.specs.Refusal.{returned, loading, firstRow, answerTo, networkLoaded, linkPart, prefixPart};
-ghost use Rattle.network_file.specs.Judged.{blockRows};
+ghost use mathlib.Core.Bool.{false};
+ghost use mathlib.Core.Option.{some};
+ghost use Rattle.lfa.specs.Refusal.{returned, loading, firstRow, refusalOf, answerTo, networkLoaded, linkPart, prefixPart};
+ghost use Rattle.block.specs.Judged.{blocksDecided, Sized};
 ghost use Rattle.network_file.specs.Struct.{structOf};
-ghost use Rattle.network_file.specs.Load.{answerOf, faultOf, emptyNetwork};
+ghost use Rattle.network_file.specs.Entry.{entryRows};
+ghost use Rattle.network_file.specs.Load.{faultRow, answerOf, verdictDecided, undecided, countLoaded};
 
-mod block;
 mod entry;
-mod head;
 mod link;
 pub mod network;
 mod prefix;
@@ -49,64 +48,92 @@ pub struct Loaded {
     pub network: Network,
 }
 
-// The answer for a file that is turned away.
-fn refuse(fault: Fault) -> Loaded
-    ensures { λ r. ⌜ (answerOf (r .verdict) ≡ faultOf fault) × (r .network ≡ structOf emptyNetwork) ⌝ }
+// The fault that one of rows 1 to 5 finds. Blocks that pass have none, so their arm is never taken.
+fn block_fault(judged: Blocks) -> Fault
+    requires { ⌜ undecided (blocksDecided judged) ≡ false ⌝ }
+    ensures { λ r. ⌜ some (faultRow r) ≡ blocksDecided judged ⌝ }
 {
-    let network = blank();
-    Loaded {
-        verdict: Verdict::Refused(fault),
-        network,
+    match judged {
+        Blocks::BadLength => Fault::Length,
+        Blocks::BadCheck(i) => Fault::Check(i),
+        Blocks::BadHead => Fault::Head,
+        Blocks::BadBlockCount(n) => Fault::BlockCount(n),
+        Blocks::BadBlock(i) => Fault::Block(i),
+        Blocks::Passed => Fault::Length,
     }
 }
 
-// Rows 6 to 9 and the network, for a file that rows 1 to 5 pass.
-fn load_entries(file: &[u8]) -> Loaded
-    requires { ⌜ firstRow (returned (loading (now file))) blockRows ≡ none ⌝ }
-    ensures { λ r. ⌜ (answerOf (r .verdict) ≡ answerTo (loading (now (file .entry)))) × (r .network ≡ structOf (networkLoaded (now (file .entry)))) ⌝ }
+// Whether the verdict is that no row applies.
+fn is_accepted(verdict: Verdict) -> bool
+    ensures { λ r. ⌜ r ≡ undecided (verdictDecided verdict) ⌝ }
 {
+    match verdict {
+        Verdict::Accepted => true,
+        Verdict::Refused(_) => false,
+    }
+}
+
+// Rows 6 to 9, for a file that rows 1 to 5 pass.
+fn judge_entries(file: &[u8]) -> Verdict
+    requires { ⌜ Sized (now file) ⌝ }
+    ensures { λ r. ⌜ verdictDecided r ≡ firstRow (returned (loading (now (file .entry)))) entryRows ⌝ }
+{
+    let verdict = judge_links(file);
+    if is_accepted(verdict) {
+        return judge_prefixes(file);
+    }
+    verdict
+}
+
+// Judges a file. Rows 6 to 9 are tried only where rows 1 to 5 pass.
+fn judge(file: &[u8]) -> Verdict
+    ensures { λ r. ⌜ verdictDecided r ≡ refusalOf (loading (now (file .entry))) ⌝ }
+{
+    let blocks = judge_blocks(file);
+    match blocks {
+        Blocks::Passed => judge_entries(file),
+        _ => Verdict::Refused(block_fault(blocks)),
+    }
+}
+
+// The network of an accepted file, and for any other the one with nothing in it.
+fn network_if(accepted: bool, file: &[u8]) -> Network
+    requires { ⌜ accepted ≡ undecided (refusalOf (loading (now file))) ⌝ }
+    ensures { λ r. ⌜ r ≡ structOf (networkLoaded (now (file .entry))) ⌝ }
+{
+    if !accepted {
+        return blank();
+    }
     let routers = file[4] as usize;
     let links = word_at(file, 6) as usize;
     let prefixes = word_at(file, 8) as usize;
-    let columns = fill_links(file, links);
-    let judged = judge_entries(file, routers, links, prefixes, columns);
-    match judged {
-        Entries::BadLink(k) => refuse(Fault::Link(k)),
-        Entries::ParallelLink(k) => refuse(Fault::ParallelLink(k)),
-        Entries::BadPrefix(p) => refuse(Fault::Prefix(p)),
-        Entries::RouterTwice(p) => refuse(Fault::RouterTwice(p)),
-        Entries::Passed => {
-            let network = network_of(file, routers, links, prefixes, columns);
-            Loaded {
-                verdict: Verdict::Accepted,
-                network,
-            }
-        }
-    }
+    network_of(file, routers, links, prefixes)
 }
 
 // Judges a file and hands over its network.
 pub fn load(file: &[u8]) -> Loaded
     ensures { λ r. ⌜ (answerOf (r .verdict) ≡ answerTo (loading (now (file .entry)))) × (r .network ≡ structOf (networkLoaded (now (file .entry)))) ⌝ }
 {
-    let judged = judge_blocks(file);
-    match judged {
-        Blocks::BadLength => refuse(Fault::Length),
-        Blocks::BadCheck(i) => refuse(Fault::Check(i)),
-        Blocks::BadHead => refuse(Fault::Head),
-        Blocks::BadBlockCount(n) => refuse(Fault::BlockCount(n)),
-        Blocks::BadBlock(i) => refuse(Fault::Block(i)),
-        Blocks::Passed => load_entries(file),
-    }
+    let verdict = judge(file);
+    let network = network_if(is_accepted(verdict), file);
+    Loaded { verdict, network }
 }
 
-// The 6 bytes of a link's entry; none for a refused file, whose network has no links, or a link number too large.
+// How many links or prefixes a file has, by the offset of their number in the head; 0 for a refused file.
+fn count_at(file: &[u8], at: usize) -> usize
+    ensures { λ r. ⌜ r ≡ countLoaded (now (file .entry)) at ⌝ }
+{
+    if is_accepted(judge(file)) {
+        return word_at(file, at) as usize;
+    }
+    0
+}
+
+// The 6 bytes of a link's entry; none for a refused file or a link number too large.
 pub fn link_entry(file: &[u8], link: usize) -> &[u8]
     ensures { λ r. ⌜ now r ≡ linkPart (now (file .entry)) link ⌝ }
 {
-    let loaded = load(file);
-    let network = loaded.network;
-    let links = network.links;
+    let links = count_at(file, 6);
     if links <= link {
         return &file[0..0];
     }
@@ -117,12 +144,9 @@ pub fn link_entry(file: &[u8], link: usize) -> &[u8]
 pub fn prefix_entry(file: &[u8], prefix: usize) -> &[u8]
     ensures { λ r. ⌜ now r ≡ prefixPart (now (file .entry)) prefix ⌝ }
 {
-    let loaded = load(file);
-    let network = loaded.network;
-    let prefixes = network.prefixes;
+    let prefixes = count_at(file, 8);
     if prefixes <= prefix {
         return &file[0..0];
     }
-    let links = network.links;
-    prefix_part(file, links, prefix)
+    prefix_part(file, word_at(file, 6) as usize, prefix)
 }

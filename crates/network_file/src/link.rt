@@ -1,15 +1,14 @@
 // Links: their entries read into columns, and rows 6 and 7.
-use super::block::word_at;
+use field::word_at;
 ghost use mathlib.Core.Path.{_≡_};
 ghost use Prim.Native.Nat.{ℕ, _+_, _*_, _≤_, _<_};
-ghost use lib.ListN.{length, getD};
+ghost use lib.ListN.{length};
 ghost use Rattle.lfa.specs.Lists.{firstFailing};
-ghost use Rattle.lfa.specs.Network.{link};
-ghost use Rattle.lfa.specs.File.{linksOf, linkEntry, soundLink};
-ghost use Rattle.network_file.specs.First.{firstOr};
+ghost use Rattle.lfa.specs.File.{routersOf, linksOf, linkEntry, linkIn, soundLink, linkGood, linkNew};
+ghost use Rattle.block.specs.First.{firstOr};
+ghost use Rattle.block.specs.Judged.{Sized};
 ghost use Rattle.network_file.specs.Struct.{linkColumns, linksIn};
-ghost use Rattle.network_file.specs.Entry.{cellsGood, cellsNew, EndsBelow};
-ghost use Rattle.network_file.specs.Judged.{Sized};
+ghost use Rattle.network_file.specs.Entry.{EndsBelow, pairCell};
 
 // One column for each number of a link, a cell for each link.
 pub(crate) struct LinkColumns {
@@ -56,9 +55,12 @@ pub(crate) fn fill_links(file: &[u8], links: usize) -> LinkColumns
 }
 
 // Row 6 at one link: routers below N, two of them, and no cost 0.
-fn sound_link(routers: usize, a: u8, b: u8, ab: u16, ba: u16) -> bool
-    ensures { λ r. ⌜ r ≡ soundLink routers (link a b ab ba) ⌝ }
+fn sound_link(routers: usize, entry: &[u8]) -> bool
+    requires { ⌜ length (now entry) ≡ 6 ⌝ }
+    ensures { λ r. ⌜ r ≡ soundLink routers (linkIn (now (entry .entry))) ⌝ }
 {
+    let a = entry[0];
+    let b = entry[1];
     if routers <= (a as usize) {
         return false;
     }
@@ -68,27 +70,20 @@ fn sound_link(routers: usize, a: u8, b: u8, ab: u16, ba: u16) -> bool
     if a == b {
         return false;
     }
-    if ab < 1 {
+    if word_at(entry, 2) < 1 {
         return false;
     }
-    1 <= ba
+    1 <= word_at(entry, 4)
 }
 
 // Row 6: the first link that it turns down, or the number of links.
-pub(crate) fn first_bad_link<'a>(
-    routers: usize,
-    links: usize,
-    from: &'a [u8; 128],
-    to: &'a [u8; 128],
-    out: &'a [u16; 128],
-    back: &'a [u16; 128],
-) -> usize
-    requires { ⌜ links ≤ 128 ⌝ }
-    ensures { λ r. ⌜ r ≡ firstOr links (firstFailing (cellsGood routers (now (from .entry)) (now (to .entry)) (now (out .entry)) (now (back .entry))) 0 links) ⌝ }
+pub(crate) fn first_bad_link(file: &[u8], routers: usize, links: usize) -> usize
+    requires { ⌜ Sized (now file) × (routers ≡ routersOf (now file)) × (links ≡ linksOf (now file)) ⌝ }
+    ensures { λ r. ⌜ r ≡ firstOr links (firstFailing (linkGood (now (file .entry))) 0 links) ⌝ }
 {
     let mut k: usize = 0;
     while k < links {
-        if !sound_link(routers, from[k], to[k], out[k], back[k]) {
+        if !sound_link(routers, link_part(file, k)) {
             return k;
         }
         k += 1;
@@ -96,30 +91,32 @@ pub(crate) fn first_bad_link<'a>(
     links
 }
 
-// The cell of a pair of routers in a table of 64 rows and columns.
+// The cell of two routers, in either order, in a table of 64 rows and columns.
 fn pair_cell(a: u8, b: u8) -> usize
     requires { ⌜ (a < 64) × (b < 64) ⌝ }
-    ensures { λ r. ⌜ (r ≡ 64 * a + b) × (r < 4096) ⌝ }
+    ensures { λ r. ⌜ (r ≡ pairCell a b) × (r < 4096) ⌝ }
 {
-    64 * (a as usize) + (b as usize)
+    if a <= b {
+        return 64 * (a as usize) + (b as usize);
+    }
+    64 * (b as usize) + (a as usize)
 }
 
 // Row 7: the first link that joins two routers an earlier link joins, or the number of links. A table of the pairs that are
-// joined, both ways round, spares a look at each earlier link.
-pub(crate) fn first_parallel_link<'a>(links: usize, from: &'a [u8; 128], to: &'a [u8; 128]) -> usize
-    requires { ⌜ (links ≤ 128) × EndsBelow 64 links (now from) (now to) ⌝ }
-    ensures { λ r. ⌜ r ≡ firstOr links (firstFailing (cellsNew (now (from .entry)) (now (to .entry))) 0 links) ⌝ }
+// joined spares a look at each earlier link.
+pub(crate) fn first_parallel_link(file: &[u8], links: usize) -> usize
+    requires { ⌜ Sized (now file) × (links ≡ linksOf (now file)) × EndsBelow (now file) links ⌝ }
+    ensures { λ r. ⌜ r ≡ firstOr links (firstFailing (linkNew (now (file .entry))) 0 links) ⌝ }
 {
     let mut joined = [false; 4096];
     let mut k: usize = 0;
     while k < links {
-        let there = pair_cell(from[k], to[k]);
-        if joined[there] {
+        let entry = link_part(file, k);
+        let cell = pair_cell(entry[0], entry[1]);
+        if joined[cell] {
             return k;
         }
-        let back = pair_cell(to[k], from[k]);
-        joined[there] = true;
-        joined[back] = true;
+        joined[cell] = true;
         k += 1;
     }
     links

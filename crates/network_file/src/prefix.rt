@@ -1,7 +1,6 @@
 // Prefixes: rows 8 and 9, and their entries read into columns.
-use super::block::all_zero;
-use super::block::link_blocks;
-use super::block::word_at;
+use field::all_zero;
+use field::word_at;
 ghost use mathlib.Core.Path.{_≡_};
 ghost use mathlib.Core.Bool.{_&&_};
 ghost use Prim.Native.Nat.{ℕ, _+_, _*_, _≤_, _<_};
@@ -9,23 +8,18 @@ ghost use lib.Dec.{eqb, ltb};
 ghost use lib.ListN.{length, getD};
 ghost use Rattle.lfa.specs.Lists.{firstFailing, everyBelow};
 ghost use Rattle.lfa.specs.File.{routersOf, linksOf, prefixesOf, prefixEntry, attachments, slotGood, soundPrefix, prefixGood, slotNew, routersNew};
-ghost use Rattle.network_file.specs.First.{firstOr};
-ghost use Rattle.network_file.specs.Struct.{attachedColumn, slotColumns, prefixesIn};
+ghost use Rattle.block.specs.First.{firstOr};
+ghost use Rattle.block.specs.Judged.{Sized};
+ghost use Rattle.network_file.specs.Struct.{routerOf, costOf, attachedColumn, slotColumn, prefixesIn};
 ghost use Rattle.network_file.specs.Entry.{Counted, PrefixesSound, Slots};
-ghost use Rattle.network_file.specs.Judged.{Sized};
 
-// One column for each number of an attachment, eight cells for each prefix.
-pub(crate) struct SlotColumns {
-    pub at: [u8; 1024],
-    pub own: [u16; 1024],
-}
-
-// The 34 bytes of prefix p.
+// The 34 bytes of prefix p. The blocks of links, 84 to a block, stand before those of prefixes.
 pub(crate) fn prefix_part(file: &[u8], links: usize, p: usize) -> &[u8]
     requires { ⌜ Sized (now file) × (links ≡ linksOf (now file)) × (p < prefixesOf (now file)) ⌝ }
     ensures { λ r. ⌜ (now r ≡ prefixEntry (now (file .entry)) p) × (length (now r) ≡ 34) ⌝ }
 {
-    let start = 512 * (1 + link_blocks(links) + p / 14) + 4 + 34 * (p % 14);
+    let blocks = (links + 83) / 84;
+    let start = 512 * (1 + blocks + p / 14) + 4 + 34 * (p % 14);
     let end = start + 34;
     &file[start..end]
 }
@@ -81,7 +75,7 @@ fn sound_prefix(routers: usize, entry: &[u8]) -> bool
         return false;
     }
     let unused = 2 + 4 * count;
-    all_zero(entry, unused, 34)
+    all_zero(&entry[unused..34])
 }
 
 // Row 8: the first prefix that it turns down, or the number of prefixes.
@@ -148,24 +142,34 @@ pub(crate) fn fill_attached(file: &[u8], links: usize, prefixes: usize) -> [u8; 
     attached
 }
 
-// Reads the slots of the prefixes into columns, eight to a prefix. Row 8 has passed, so the slots that are not used are zero.
-pub(crate) fn fill_slots(file: &[u8], links: usize, prefixes: usize) -> SlotColumns
+// Reads the routers of the slots into a column, eight slots to a prefix. Row 8 has passed, so the slots that are not used are zero.
+pub(crate) fn fill_routers(file: &[u8], links: usize, prefixes: usize) -> [u8; 1024]
     requires { ⌜ Counted (now file) links prefixes × PrefixesSound (now file) prefixes ⌝ }
-    ensures { λ r. ⌜ r ≡ slotColumns (prefixesIn (now (file .entry)) prefixes) ⌝ }
+    ensures { λ r. ⌜ r ≡ slotColumn routerOf (prefixesIn (now (file .entry)) prefixes) ⌝ }
 {
     let mut at = [0u8; 1024];
-    let mut own = [0u16; 1024];
-    let mut p: usize = 0;
-    while p < prefixes {
-        let entry = prefix_part(file, links, p);
-        let mut s: usize = 0;
-        while s < 8 {
-            let k = 8 * p + s;
-            at[k] = entry[2 + 4 * s];
-            own[k] = word_at(entry, 4 + 4 * s);
-            s += 1;
-        }
-        p += 1;
+    let slots = 8 * prefixes;
+    let mut k: usize = 0;
+    while k < slots {
+        let entry = prefix_part(file, links, k / 8);
+        at[k] = entry[2 + 4 * (k % 8)];
+        k += 1;
     }
-    SlotColumns { at, own }
+    at
+}
+
+// Reads the costs of the slots into a column, in the same way.
+pub(crate) fn fill_costs(file: &[u8], links: usize, prefixes: usize) -> [u16; 1024]
+    requires { ⌜ Counted (now file) links prefixes × PrefixesSound (now file) prefixes ⌝ }
+    ensures { λ r. ⌜ r ≡ slotColumn costOf (prefixesIn (now (file .entry)) prefixes) ⌝ }
+{
+    let mut own = [0u16; 1024];
+    let slots = 8 * prefixes;
+    let mut k: usize = 0;
+    while k < slots {
+        let entry = prefix_part(file, links, k / 8);
+        own[k] = word_at(entry, 4 + 4 * (k % 8));
+        k += 1;
+    }
+    own
 }

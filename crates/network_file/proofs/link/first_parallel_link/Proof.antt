@@ -1,61 +1,53 @@
--- `first_parallel_link` finds the first link that row 7 turns down. The invariant: no link before k is turned down, and the table has the pairs that they join.
+-- `first_parallel_link` finds the first link that row 7 turns down. The invariant: no link before k is turned down, and the table has the
+-- pairs that they join.
 -- Assumes nothing.
 use Prim.Native.Nat.{_-_}
-use mathlib.Core.Path.{_≡_, refl}
+use mathlib.Core.Path.{_≡_}
 use native.Mathlib.Omega.{arith}
 use borrow.Author.Needs.{needs}
-use Rattle.network_file.specs.Entry.{cellsNew}
-use Rattle.network_file.proofs.FirstLaws.{Searching, search-starts, search-passed, search-found, search-none}
-use Rattle.network_file.proofs.LinkLaws.{joinedBy, joined-more, is-new, not-new}
+use Rattle.lfa.specs.File.{linkNew}
+use Rattle.block.specs.Laws.First.{Searching, search-starts, search-passed, search-found, search-none}
+use Rattle.network_file.proofs.LinkLaws.{joinedBy, joined-none, joined-more, ends-small, is-new, not-new}
 use Rattle.network_file.proofs.link.first_parallel_link.Statement.{statement}
 use Rattle.network_file.proofs.link.first_parallel_link.Tie as tie
 
 abbrev Inv-loop : tie.InvT-loop
-Inv-loop links from to joined₀ k₀ joined k = Searching (cellsNew from to) 0 links links k × (joined ≡ joinedBy from to k)
+Inv-loop file links joined₀ k₀ joined k = Searching (linkNew file) 0 links links k × (joined ≡ joinedBy file k)
 
 abbrev μ-loop : tie.MeasureT-loop
-μ-loop links from to joined₀ k₀ joined k = links - k
+μ-loop file links joined₀ k₀ joined k = links - k
 
 loop-holds : tie.Need-loop-holds Inv-loop μ-loop
-unfolding joinedBy
-loop-holds c = (search-starts _ 0 _ _ (omega arith), refl)
+loop-holds c = (search-starts _ 0 _ _ (omega arith), joined-none _)
 
-element-copy-out-pair-cell : tie.Need-element-copy-out-pair-cell Inv-loop μ-loop
-element-copy-out-pair-cell c = search needs
+link-part-requires : tie.Need-link-part-requires Inv-loop μ-loop
+link-part-requires c κs = (c .before .before .before .pre .0, omega arith)
 
-element-copy-out-pair-cell-2 : tie.Need-element-copy-out-pair-cell-2 Inv-loop μ-loop
-element-copy-out-pair-cell-2 c = search needs
+shared-slice-read-pair-cell : tie.Need-shared-slice-read-pair-cell Inv-loop μ-loop
+shared-slice-read-pair-cell c = search needs
+
+shared-slice-read-pair-cell-2 : tie.Need-shared-slice-read-pair-cell-2 Inv-loop μ-loop
+shared-slice-read-pair-cell-2 c = search needs
 
 pair-cell-requires : tie.Need-pair-cell-requires Inv-loop μ-loop
-pair-cell-requires c κs = c .before .before .before .before .pre .1 _ (c .before .before .loop-test .taken)
+pair-cell-requires c κs =
+    let turn = c .before .before .before in
+    ends-small _ _ _ _ _ (c .before .before .link-part .ensures .0) (turn .before .before .before .pre .2) (turn .loop-test .taken) (turn .before .loop .inv .1)
 
 array-read-if1 : tie.Need-array-read-if1 Inv-loop μ-loop
 array-read-if1 c = search needs
 
 returns : tie.Need-returns Inv-loop μ-loop
 returns c =
-    let turn = c .before .before .before .before in
+    let turn = c .before .before .before .before .before in
     let l = turn .before .loop in
-    let old = not-new _ _ _ _ _ (turn .before .before .pre .1) (turn .loop-test .taken) (l .inv .1) (c .before .pair-cell .ensures .0) (c .if1 .taken) in
-    search-found _ 0 _ _ _ (l .inv .0) (turn .loop-test .taken) old
-
-element-copy-out-pair-cell-3 : tie.Need-element-copy-out-pair-cell-3 Inv-loop μ-loop
-element-copy-out-pair-cell-3 c = search needs
-
-element-copy-out-pair-cell-4 : tie.Need-element-copy-out-pair-cell-4 Inv-loop μ-loop
-element-copy-out-pair-cell-4 c = search needs
-
-pair-cell-requires-2 : tie.Need-pair-cell-requires-2 Inv-loop μ-loop
-pair-cell-requires-2 c κs =
-    let turn = c .before .before .before .before .before .before in
-    let ends = turn .before .before .pre .1 _ (turn .loop-test .taken) in
-    (ends .1, ends .0)
+    let h = turn .loop-test .taken in
+    let entry = c .before .before .before .before .link-part .ensures .0 in
+    search-found _ 0 _ _ _ (l .inv .0) h
+    (not-new _ _ _ _ _ entry (turn .before .before .before .pre .2) h (l .inv .1) (c .before .pair-cell .ensures .0) (c .if1 .taken))
 
 array-write-joined : tie.Need-array-write-joined Inv-loop μ-loop
 array-write-joined c = search needs
-
-array-write-joined-2 : tie.Need-array-write-joined-2 Inv-loop μ-loop
-array-write-joined-2 c = search needs
 
 add-k : tie.Need-add-k Inv-loop μ-loop
 add-k c = search needs
@@ -65,11 +57,15 @@ loop-less c = search needs
 
 loop-again : tie.Need-loop-again Inv-loop μ-loop
 loop-again c =
-    let turn = c .before .before .before .before .before .before .before in
+    let turn = c .before .before .before .before .before in
     let l = turn .before .loop in
-    let there = c .before .before .before .before .pair-cell .ensures .0 in
-    let new = is-new _ _ _ _ _ (turn .before .before .pre .1) (turn .loop-test .taken) (l .inv .1) there (c .before .before .before .if1 .left) in
-    (search-passed _ 0 _ _ _ (l .inv .0) (turn .loop-test .taken) new, rw (l .inv .1, there, c .pair-cell2 .ensures .0) (joined-more _ _ _))
+    let h = turn .loop-test .taken in
+    let entry = c .before .before .before .before .link-part .ensures .0 in
+    let ends = turn .before .before .before .pre .2 in
+    let cell = c .before .pair-cell .ensures .0 in (
+      search-passed _ 0 _ _ _ (l .inv .0) h (is-new _ _ _ _ _ entry ends h (l .inv .1) cell (c .if1 .left)),
+      joined-more _ _ _ _ _ entry ends h (l .inv .1) cell,
+    )
 
 returns-2 : tie.Need-returns-2 Inv-loop μ-loop
 returns-2 c = search-none _ 0 _ _ _ (c .before .loop .inv .0) (c .loop-test .left)
@@ -81,16 +77,13 @@ first-parallel-link-spec =
     Inv-loop
     μ-loop
     loop-holds
-    element-copy-out-pair-cell
-    element-copy-out-pair-cell-2
+    link-part-requires
+    shared-slice-read-pair-cell
+    shared-slice-read-pair-cell-2
     pair-cell-requires
     array-read-if1
     returns
-    element-copy-out-pair-cell-3
-    element-copy-out-pair-cell-4
-    pair-cell-requires-2
     array-write-joined
-    array-write-joined-2
     add-k
     loop-less
     loop-again

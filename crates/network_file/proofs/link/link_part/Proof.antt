@@ -2,8 +2,8 @@
 -- Assumes nothing.
 use borrow.Author.Needs.{needs}
 use Rattle.lfa.specs.File.{linkEntry}
-use Rattle.network_file.proofs.LinkLaws.{part-taken}
-use Rattle.network_file.proofs.SizedLaws.{link-inside}
+use Rattle.field.specs.Laws.Part.{part-taken}
+use Rattle.network_file.proofs.LinkLaws.{link-inside}
 use Rattle.network_file.proofs.link.link_part.Statement.{statement}
 use Rattle.network_file.proofs.link.link_part.Tie as tie
 

@@ -6,7 +6,7 @@ use native.Mathlib.Omega.{arith}
 use borrow.Author.Tests.{not-true, not-false}
 use borrow.Author.Needs.{needs}
 use Rattle.lfa.specs.File.{prefixGood}
-use Rattle.network_file.proofs.FirstLaws.{Searching, search-starts, search-passed, search-found, search-none}
+use Rattle.block.specs.Laws.First.{Searching, search-starts, search-passed, search-found, search-none}
 use Rattle.network_file.proofs.PrefixLaws.{prefix-tested}
 use Rattle.network_file.proofs.prefix.first_bad_prefix.Statement.{statement}
 use Rattle.network_file.proofs.prefix.first_bad_prefix.Tie as tie

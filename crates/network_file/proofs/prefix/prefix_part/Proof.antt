@@ -1,36 +1,35 @@
 -- `prefix_part` is the entry of prefix p.
 -- Assumes nothing.
 use mathlib.Core.Path.{_∙_}
-use native.Mathlib.Omega.{arith}
-use Rattle.network_file.proofs.LinkLaws.{part-taken}
-use Rattle.network_file.proofs.PrefixLaws.{prefix-small, prefix-inside, prefix-there}
+use Rattle.field.specs.Laws.Part.{part-taken}
+use Rattle.network_file.proofs.PrefixLaws.{prefix-inside, prefix-there}
 use borrow.Author.Needs.{needs}
 use Rattle.network_file.proofs.prefix.prefix_part.Statement.{statement}
 use Rattle.network_file.proofs.prefix.prefix_part.Tie as tie
 
-link-blocks-requires : tie.Need-link-blocks-requires
-link-blocks-requires c κs = search needs
+add-blocks : tie.Need-add-blocks
+add-blocks c = search needs
 
 add-start : tie.Need-add-start
-add-start c = omega (arith, prefix-small _ _ _ _ (c .before .before .pre .1) (c .link-blocks .ensures) (c .before .before .pre .0) (c .before .before .pre .2))
+add-start c = search needs
 
 add-start-2 : tie.Need-add-start-2
-add-start-2 c = omega (arith, prefix-small _ _ _ _ (c .before .before .pre .1) (c .link-blocks .ensures) (c .before .before .pre .0) (c .before .before .pre .2))
+add-start-2 c = search needs
 
 mul-start : tie.Need-mul-start
-mul-start c = omega (arith, prefix-small _ _ _ _ (c .before .before .pre .1) (c .link-blocks .ensures) (c .before .before .pre .0) (c .before .before .pre .2))
+mul-start c = search needs
 
 add-start-3 : tie.Need-add-start-3
-add-start-3 c = omega (arith, prefix-small _ _ _ _ (c .before .before .pre .1) (c .link-blocks .ensures) (c .before .before .pre .0) (c .before .before .pre .2))
+add-start-3 c = search needs
 
 mul-start-2 : tie.Need-mul-start-2
 mul-start-2 c = search needs
 
 add-start-4 : tie.Need-add-start-4
-add-start-4 c = omega (arith, prefix-small _ _ _ _ (c .before .before .pre .1) (c .link-blocks .ensures) (c .before .before .pre .0) (c .before .before .pre .2))
+add-start-4 c = search needs
 
 add-end : tie.Need-add-end
-add-end c = omega (arith, prefix-small _ _ _ _ (c .before .before .pre .1) (c .link-blocks .ensures) (c .before .before .pre .0) (c .before .before .pre .2))
+add-end c = search needs
 
 sub-result : tie.Need-sub-result
 sub-result c = search needs
@@ -39,20 +38,19 @@ part-result-start : tie.Need-part-result-start
 part-result-start c = search needs
 
 part-result-end : tie.Need-part-result-end
-part-result-end c = prefix-inside _ _ _ _ (c .before .before .pre .1) (c .link-blocks .ensures) (c .before .before .pre .0) (c .before .before .pre .2)
+part-result-end c = let pre = c .pre in prefix-inside _ _ _ (pre .1) (pre .0) (pre .2)
 
 returns : tie.Need-returns
 returns c =
-    let pre = c .before .before .before .pre in
-    let blocks = c .before .link-blocks .ensures in
-    let taken = part-taken _ _ 34 (prefix-inside _ _ _ _ (pre .1) blocks (pre .0) (pre .2)) in
-    (taken .0 ∙ prefix-there _ _ _ _ (pre .1) blocks, taken .1)
+    let pre = c .before .pre in
+    let taken = part-taken _ _ 34 (prefix-inside _ _ _ (pre .1) (pre .0) (pre .2)) in
+    (taken .0 ∙ prefix-there _ _ _ (pre .1), taken .1)
 
 pub prefix-part-spec : {M : Type 1} → statement M
 prefix-part-spec =
     tie.close
     (tie.spec
-    link-blocks-requires
+    add-blocks
     add-start
     add-start-2
     mul-start

@@ -3,6 +3,7 @@
 use mathlib.Core.Path.{sym, _∙_}
 use borrow.Author.Tests.{not-true, not-false}
 use borrow.Author.Needs.{needs}
+use Rattle.lfa.specs.File.{partOf}
 use Rattle.network_file.proofs.PrefixLaws.{count-none, count-many, second-wrong, slot-wrong, rest-tested}
 use Rattle.network_file.proofs.prefix.sound_prefix.Statement.{statement}
 use Rattle.network_file.proofs.prefix.sound_prefix.Tie as tie
@@ -41,15 +42,26 @@ mul-unused c = search needs
 add-unused : tie.Need-add-unused
 add-unused c = search needs
 
+sub-all-zero : tie.Need-sub-all-zero
+sub-all-zero c = search needs
+
+part-all-zero-start : tie.Need-part-all-zero-start
+part-all-zero-start c = search needs
+
+part-all-zero-end : tie.Need-part-all-zero-end
+part-all-zero-end c = search needs
+
 all-zero-requires : tie.Need-all-zero-requires
 all-zero-requires c κs = search needs
 
 returns-5 : tie.Need-returns-5
+unfolding partOf
 returns-5 c =
-    let few = c .before .before .before .before .before in
+    let last = c .before .before in
+    let few = last .before .before .before .before in
     let some = few .before in
-    rest-tested _ _ _ (some .before .wide .ensures) (some .if1 .left) (few .if2 .left) (c .before .before .before .if3 .left) (some .before .before .before .before .pre)
-    (sym (c .before .before .sound-slots .ensures) ∙ not-false _ (c .before .if4 .left)) (c .all-zero .ensures)
+    rest-tested _ _ _ (some .before .wide .ensures) (some .if1 .left) (few .if2 .left) (last .before .before .if3 .left) (some .before .before .before .before .pre)
+    (sym (last .before .sound-slots .ensures) ∙ not-false _ (last .if4 .left)) (c .all-zero .ensures)
 
 pub sound-prefix-spec : {M : Type 1} → statement M
 sound-prefix-spec =
@@ -65,5 +77,8 @@ sound-prefix-spec =
     returns-4
     mul-unused
     add-unused
+    sub-all-zero
+    part-all-zero-start
+    part-all-zero-end
     all-zero-requires
     returns-5)

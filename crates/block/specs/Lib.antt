@@ -1,0 +1,4 @@
+pub mod First
+pub mod Head
+pub mod Judged
+pub mod Laws
