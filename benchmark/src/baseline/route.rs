@@ -31,8 +31,8 @@ impl Play<'_> {
         let own = target.to[self.at & 63];
         let mut next = 0u64;
         for arc in self.graph.leaving(self.at) {
-            let sum = target.to[usize::from(arc.head & 63)].wrapping_add(u32::from(arc.cost));
-            next |= u64::from(sum == own) << arc.head;
+            let sum = target.to[arc.head()].wrapping_add(arc.cost());
+            next |= u64::from(sum == own) << arc.head();
         }
         let deliver = (target.deliver >> self.at & 1) as u32;
         let mut option = self.choice() % (next.count_ones() + deliver).max(1);

@@ -107,7 +107,7 @@ pub fn space(space: Space, graph: &Graph, work: &[u32], link: &Protected) -> u64
     match space {
         Space::P => avoiding_from(graph, work, link, link.near),
         Space::ExtendedP => {
-            let hops = graph.leaving(link.near).iter().map(|arc| usize::from(arc.head));
+            let hops = graph.leaving(link.near).iter().map(|arc| arc.head());
             let others = hops.filter(|hop| *hop != link.far);
             others.fold(0, |set, hop| set | avoiding_from(graph, work, link, hop))
         }
@@ -148,7 +148,7 @@ pub fn first_pair(
     let from_near = row(graph, work, link.near);
     let mut best = u64::MAX;
     for arc in graph.leaving(link.near) {
-        let hop = usize::from(arc.head);
+        let hop = arc.head();
         if hop == link.far {
             continue;
         }
@@ -159,7 +159,7 @@ pub fn first_pair(
             rest &= rest - 1;
             let nearer = target.to[y & 63] < target.to[link.near & 63];
             let class = 2 * u64::from(y != hop) + u64::from(!nearer);
-            let cost = u64::from(u32::from(arc.cost) + own[y]);
+            let cost = u64::from(arc.cost() + own[y]);
             let order = class << 28 | u64::from(from_near[y]) << 6 | y as u64;
             best = best.min(order << 29 | cost << 6 | hop as u64);
         }
