@@ -125,19 +125,25 @@ fn read_links(blocks: &[u8], network: &mut Network) -> Result<(), Refusal> {
 /// Rows 8 and 9, and the columns of the prefixes.
 fn read_prefixes(blocks: &[u8], network: &mut Network) -> Result<(), Refusal> {
     let prefixes = network.prefixes;
+    let routers = network.routers as u32;
     let mut repeated = usize::MAX;
     for (block, first) in blocks.chunks_exact(BLOCK).zip((0..).step_by(PREFIXES_IN_BLOCK)) {
         let entries = block[4..480].chunks_exact(PREFIX_ENTRY);
         for (p, entry) in (first..prefixes).zip(entries) {
-            let words = slots(entry);
-            let count = entry[0];
-            if entry[1] != 0 || !slots_good(network.routers as u32, count, &words) {
+            let count = usize::from(entry[0]);
+            if !(1..=8).contains(&count) || entry[1] != 0 {
                 return Err(Refusal::new(8, p));
             }
-            if names_twice(&words[..usize::from(count & 15).min(8)]) {
+            let words = slots(entry);
+            let (used, unused) = words.split_at(count);
+            let (highest, twice) = named(used);
+            if highest >= routers || unused.iter().fold(0, |all, word| all | word) != 0 {
+                return Err(Refusal::new(8, p));
+            }
+            if twice {
                 repeated = repeated.min(p);
             }
-            network.attached[p & 127] = count;
+            network.attached[p & 127] = count as u8;
             let at = &mut network.at[8 * (p & 127)..][..8];
             at.iter_mut().zip(&words).for_each(|(cell, word)| *cell = *word as u8);
             let own = &mut network.own[8 * (p & 127)..][..8];
@@ -160,26 +166,18 @@ fn slots(entry: &[u8]) -> [u32; 8] {
     words
 }
 
-/// Row 8 at the slots of one prefix: the two low bytes of a used slot are
-/// below N exactly when its router is and the byte after it is zero.
-fn slots_good(routers: u32, count: u8, words: &[u32; 8]) -> bool {
-    let mut wrong = !(1..=8).contains(&count);
-    for (slot, word) in (0..8).zip(words) {
-        let used = slot < count;
-        wrong |= (*word & 0xffff >= routers) & used;
-        wrong |= (*word != 0) & !used;
-    }
-    !wrong
-}
-
-/// Row 9 at the used slots of one prefix.
-fn names_twice(words: &[u32]) -> bool {
+/// The highest number in the two low bytes of a used slot, and whether a
+/// router is named twice. That number is below N exactly when each router is
+/// and the byte after it is zero.
+fn named(used: &[u32]) -> (u32, bool) {
+    let mut highest = 0;
     let mut named = 0u64;
     let mut twice = 0;
-    for word in words {
+    for word in used {
         let router = 1 << (word & 63);
+        highest = highest.max(word & 0xffff);
         twice |= named & router;
         named |= router;
     }
-    twice != 0
+    (highest, twice != 0)
 }
