@@ -96,6 +96,9 @@ impl Network {
     };
 }
 
+// The sizes that the header's structs have on x86-64.
+const _: () = assert!(size_of::<Answer>() == 40 && size_of::<Network>() == 4008);
+
 /// One of the three spaces.
 #[derive(Clone, Copy, Debug, PartialEq, Eq)]
 pub enum Space {

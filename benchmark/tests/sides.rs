@@ -59,10 +59,12 @@ fn most_links_have_a_repair() {
     }
 }
 
+/// The command compares every prefix. Every 21st is enough here, and has all
+/// numbers of attachments but one: these go round by eights.
 #[test]
 fn both_sides_agree() {
     for network in networks::all() {
-        let asked = compare::<Planner, Baseline>(&network.file, 16);
+        let asked = compare::<Planner, Baseline>(&network.file, 21);
         assert!(asked.is_ok(), "{}: {asked:?}", network.name);
     }
     assert!(compare::<Planner, Baseline>(&networks::one_block(), 1).is_ok());
