@@ -1,0 +1,174 @@
+//! The baseline: the calls of the planner, written for speed. Every call reads
+//! and checks the file, and a call that computes fills the distances, just as
+//! the planner's calls do.
+
+mod graph;
+mod read;
+mod route;
+mod search;
+
+use crate::answer::{Answer, Network, Refusal, Space, DONE, REFUSED, SET};
+use crate::side::Side;
+use graph::Graph;
+use search::Target;
+
+/// The program that was written for speed.
+pub struct Baseline;
+
+/// Rows 1 to 9 and the network.
+fn opened(file: &[u8]) -> Result<Network, Refusal> {
+    let mut network = Network::BLANK;
+    read::read(file, &mut network)?;
+    Ok(network)
+}
+
+/// Row 10.
+fn enough_cells(network: &Network, work: &[u32]) -> Result<(), Refusal> {
+    let cells = network.routers * network.routers;
+    if work.len() < cells {
+        return Err(Refusal::new(10, cells));
+    }
+    Ok(())
+}
+
+/// Row 12.
+fn named(network: &Network, link: usize, end: usize) -> Result<(), Refusal> {
+    if link >= network.links || end > 1 {
+        return Err(Refusal::new(12, network.links));
+    }
+    Ok(())
+}
+
+/// Row 13.
+fn numbered(network: &Network, prefix: usize) -> Result<(), Refusal> {
+    if prefix >= network.prefixes {
+        return Err(Refusal::new(13, network.prefixes));
+    }
+    Ok(())
+}
+
+/// The arcs of a network, whose distances are then in the work area.
+fn filled(network: &Network, work: &mut [u32]) -> Graph {
+    let graph = Graph::of(network);
+    graph.fill(work);
+    graph
+}
+
+fn distances(file: &[u8], work: &mut [u32]) -> Result<Answer, Refusal> {
+    let network = opened(file)?;
+    enough_cells(&network, work)?;
+    filled(&network, work);
+    Ok(Answer::of(DONE))
+}
+
+fn space(
+    space: Space,
+    file: &[u8],
+    work: &mut [u32],
+    link: usize,
+    end: usize,
+) -> Result<Answer, Refusal> {
+    let network = opened(file)?;
+    enough_cells(&network, work)?;
+    named(&network, link, end)?;
+    let graph = filled(&network, work);
+    let protected = search::Protected::of(&network, link, end);
+    Ok(Answer::with_value(SET, search::space(space, &graph, work, &protected)))
+}
+
+fn link_repair(file: &[u8], work: &mut [u32], link: usize, end: usize) -> Result<Answer, Refusal> {
+    let network = opened(file)?;
+    enough_cells(&network, work)?;
+    named(&network, link, end)?;
+    let graph = filled(&network, work);
+    let protected = search::Protected::of(&network, link, end);
+    let target = Target::router(&graph, work, protected.far);
+    search::first_pair(&graph, work, &protected, &target)
+}
+
+fn prefix_repair(
+    file: &[u8],
+    work: &mut [u32],
+    link: usize,
+    end: usize,
+    prefix: usize,
+) -> Result<Answer, Refusal> {
+    let network = opened(file)?;
+    enough_cells(&network, work)?;
+    named(&network, link, end)?;
+    numbered(&network, prefix)?;
+    let graph = filled(&network, work);
+    let protected = search::Protected::of(&network, link, end);
+    let target = Target::prefix(&network, &graph, work, prefix);
+    search::repair(&graph, work, &protected, &target)
+}
+
+fn route(
+    file: &[u8],
+    work: &mut [u32],
+    (link, end, prefix): (usize, usize, usize),
+    choices: &[u8],
+    buffer: &mut [u8],
+) -> Result<Answer, Refusal> {
+    let network = opened(file)?;
+    enough_cells(&network, work)?;
+    if buffer.len() < 2 * network.routers {
+        return Err(Refusal::new(11, 2 * network.routers));
+    }
+    named(&network, link, end)?;
+    numbered(&network, prefix)?;
+    let graph = filled(&network, work);
+    let protected = search::Protected::of(&network, link, end);
+    let target = Target::prefix(&network, &graph, work, prefix);
+    let answer = search::repair(&graph, work, &protected, &target)?;
+    Ok(route::play(&graph, work, protected.near, &answer, &target, choices, buffer))
+}
+
+/// A refusal as an answer.
+fn told(result: Result<Answer, Refusal>) -> Answer {
+    result.unwrap_or_else(Answer::from)
+}
+
+impl Side for Baseline {
+    const NAME: &'static str = "baseline";
+
+    fn load(file: &[u8]) -> Network {
+        let mut network = Network::BLANK;
+        if let Err(Refusal { number, value }) = read::read(file, &mut network) {
+            return Network { kind: REFUSED, number, value, ..Network::BLANK };
+        }
+        network
+    }
+
+    fn distances(file: &[u8], work: &mut [u32]) -> Answer {
+        told(distances(file, work))
+    }
+
+    fn space(which: Space, file: &[u8], work: &mut [u32], link: usize, end: usize) -> Answer {
+        told(space(which, file, work, link, end))
+    }
+
+    fn link_repair(file: &[u8], work: &mut [u32], link: usize, end: usize) -> Answer {
+        told(link_repair(file, work, link, end))
+    }
+
+    fn prefix_repair(
+        file: &[u8],
+        work: &mut [u32],
+        link: usize,
+        end: usize,
+        prefix: usize,
+    ) -> Answer {
+        told(prefix_repair(file, work, link, end, prefix))
+    }
+
+    fn route(
+        file: &[u8],
+        work: &mut [u32],
+        question: (usize, usize, usize),
+        choices: &[u8],
+        buffer: &mut [u8],
+    ) -> Answer {
+        told(route(file, work, question, choices, buffer))
+    }
+}

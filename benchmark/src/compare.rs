@@ -1,0 +1,145 @@
+//! Compares all outputs of the two sides, before anything is timed.
+
+use crate::answer::{Answer, Space, PAIR};
+use crate::plan;
+use crate::side::Side;
+
+/// Cells and bytes after those that a call may write: they have to stay.
+const GUARD: usize = 3;
+
+/// The choices that each route is played with.
+fn choice_strings() -> Vec<Vec<u8>> {
+    let long = |factor: usize| (0..128).map(|place| (place * factor % 251) as u8).collect();
+    vec![vec![], vec![1], long(7), vec![255; 128]]
+}
+
+/// The buffers that are lent to one side.
+struct Lent {
+    work: Vec<u32>,
+    route: Vec<u8>,
+}
+
+impl Lent {
+    fn new(routers: usize) -> Lent {
+        let work = (0..routers * routers + GUARD).map(|place| 0xc0de_0000 + place as u32);
+        let route = (0..2 * routers + GUARD).map(|place| 0x80 | place as u8);
+        Lent { work: work.collect(), route: route.collect() }
+    }
+}
+
+/// The questions about one file, asked of two sides.
+struct Comparison<'a> {
+    file: &'a [u8],
+    routers: usize,
+    asked: usize,
+}
+
+/// Asks both sides every question about a file: every link and end, and every
+/// so manieth prefix. The answer is how many questions there were, or which
+/// one is answered differently.
+pub fn compare<A: Side, B: Side>(file: &[u8], every: usize) -> Result<usize, String> {
+    let network = A::load(file);
+    if network != B::load(file) {
+        return Err("load".into());
+    }
+    let mut comparison = Comparison { file, routers: network.routers, asked: 1 };
+    comparison.distances::<A, B>()?;
+    comparison.plan::<A, B>()?;
+    for (link, end) in (0..network.links).flat_map(|link| [(link, 0), (link, 1)]) {
+        comparison.link::<A, B>(link, end)?;
+        for prefix in (0..network.prefixes).step_by(every) {
+            comparison.prefix::<A, B>(link, end, prefix)?;
+        }
+    }
+    Ok(comparison.asked)
+}
+
+impl Comparison<'_> {
+    /// Asks both sides one question, with buffers that show what is written.
+    fn ask(
+        &mut self,
+        name: impl FnOnce() -> String,
+        a: impl FnOnce(&mut Lent) -> Answer,
+        b: impl FnOnce(&mut Lent) -> Answer,
+    ) -> Result<Answer, String> {
+        let (mut one, mut other) = (Lent::new(self.routers), Lent::new(self.routers));
+        let (answer, second) = (a(&mut one), b(&mut other));
+        self.asked += 1;
+        if answer != second {
+            return Err(format!("{}: {answer:?} and {second:?}", name()));
+        }
+        if let Some(cell) = (0..one.work.len()).find(|cell| one.work[*cell] != other.work[*cell]) {
+            return Err(format!("{}: cell {cell} of the work area", name()));
+        }
+        if one.route != other.route {
+            return Err(format!("{}: the route buffer", name()));
+        }
+        Ok(answer)
+    }
+
+    fn distances<A: Side, B: Side>(&mut self) -> Result<(), String> {
+        let file = self.file;
+        self.ask(
+            || "distances".into(),
+            |lent| A::distances(file, &mut lent.work),
+            |lent| B::distances(file, &mut lent.work),
+        )?;
+        Ok(())
+    }
+
+    fn plan<A: Side, B: Side>(&mut self) -> Result<(), String> {
+        let mut texts = [Vec::new(), Vec::new()];
+        let mut work = vec![0; self.routers * self.routers];
+        plan::write::<A>(self.file, &mut work, &mut texts[0]);
+        plan::write::<B>(self.file, &mut work, &mut texts[1]);
+        self.asked += 1;
+        if texts[0] != texts[1] {
+            return Err("the text of the plan".into());
+        }
+        Ok(())
+    }
+
+    fn link<A: Side, B: Side>(&mut self, link: usize, end: usize) -> Result<(), String> {
+        let file = self.file;
+        for space in Space::ALL {
+            self.ask(
+                || format!("space {space:?} of link {link}, end {end}"),
+                |lent| A::space(space, file, &mut lent.work, link, end),
+                |lent| B::space(space, file, &mut lent.work, link, end),
+            )?;
+        }
+        self.ask(
+            || format!("repair of link {link}, end {end}"),
+            |lent| A::link_repair(file, &mut lent.work, link, end),
+            |lent| B::link_repair(file, &mut lent.work, link, end),
+        )?;
+        Ok(())
+    }
+
+    /// The repair of a prefix, and its routes. Where there is no pair, nothing
+    /// is played, so that one string of choices shows as much as all.
+    fn prefix<A: Side, B: Side>(
+        &mut self,
+        link: usize,
+        end: usize,
+        prefix: usize,
+    ) -> Result<(), String> {
+        let file = self.file;
+        let question = (link, end, prefix);
+        let answer = self.ask(
+            || format!("repair of prefix {prefix} at link {link}, end {end}"),
+            |lent| A::prefix_repair(file, &mut lent.work, link, end, prefix),
+            |lent| B::prefix_repair(file, &mut lent.work, link, end, prefix),
+        )?;
+        let strings = choice_strings();
+        let played = if answer.kind == PAIR { strings.len() } else { 1 };
+        for choices in &strings[..played] {
+            self.ask(
+                || format!("route to prefix {prefix} at link {link}, end {end}, {choices:?}"),
+                |lent| A::route(file, &mut lent.work, question, choices, &mut lent.route),
+                |lent| B::route(file, &mut lent.work, question, choices, &mut lent.route),
+            )?;
+        }
+        Ok(())
+    }
+}

@@ -1,0 +1,11 @@
+//! The planner's speed, measured against a program that was written for speed
+//! alone. Both sides answer the same calls from the same bytes.
+
+pub mod answer;
+pub mod baseline;
+pub mod compare;
+pub mod networks;
+pub mod plan;
+pub mod planner;
+pub mod side;
+pub mod timing;

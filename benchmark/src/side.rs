@@ -1,0 +1,32 @@
+//! The two sides of the benchmark, with the same calls.
+
+use crate::answer::{Answer, Network, Space};
+
+/// A program that answers the calls of `include/planner.h`.
+pub trait Side {
+    const NAME: &'static str;
+
+    fn load(file: &[u8]) -> Network;
+
+    fn distances(file: &[u8], work: &mut [u32]) -> Answer;
+
+    fn space(space: Space, file: &[u8], work: &mut [u32], link: usize, end: usize) -> Answer;
+
+    fn link_repair(file: &[u8], work: &mut [u32], link: usize, end: usize) -> Answer;
+
+    fn prefix_repair(
+        file: &[u8],
+        work: &mut [u32],
+        link: usize,
+        end: usize,
+        prefix: usize,
+    ) -> Answer;
+
+    fn route(
+        file: &[u8],
+        work: &mut [u32],
+        question: (usize, usize, usize),
+        choices: &[u8],
+        route: &mut [u8],
+    ) -> Answer;
+}

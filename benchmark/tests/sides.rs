@@ -1,0 +1,71 @@
+//! The networks of the benchmark: they have the size that they should have,
+//! and both sides answer alike about them.
+
+use benchmark::answer::{ACCEPTED, PAIR};
+use benchmark::baseline::Baseline;
+use benchmark::compare::compare;
+use benchmark::networks;
+use benchmark::planner::Planner;
+use benchmark::side::Side;
+
+#[test]
+fn the_networks_have_their_sizes() {
+    let sizes = [(13, 128), (13, 112), (13, 128)];
+    for (network, (blocks, links)) in networks::all().iter().zip(sizes) {
+        let loaded = Baseline::load(&network.file);
+        assert_eq!(loaded.kind, ACCEPTED, "{}", network.name);
+        assert_eq!(network.file.len(), 512 * blocks, "{}", network.name);
+        assert_eq!((loaded.routers, loaded.links, loaded.prefixes), (64, links, 128));
+    }
+    let one = Baseline::load(&networks::one_block());
+    assert_eq!((one.kind, one.routers, one.links, one.prefixes), (ACCEPTED, 1, 0, 0));
+}
+
+/// In the ring a pass in file order gets one more router right each time.
+#[test]
+fn the_ring_is_numbered_against_the_relaxation() {
+    let file = networks::ring_with_chords();
+    let network = Baseline::load(&file);
+    let mut work = vec![0; 64 * 64];
+    Baseline::distances(&file, &mut work);
+    for start in 0..64 {
+        let mut row = [u64::from(u32::MAX); 64];
+        row[start] = 0;
+        let mut passes = 0;
+        while row.iter().zip(&work[64 * start..]).any(|(cell, least)| *cell != u64::from(*least)) {
+            for k in 0..network.links {
+                let (a, b) = (usize::from(network.from[k]), usize::from(network.to[k]));
+                row[b] = row[b].min(row[a] + u64::from(network.out[k]));
+                row[a] = row[a].min(row[b] + u64::from(network.back[k]));
+            }
+            passes += 1;
+        }
+        assert!(passes > 60, "from router {start}: {passes} passes");
+    }
+}
+
+/// Most questions about each network have a pair, so that what is timed is a
+/// search to its end.
+#[test]
+fn most_links_have_a_repair() {
+    for network in networks::all() {
+        let links = Baseline::load(&network.file).links;
+        let mut work = vec![0; 64 * 64];
+        let mut pair =
+            |link, end| Baseline::link_repair(&network.file, &mut work, link, end).kind == PAIR;
+        let pairs = (0..links).map(|link| [0, 1].map(|end| usize::from(pair(link, end))));
+        let pairs: usize = pairs.flatten().sum();
+        assert!(pairs > links, "{}: {pairs} of {}", network.name, 2 * links);
+    }
+}
+
+/// The command compares every prefix. Every 21st is enough here, and has all
+/// numbers of attachments but one: these go round by eights.
+#[test]
+fn both_sides_agree() {
+    for network in networks::all() {
+        let asked = compare::<Planner, Baseline>(&network.file, 21);
+        assert!(asked.is_ok(), "{}: {asked:?}", network.name);
+    }
+    assert!(compare::<Planner, Baseline>(&networks::one_block(), 1).is_ok());
+}
