@@ -1,14 +1,14 @@
 -- Rows 6 to 9 in order: which row decides at each return, and the network by value.
 -- Assumes nothing.
-use Prim.Native.Nat.{ℕ, zero, suc, _+_, _≤_, _<_}
-use mathlib.Core.Path.{_≡_, refl, ap, _∙_}
-use mathlib.Core.Bool.{Bool, true, false}
-use mathlib.Core.Option.{Option, none, some}
+use Prim.Native.Nat.{ℕ, _≤_, _<_}
+use mathlib.Core.Path.{_≡_, refl, _∙_}
+use mathlib.Core.Bool.{Bool}
+use mathlib.Core.Option.{none, some}
 use mathlib.Core.List.{[], _∷_}
 use native.Mathlib.Omega.{arith}
-use lib.ListN.{length, getD}
+use lib.ListN.{length}
 use Rattle.lfa.specs.Lists.{firstFailing}
-use Rattle.lfa.specs.File.{Bytes, byteAt, wordAt, routersOf, linksOf, prefixesOf, linkOf, linkIn, prefixOf, networkOf, linkGood, linkNew, prefixGood, routersNew, blocksNeeded}
+use Rattle.lfa.specs.File.{Bytes, wordAt, routersOf, linksOf, prefixesOf, linkOf, linkIn, prefixOf, networkOf, linkGood, linkNew, prefixGood, routersNew, blocksNeeded}
 use Rattle.lfa.specs.Refusal.{badLink, parallelLink, badPrefix, routerTwice, returned, loading, decided, firstRow}
 use Rattle.lfa.specs.Laws.List.{getD-in, none-failing}
 use Rattle.lfa.specs.Laws.Counting.{length-map-below}
@@ -69,9 +69,9 @@ module _ (b : Bytes) (links : ℕ) (right : links ≡ linksOf b) (r6 : ℕ) (e6 
       unfolding returned loading
       parallel-decides h = first-here (returned (loading b)) parallelLink [] r7 (applies (linkNew b) links _ r7 right e7 h) ∙ after-6
 
-      pub links-pass : links ≤ r7 → none ≡ firstRow (returned (loading b)) linkRows
+      pub no-link-decides : links ≤ r7 → none ≡ firstRow (returned (loading b)) linkRows
       unfolding returned loading firstRow
-      links-pass h = first-next (returned (loading b)) parallelLink [] (passes (linkNew b) links _ r7 right e7 h) ∙ after-6
+      no-link-decides h = first-next (returned (loading b)) parallelLink [] (passes (linkNew b) links _ r7 right e7 h) ∙ after-6
 
 -- ---- rows 8 and 9
 module _ (b : Bytes) (prefixes : ℕ) (right : prefixes ≡ prefixesOf b) (r8 : ℕ) (e8 : r8 ≡ firstOr prefixes (firstFailing (prefixGood b) 0 prefixes)) where
@@ -92,9 +92,9 @@ module _ (b : Bytes) (prefixes : ℕ) (right : prefixes ≡ prefixesOf b) (r8 : 
       unfolding returned loading
       twice-decides h = first-here (returned (loading b)) routerTwice [] r9 (applies (routersNew b) prefixes _ r9 right e9 h) ∙ after-8
 
-      pub prefixes-pass : prefixes ≤ r9 → none ≡ firstRow (returned (loading b)) prefixRows
+      pub no-prefix-decides : prefixes ≤ r9 → none ≡ firstRow (returned (loading b)) prefixRows
       unfolding returned loading firstRow
-      prefixes-pass h = first-next (returned (loading b)) routerTwice [] (passes (routersNew b) prefixes _ r9 right e9 h) ∙ after-8
+      no-prefix-decides h = first-next (returned (loading b)) routerTwice [] (passes (routersNew b) prefixes _ r9 right e9 h) ∙ after-8
 
 -- ---- the network by value
 

@@ -23,7 +23,7 @@ use Rattle.block.specs.Laws.Sized.{blocks-passed}
 use Rattle.network_file.specs.declared.Verdict.{Verdict}
 use Rattle.network_file.specs.declared.Verdict.the-variants.{Accepted, Refused}
 use Rattle.network_file.specs.Entry.{linkRows, prefixRows, entryRows}
-use Rattle.network_file.specs.Load.{faultRow, faultOf, answerOf, verdictDecided, undecided, countLoaded}
+use Rattle.network_file.specs.Load.{faultOf, answerOf, verdictDecided, undecided, countLoaded}
 
 -- ---- the rows of a file
 

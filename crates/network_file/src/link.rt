@@ -1,7 +1,7 @@
 // Links: their entries read into columns, and rows 6 and 7.
 use field::word_at;
 ghost use mathlib.Core.Path.{_≡_};
-ghost use Prim.Native.Nat.{ℕ, _+_, _*_, _≤_, _<_};
+ghost use Prim.Native.Nat.{_+_, _*_, _<_};
 ghost use lib.ListN.{length};
 ghost use Rattle.lfa.specs.Lists.{firstFailing};
 ghost use Rattle.lfa.specs.File.{routersOf, linksOf, linkEntry, linkIn, soundLink, linkGood, linkNew};

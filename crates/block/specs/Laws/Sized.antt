@@ -1,7 +1,7 @@
 -- The sizes of a file: what a good length tells, and what a file has to which none of rows 1 to 5 applies: its length follows from
 -- its links and prefixes.
 -- Assumes nothing.
-use Prim.Native.Nat.{ℕ, _+_, _*_, _/_, _%_, _≤_, _<_}
+use Prim.Native.Nat.{ℕ, _+_, _*_, _%_, _≤_, _<_}
 use mathlib.Core.Path.{_≡_}
 use mathlib.Core.Bool.{true, false}
 use mathlib.Core.Option.{none}

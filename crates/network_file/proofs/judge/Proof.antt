@@ -3,7 +3,7 @@
 use mathlib.Core.Path.{sym, ap, _∙_}
 use Rattle.block.specs.Judged.{blocksDecided}
 use Rattle.block.specs.Laws.Sized.{blocks-passed}
-use Rattle.network_file.specs.Load.{faultRow, verdictDecided}
+use Rattle.network_file.specs.Load.{verdictDecided}
 use Rattle.network_file.proofs.LoadLaws.{blocks-refuse, blocks-pass, not-passed}
 use borrow.Author.Needs.{needs}
 use Rattle.network_file.proofs.judge.Statement.{statement}

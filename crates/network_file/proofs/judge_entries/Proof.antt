@@ -1,7 +1,6 @@
 -- Rows 6 and 7, then rows 8 and 9.
 -- Assumes nothing.
-use mathlib.Core.Path.{sym, ap, _∙_}
-use Rattle.network_file.specs.Load.{undecided}
+use mathlib.Core.Path.{sym, _∙_}
 use Rattle.network_file.proofs.LoadLaws.{none-there, stays, links-pass}
 use borrow.Author.Needs.{needs}
 use Rattle.network_file.proofs.judge_entries.Statement.{statement}

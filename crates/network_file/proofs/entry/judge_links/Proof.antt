@@ -4,7 +4,7 @@ use mathlib.Core.Path.{refl}
 use native.Mathlib.Omega.{arith}
 use Rattle.lfa.specs.File.{routersOf, linksOf, byteAt}
 use Rattle.network_file.specs.Load.{faultRow, verdictDecided}
-use Rattle.network_file.proofs.EntryLaws.{head-there, ends-below, bad-link-decides, parallel-decides, links-pass}
+use Rattle.network_file.proofs.EntryLaws.{head-there, ends-below, bad-link-decides, parallel-decides, no-link-decides}
 use borrow.Author.Needs.{needs}
 use Rattle.network_file.proofs.entry.judge_links.Statement.{statement}
 use Rattle.network_file.proofs.entry.judge_links.Tie as tie
@@ -47,7 +47,7 @@ returns-3 : tie.Need-returns-3
 unfolding verdictDecided linksOf
 returns-3 c =
     let first = c .before .before in
-    links-pass _ _ (first .before .before .word-at .ensures) _ (first .before .first-bad-link .ensures) (first .if1 .left)
+    no-link-decides _ _ (first .before .before .word-at .ensures) _ (first .before .first-bad-link .ensures) (first .if1 .left)
     _ (c .before .first-parallel-link .ensures) (c .if2 .left)
 
 pub judge-links-spec : {M : Type 1} → statement M

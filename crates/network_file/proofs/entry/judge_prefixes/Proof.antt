@@ -4,7 +4,7 @@ use mathlib.Core.Path.{refl}
 use native.Mathlib.Omega.{arith}
 use Rattle.lfa.specs.File.{routersOf, prefixesOf, byteAt}
 use Rattle.network_file.specs.Load.{faultRow, verdictDecided}
-use Rattle.network_file.proofs.EntryLaws.{head-there, counted-read, sound-prefixes, bad-prefix-decides, twice-decides, prefixes-pass}
+use Rattle.network_file.proofs.EntryLaws.{head-there, counted-read, sound-prefixes, bad-prefix-decides, twice-decides, no-prefix-decides}
 use borrow.Author.Needs.{needs}
 use Rattle.network_file.proofs.entry.judge_prefixes.Statement.{statement}
 use Rattle.network_file.proofs.entry.judge_prefixes.Tie as tie
@@ -54,7 +54,7 @@ returns-3 : tie.Need-returns-3
 unfolding verdictDecided prefixesOf
 returns-3 c =
     let first = c .before .before in
-    prefixes-pass _ _ (first .before .before .word-at2 .ensures) _ (first .before .first-bad-prefix .ensures) (first .if1 .left)
+    no-prefix-decides _ _ (first .before .before .word-at2 .ensures) _ (first .before .first-bad-prefix .ensures) (first .if1 .left)
     _ (c .before .first-router-twice .ensures) (c .if2 .left)
 
 pub judge-prefixes-spec : {M : Type 1} → statement M

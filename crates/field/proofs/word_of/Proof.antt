@@ -1,0 +1,18 @@
+-- `word_of` is the field of two bytes.
+-- Assumes nothing.
+use mathlib.Core.Path.{refl}
+use borrow.Author.Needs.{needs}
+use Rattle.field.proofs.word_of.Statement.{statement}
+use Rattle.field.proofs.word_of.Tie as tie
+
+mul-result : tie.Need-mul-result
+mul-result c = search needs
+
+add-result : tie.Need-add-result
+add-result c = search needs
+
+returns : tie.Need-returns
+returns c = refl
+
+pub word-of-spec : {M : Type 1} → statement M
+word-of-spec = tie.close (tie.spec mul-result add-result returns)
