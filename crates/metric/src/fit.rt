@@ -19,7 +19,7 @@ fn wide(x: u8) -> usize
 }
 
 // Whether both ends of a link are routers.
-pub fn joins(routers: usize, a: u8, b: u8) -> bool
+fn joins(routers: usize, a: u8, b: u8) -> bool
     ensures { λ r. ⌜ r ≡ (ltb a routers && ltb b routers) ⌝ }
 {
     wide(a) < routers && wide(b) < routers
