@@ -2,103 +2,40 @@
 
 use crate::answer::{Answer, Network, Space};
 use crate::side::Side;
-
-extern "C" {
-    fn planner_load(file: *const u8, file_len: usize) -> Network;
-    fn planner_distances(
-        file: *const u8,
-        file_len: usize,
-        work: *mut u32,
-        work_len: usize,
-    ) -> Answer;
-    fn planner_p_space(
-        file: *const u8,
-        file_len: usize,
-        work: *mut u32,
-        work_len: usize,
-        link: usize,
-        end: usize,
-    ) -> Answer;
-    fn planner_extended_p_space(
-        file: *const u8,
-        file_len: usize,
-        work: *mut u32,
-        work_len: usize,
-        link: usize,
-        end: usize,
-    ) -> Answer;
-    fn planner_q_space(
-        file: *const u8,
-        file_len: usize,
-        work: *mut u32,
-        work_len: usize,
-        link: usize,
-        end: usize,
-    ) -> Answer;
-    fn planner_link_repair(
-        file: *const u8,
-        file_len: usize,
-        work: *mut u32,
-        work_len: usize,
-        link: usize,
-        end: usize,
-    ) -> Answer;
-    fn planner_prefix_repair(
-        file: *const u8,
-        file_len: usize,
-        work: *mut u32,
-        work_len: usize,
-        link: usize,
-        end: usize,
-        prefix: usize,
-    ) -> Answer;
-    fn planner_route(
-        file: *const u8,
-        file_len: usize,
-        work: *mut u32,
-        work_len: usize,
-        link: usize,
-        end: usize,
-        prefix: usize,
-        choices: *const u8,
-        choices_len: usize,
-        route: *mut u8,
-        route_len: usize,
-    ) -> Answer;
-}
+use planner::raw;
 
 /// The proved planner.
 pub struct Planner;
 
 // Every call below is sound for the same reason: a slice lends a pointer and
 // its length for the time of the call, Rust's borrows do not overlap, and the
-// structs are laid out as the header says.
+// structs are those of `planner::raw`.
 impl Side for Planner {
     const NAME: &'static str = "planner";
 
     fn load(file: &[u8]) -> Network {
-        unsafe { planner_load(file.as_ptr(), file.len()) }
+        unsafe { raw::planner_load(file.as_ptr(), file.len()) }
     }
 
     fn distances(file: &[u8], work: &mut [u32]) -> Answer {
-        unsafe { planner_distances(file.as_ptr(), file.len(), work.as_mut_ptr(), work.len()) }
+        unsafe { raw::planner_distances(file.as_ptr(), file.len(), work.as_mut_ptr(), work.len()) }
     }
 
     fn space(space: Space, file: &[u8], work: &mut [u32], link: usize, end: usize) -> Answer {
         let (bytes, length) = (file.as_ptr(), file.len());
         let (cells, count) = (work.as_mut_ptr(), work.len());
         match space {
-            Space::P => unsafe { planner_p_space(bytes, length, cells, count, link, end) },
+            Space::P => unsafe { raw::planner_p_space(bytes, length, cells, count, link, end) },
             Space::ExtendedP => unsafe {
-                planner_extended_p_space(bytes, length, cells, count, link, end)
+                raw::planner_extended_p_space(bytes, length, cells, count, link, end)
             },
-            Space::Q => unsafe { planner_q_space(bytes, length, cells, count, link, end) },
+            Space::Q => unsafe { raw::planner_q_space(bytes, length, cells, count, link, end) },
         }
     }
 
     fn link_repair(file: &[u8], work: &mut [u32], link: usize, end: usize) -> Answer {
         let (cells, count) = (work.as_mut_ptr(), work.len());
-        unsafe { planner_link_repair(file.as_ptr(), file.len(), cells, count, link, end) }
+        unsafe { raw::planner_link_repair(file.as_ptr(), file.len(), cells, count, link, end) }
     }
 
     fn prefix_repair(
@@ -109,7 +46,9 @@ impl Side for Planner {
         prefix: usize,
     ) -> Answer {
         let (cells, count) = (work.as_mut_ptr(), work.len());
-        unsafe { planner_prefix_repair(file.as_ptr(), file.len(), cells, count, link, end, prefix) }
+        unsafe {
+            raw::planner_prefix_repair(file.as_ptr(), file.len(), cells, count, link, end, prefix)
+        }
     }
 
     fn route(
@@ -120,7 +59,7 @@ impl Side for Planner {
         route: &mut [u8],
     ) -> Answer {
         unsafe {
-            planner_route(
+            raw::planner_route(
                 file.as_ptr(),
                 file.len(),
                 work.as_mut_ptr(),

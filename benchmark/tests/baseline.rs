@@ -46,7 +46,7 @@ fn laid_out(network: &OracleNetwork) -> Network {
         routers: usize::from(network.routers),
         links: network.links.len(),
         prefixes: network.prefixes.len(),
-        ..Network::BLANK
+        ..answer::BLANK
     };
     for (k, link) in network.links.iter().enumerate() {
         (laid.from[k], laid.to[k]) = (link.a, link.b);
@@ -69,7 +69,7 @@ fn load_agrees(file: &[u8], expected: &Expected) -> bool {
         Expected::Accepted(network) => loaded == laid_out(network),
         Expected::Refused { number, value } => {
             let (number, value) = (u32::from(*number), u64::from(*value));
-            loaded == Network { kind: answer::REFUSED, number, value, ..Network::BLANK }
+            loaded == Network { kind: answer::REFUSED, number, value, ..answer::BLANK }
         }
         _ => false,
     }

@@ -7,7 +7,7 @@ mod read;
 mod route;
 mod search;
 
-use crate::answer::{Answer, Network, Refusal, Space, DONE, REFUSED, SET};
+use crate::answer::{self, Answer, Network, Refusal, Space, DONE, REFUSED, SET};
 use crate::side::Side;
 use graph::Graph;
 use search::Target;
@@ -17,7 +17,7 @@ pub struct Baseline;
 
 /// Rows 1 to 9 and the network.
 fn opened(file: &[u8]) -> Result<Network, Refusal> {
-    let mut network = Network::BLANK;
+    let mut network = answer::BLANK;
     read::read(file, &mut network)?;
     Ok(network)
 }
@@ -58,7 +58,7 @@ fn distances(file: &[u8], work: &mut [u32]) -> Result<Answer, Refusal> {
     let network = opened(file)?;
     enough_cells(&network, work)?;
     filled(&network, work);
-    Ok(Answer::of(DONE))
+    Ok(answer::of(DONE))
 }
 
 fn space(
@@ -73,7 +73,7 @@ fn space(
     named(&network, link, end)?;
     let graph = filled(&network, work);
     let protected = search::Protected::of(&network, link, end);
-    Ok(Answer::with_value(SET, search::space(space, &graph, work, &protected)))
+    Ok(answer::with_value(SET, search::space(space, &graph, work, &protected)))
 }
 
 fn link_repair(file: &[u8], work: &mut [u32], link: usize, end: usize) -> Result<Answer, Refusal> {
@@ -133,9 +133,9 @@ impl Side for Baseline {
     const NAME: &'static str = "baseline";
 
     fn load(file: &[u8]) -> Network {
-        let mut network = Network::BLANK;
+        let mut network = answer::BLANK;
         if let Err(Refusal { number, value }) = read::read(file, &mut network) {
-            return Network { kind: REFUSED, number, value, ..Network::BLANK };
+            return Network { kind: REFUSED, number, value, ..answer::BLANK };
         }
         network
     }

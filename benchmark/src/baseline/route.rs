@@ -2,7 +2,7 @@
 
 use super::graph::Graph;
 use super::search::Target;
-use crate::answer::{Answer, PAIR, PLAYED};
+use crate::answer::{self, Answer, PAIR, PLAYED};
 
 /// The play: where it stands, and what it has written.
 struct Play<'a> {
@@ -73,5 +73,5 @@ pub fn play(
         }
     }
     while play.step(target) {}
-    Answer::with_value(PLAYED, play.written as u64)
+    answer::with_value(PLAYED, play.written as u64)
 }

@@ -6,7 +6,7 @@
 //! which is below no sum, whether that wraps round or not.
 
 use super::graph::Graph;
-use crate::answer::{Answer, Network, Refusal, Space, NO_PATH, PAIR, UNREACHABLE, UNTOUCHED};
+use crate::answer::{self, Answer, Network, Refusal, Space, NO_PATH, PAIR, UNREACHABLE, UNTOUCHED};
 
 /// The protected link, seen from the end that the question names.
 pub struct Protected {
@@ -127,10 +127,10 @@ pub fn repair(
 ) -> Result<Answer, Refusal> {
     let own = target.to[link.near & 63];
     if own == NO_PATH {
-        return Ok(Answer::of(UNREACHABLE));
+        return Ok(answer::of(UNREACHABLE));
     }
     if link.out.wrapping_add(target.to[link.far & 63]) != own {
-        return Ok(Answer::of(UNTOUCHED));
+        return Ok(answer::of(UNTOUCHED));
     }
     first_pair(graph, work, link, target)
 }

@@ -17,6 +17,7 @@ pub mod kind {
 
 /// `planner_answer`: a field of which its kind does not speak is 0.
 #[repr(C)]
+#[derive(Clone, Copy, Debug, Default, PartialEq, Eq)]
 pub struct Answer {
     pub kind: u32,
     pub number: u32,
@@ -29,6 +30,7 @@ pub struct Answer {
 
 /// `planner_network`: the network that a file holds, in arrays of their largest size.
 #[repr(C)]
+#[derive(Clone, Debug, PartialEq, Eq)]
 pub struct Network {
     pub kind: u32,
     pub number: u32,
