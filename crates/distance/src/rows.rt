@@ -33,17 +33,21 @@ fn without(set: u64, r: usize) -> u64
     set - (1u64 << r)
 }
 
-// The pending router with the least cell. The contract promises a pending router and no more.
+// The pending router with the least cell. The contract promises a pending router and no more. The least cell is kept in a variable, so
+// that no turn has to read a cell at an index that the turn before has found.
 fn nearest(row: &[u32], pending: u64) -> usize
     requires { ⌜ (0 < pending) × (length (now row) ≤ 64) × (pending < 2 ^ length (now row)) ⌝ }
     ensures { λ r. ⌜ has pending r ≡ true ⌝ }
 {
     let mut best = u64::trailing_zeros(pending) as usize;
+    let mut least = row[best];
     let mut rest = pending & (pending - 1);
     while 0 < rest {
         let r = u64::trailing_zeros(rest) as usize;
-        if row[r] < row[best] {
+        let d = row[r];
+        if d < least {
             best = r;
+            least = d;
         }
         rest = rest & (rest - 1);
     }
