@@ -17,16 +17,16 @@ use Rattle.distance.proofs.RowLaws.{rows-all}
 
 module _ {n links : ℕ} {from to : List ℕ} (w : ColumnsWithin n links from to) (out back : List ℕ) where
   -- all arcs are held in chains
-  pub columns-held : {last earlier heads costs : List ℕ} → LastHeld (arcsIn from to out back links) (2 * links) last →
-      ArcsHeld (arcsIn from to out back links) (2 * links) earlier heads costs →
-      Held (arcsIn from to out back links) n earlier heads costs × LastHeld (arcsIn from to out back links) (length (arcsIn from to out back links)) last
-  columns-held {last} {earlier} {heads} {costs} q r =
+  pub columns-held : {last earlier ends weights : List ℕ} → LastHeld (arcsIn from to out back links) (2 * links) last →
+      ArcsHeld (arcsIn from to out back links) (2 * links) earlier ends weights →
+      Held (arcsIn from to out back links) n earlier ends weights × LastHeld (arcsIn from to out back links) (length (arcsIn from to out back links)) last
+  columns-held {last} {earlier} {ends} {weights} q r =
       let e = sym (columns-count from to out back links) in (
         record {
           few = w .few-routers;
           size = omega (arith, e, w .few-links);
           within = columns-within from to out back links n w;
-          arcs = subst (λ (p : ℕ). ArcsHeld (arcsIn from to out back links) p earlier heads costs) e r;
+          arcs = subst (λ (p : ℕ). ArcsHeld (arcsIn from to out back links) p earlier ends weights) e r;
         },
         subst (λ (p : ℕ). LastHeld (arcsIn from to out back links) p last) e q,
       )
