@@ -1,5 +1,5 @@
 pub mod BitLaws
-pub mod LeavingLaws
+pub mod ChainLaws
 pub mod LinedLaws
 pub mod SearchLaws
 pub mod RowLaws

@@ -1,5 +1,5 @@
 pub mod Columns
-pub mod Leaving
+pub mod Chains
 pub mod Lined
 pub mod Search
 pub mod RightTable

@@ -11,7 +11,7 @@ line-arcs-requires : tie.Need-line-arcs-requires
 line-arcs-requires c κs =
     let start = c .before .before .before .before in
     let args = start .args in
-    (start .pre .0, lined-none (arcsIn (args .from .now) (args .to .now) (args .out .now) (args .back .now) (args .links)))
+    (start .pre .0, lined-none (args .from .now) (args .to .now) (args .out .now) (args .back .now) (args .links))
 
 fill-rows-requires : tie.Need-fill-rows-requires
 fill-rows-requires c κs =
