@@ -4,7 +4,7 @@
 use Rattle.lfa.specs.Network.{Arc}
 use Rattle.distance.specs.Search.{Relaxing, measure}
 use Rattle.distance.proofs.SearchLaws.{Indexed, relax-indexed, relax-turn, relax-done}
-use mathlib.Core.Path.{_≡_, sym, _∙_}
+use mathlib.Core.Path.{sym, _∙_}
 use mathlib.Core.List.{List}
 use mathlib.Core.Logic.{⊎-elim, inl, inr}
 use Prim.Native.Nat.{ℕ, _-_, _≤_}
