@@ -1,36 +1,18 @@
--- The columns of a network: its arcs held from them, and its distances in the area.
+-- The columns of a network, and its distances in the area.
 -- Assumes nothing.
 use Prim.Native.Nat.{ℕ, _*_, _≤_}
-use mathlib.Core.Path.{_≡_, sym, subst}
+use mathlib.Core.Path.{_≡_}
 use mathlib.Core.List.{List}
-use native.Mathlib.Omega.{arith}
 use lib.ListN.{length}
 use Rattle.lfa.specs.Network.{Network, arcs}
 use Rattle.lfa.specs.Distance.{filled}
 use Rattle.distance.specs.Laws.Columns.{columns-within, arcs-columns}
 use Rattle.metric.specs.Fit.{ColumnsWithin}
 use Rattle.distance.specs.Columns.{arcsIn, InColumns}
-use Rattle.distance.specs.Leaving.{ArcsHeld, LastHeld}
-use Rattle.distance.specs.Search.{ArcsReady, RowsFilled}
-use Rattle.distance.proofs.LeavingLaws.{columns-count}
+use Rattle.distance.specs.Search.{RowsFilled}
 use Rattle.distance.proofs.RowLaws.{rows-all}
 
 module _ {n links : ℕ} {from to : List ℕ} (w : ColumnsWithin n links from to) (out back : List ℕ) where
-  -- all arcs are held
-  pub columns-ready : {last earlier heads costs : List ℕ} → LastHeld (arcsIn from to out back links) (2 * links) last →
-      ArcsHeld (arcsIn from to out back links) (2 * links) earlier heads costs → ArcsReady (arcsIn from to out back links) n last earlier heads costs
-  columns-ready {last} {earlier} {heads} {costs} q r =
-      let e = sym (columns-count from to out back links) in
-      record {
-        held = record {
-          few = w .few-routers;
-          size = omega (arith, e, w .few-links);
-          within = columns-within from to out back links n w;
-          arcs = subst (λ (p : ℕ). ArcsHeld (arcsIn from to out back links) p earlier heads costs) e r;
-        };
-        last-held = subst (λ (p : ℕ). LastHeld (arcsIn from to out back links) p last) e q;
-      }
-
   -- all rows are filled: the area holds the distances of the network that the columns hold
   pub columns-filled : (net : Network) → InColumns net n links from to out back → {area after : List ℕ} → n * n ≤ length area →
       RowsFilled (arcsIn from to out back links) n n area after → after ≡ filled net area

@@ -1,5 +1,6 @@
 pub mod BitLaws
-pub mod LeavingLaws
+pub mod ChainLaws
+pub mod LinedLaws
 pub mod SearchLaws
 pub mod RowLaws
 pub mod ColumnLaws

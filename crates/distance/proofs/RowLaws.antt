@@ -77,9 +77,9 @@ rows-more {hops} {n} {x} {before} {xs} {ys} a k ea ek inside table row = record 
         ap (λ (i : ℕ). getD (putMid a k xs ys) i 0) f ∙ put-in a k xs ys inside long t (omega arith) ∙ row .cell d least t ht ∙ ap (λ (i : ℕ). d i t) e
 
 -- the same, with the row's part as the code lends it
-pub rows-turn : {hops : List Arc} {n x : ℕ} {last earlier heads costs before xs ys : List ℕ} (a : ℕ) → a ≡ x * n → a + n ≤ length xs → ArcsReady hops n last earlier heads costs →
+pub rows-turn : {hops : List Arc} {n x : ℕ} {bound heads costs before xs ys : List ℕ} (a : ℕ) → a ≡ x * n → a + n ≤ length xs → ArcsReady hops n bound heads costs →
     RowsFilled hops n x before xs →
-    (ArcsReady hops (length (take (a + n - a) (drop a xs))) last earlier heads costs → RowOf hops (length (take (a + n - a) (drop a xs))) x ys) →
+    (ArcsReady hops (length (take (a + n - a) (drop a xs))) bound heads costs → RowOf hops (length (take (a + n - a) (drop a xs))) x ys) →
     RowsFilled hops n (x + 1) before (putMid a (a + n - a) xs ys)
 rows-turn {hops} {n} {x} {xs = xs} {ys = ys} a ea inside ready table fills =
     let e = part-long a n xs inside in

@@ -1,5 +1,6 @@
 pub mod Columns
-pub mod Leaving
+pub mod Chains
+pub mod Lined
 pub mod Search
 pub mod RightTable
 pub mod Area

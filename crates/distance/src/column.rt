@@ -31,14 +31,14 @@ pub(crate) fn router_column(dist: &[u32], n: usize, t: usize) -> [u32; 64]
 }
 
 // A router's number as an index.
-fn wide(x: u8) -> usize
+pub(crate) fn wide(x: u8) -> usize
     ensures { λ r. ⌜ r ≡ x ⌝ }
 {
     x as usize
 }
 
-// An attachment's cost as a distance.
-fn cost_of(c: u16) -> u32
+// The cost of a link or an attachment as a distance.
+pub(crate) fn cost_of(c: u16) -> u32
     ensures { λ r. ⌜ r ≡ c ⌝ }
 {
     c as u32

@@ -42,7 +42,7 @@ returns c = λ hops ready.
     let start = c .before .before .before .before .before .before .before .before .before .before in
     let q = row-starts (start .args .s) (c .before .before .before .with .result) (c .before .before .before .before .before .before .before .clear .last .0) ready
     (start .pre .0) (c .before .before .before .before .before .before .before .clear .ensures) (c .before .before .before .with .ensures) in
-    search-ends (ready .held .within) (c .before .before .settle .ensures hops (length (start .args .row .now)) (start .args .s) ready q) (start .pre .0)
+    search-ends ready (c .before .before .settle .ensures hops (length (start .args .row .now)) (start .args .s) ready q) (start .pre .0)
 
 pub fill-row-spec : {M : Type 1} → statement M
 fill-row-spec =

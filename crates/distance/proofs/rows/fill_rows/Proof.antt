@@ -14,11 +14,11 @@ use Rattle.distance.proofs.rows.fill_rows.Statement.{statement}
 use Rattle.distance.proofs.rows.fill_rows.Tie as tie
 
 abbrev Inv-loop : tie.InvT-loop
-Inv-loop n last earlier heads costs work₀ x₀ at₀ work x at = (at ≡ x * n) × (x ≤ n)
-    × ((hops : List Arc) → ArcsReady hops n last earlier heads costs → RowsFilled hops n x work₀ work)
+Inv-loop n bound heads costs work₀ x₀ at₀ work x at = (at ≡ x * n) × (x ≤ n)
+    × ((hops : List Arc) → ArcsReady hops n bound heads costs → RowsFilled hops n x work₀ work)
 
 abbrev μ-loop : tie.MeasureT-loop
-μ-loop n last earlier heads costs work₀ x₀ at₀ work x at = n - x
+μ-loop n bound heads costs work₀ x₀ at₀ work x at = n - x
 
 -- the row's part lies in the area, which is as long as it was
 room : (c : tie.In-loop Inv-loop μ-loop) →

@@ -6,8 +6,9 @@ use lib.Count.{trailingZeros, trailing-le}
 use Rattle.distance.proofs.SearchLaws.{lowest-in, lower-part}
 use mathlib.Core.Path.{_≡_}
 use mathlib.Core.Bool.{true}
+use mathlib.Core.List.{List}
 use mathlib.Core.Logic.{⊎-elim}
-use Prim.Native.Nat.{ℕ, _-_, _≤_, _<_}
+use Prim.Native.Nat.{ℕ, _-_, _≤_, _<_, _^_}
 use native.Mathlib.Omega.{arith}
 use lib.ListN.{length}
 use borrow.Author.Needs.{needs}
@@ -15,63 +16,67 @@ use Rattle.distance.proofs.rows.nearest.Statement.{statement}
 use Rattle.distance.proofs.rows.nearest.Tie as tie
 
 abbrev Inv-loop : tie.InvT-loop
-Inv-loop row pending best₀ rest₀ best rest = (has pending best ≡ true) × (best < length row) × (rest ≤ pending) × ((r : ℕ) → has rest r ≡ true → has pending r ≡ true)
+Inv-loop row pending best₀ least₀ rest₀ best least rest = (has pending best ≡ true) × (rest ≤ pending) × ((r : ℕ) → has rest r ≡ true → has pending r ≡ true)
 
 abbrev μ-loop : tie.MeasureT-loop
-μ-loop row pending best₀ rest₀ best rest = rest
+μ-loop row pending best₀ least₀ rest₀ best least rest = rest
+
+-- the lowest of the pending routers
+lowest : (row : List ℕ) (pending : ℕ) → 0 < pending → length row ≤ 64 → pending < 2 ^ length row → (has pending (trailingZeros 64 pending) ≡ true)
+    × (trailingZeros 64 pending < length row)
+lowest row pending pos few h = lowest-in (length row) pending pending few h pos (omega arith) (λ r t. t)
 
 -- the lowest of the routers that are left
-first : (c : tie.In-loop Inv-loop μ-loop) → (has (c .before .before .args .pending) (trailingZeros 64 (c .before .loop .rest)) ≡ true)
-    × (trailingZeros 64 (c .before .loop .rest) < length (c .before .before .args .row .now))
+first : (c : tie.In-loop Inv-loop μ-loop) → (has (c .before .before .before .args .pending) (trailingZeros 64 (c .before .loop .rest)) ≡ true)
+    × (trailingZeros 64 (c .before .loop .rest) < length (c .before .before .before .args .row .now))
 first c =
     let at-loop = c .before in
-    let args = at-loop .before .args in
-    lowest-in (length (args .row .now)) (args .pending) (at-loop .loop .rest) (at-loop .before .pre .1) (at-loop .before .pre .2) (omega arith) (at-loop .loop .inv .2)
-    (at-loop .loop .inv .3)
+    let start = at-loop .before .before in
+    lowest-in (length (start .args .row .now)) (start .args .pending) (at-loop .loop .rest) (start .pre .1) (start .pre .2) (omega arith) (at-loop .loop .inv .1)
+    (at-loop .loop .inv .2)
 
 cast-best : tie.Need-cast-best Inv-loop μ-loop
 cast-best c = omega (arith, trailing-le 64 (c .args .pending))
+
+mul-least : tie.Need-mul-least Inv-loop μ-loop
+mul-least c = omega (arith, lowest (c .args .row .now) (c .args .pending) (c .pre .0) (c .pre .1) (c .pre .2))
+
+shared-slice-read-least : tie.Need-shared-slice-read-least Inv-loop μ-loop
+shared-slice-read-least c = lowest (c .before .args .row .now) (c .before .args .pending) (c .before .pre .0) (c .before .pre .1) (c .before .pre .2) .1
 
 sub-rest : tie.Need-sub-rest Inv-loop μ-loop
 sub-rest c = search needs
 
 loop-holds : tie.Need-loop-holds Inv-loop μ-loop
 loop-holds c =
-    let f = lowest-in (length (c .args .row .now)) (c .args .pending) (c .args .pending) (c .pre .1) (c .pre .2) (c .pre .0) (omega arith) (λ r t. t) in
-    (f .0, f .1, and-le-l (c .args .pending) (c .args .pending - 1), lower-part (c .args .pending) (c .args .pending) (c .args .pending - 1) (λ r t. t))
+    let start = c .before in
+    let pending = start .args .pending in
+    (lowest (start .args .row .now) pending (start .pre .0) (start .pre .1) (start .pre .2) .0, and-le-l pending (pending - 1), lower-part pending pending (pending - 1) (λ r t. t))
 
 cast-r : tie.Need-cast-r Inv-loop μ-loop
 cast-r c = omega (arith, trailing-le 64 (c .before .loop .rest))
 
-mul-if1 : tie.Need-mul-if1 Inv-loop μ-loop
-mul-if1 c = omega (arith, first c)
+mul-d : tie.Need-mul-d Inv-loop μ-loop
+mul-d c = omega (arith, first c)
 
-shared-slice-read-if1 : tie.Need-shared-slice-read-if1 Inv-loop μ-loop
-shared-slice-read-if1 c = first (c .before) .1
-
-mul-if1-2 : tie.Need-mul-if1-2 Inv-loop μ-loop
-mul-if1-2 c = search needs
-
-shared-slice-read-if1-2 : tie.Need-shared-slice-read-if1-2 Inv-loop μ-loop
-shared-slice-read-if1-2 c = search needs
+shared-slice-read-d : tie.Need-shared-slice-read-d Inv-loop μ-loop
+shared-slice-read-d c = first (c .before) .1
 
 sub-rest-2 : tie.Need-sub-rest-2 Inv-loop μ-loop
 sub-rest-2 c = search needs
 
 loop-less : tie.Need-loop-less Inv-loop μ-loop
 loop-less c =
-    let at-loop = c .before .before .before .before in
+    let at-loop = c .before .before .before in
     omega (arith, and-le-r (at-loop .loop .rest) (at-loop .loop .rest - 1))
 
 loop-again : tie.Need-loop-again Inv-loop μ-loop
 loop-again c =
-    let at-loop = c .before .before .before .before in
-    let f = first (c .before .before .before) in
+    let at-loop = c .before .before .before in
     let inv = at-loop .loop .inv in (
-      ⊎-elim (λ w. rw (w .1) (f .0)) (λ w. rw (w .1) (inv .0)) (c .if1 .came),
-      ⊎-elim (λ w. rw (w .1) (f .1)) (λ w. rw (w .1) (inv .1)) (c .if1 .came),
+      ⊎-elim (λ w. rw (w .1) (first (c .before .before) .0)) (λ w. rw (w .1) (inv .0)) (c .if1 .came),
       omega (arith, and-le-l (at-loop .loop .rest) (at-loop .loop .rest - 1)),
-      lower-part (at-loop .before .args .pending) (at-loop .loop .rest) (at-loop .loop .rest - 1) (inv .3),
+      lower-part (at-loop .before .before .args .pending) (at-loop .loop .rest) (at-loop .loop .rest - 1) (inv .2),
     )
 
 returns : tie.Need-returns Inv-loop μ-loop
@@ -84,13 +89,13 @@ nearest-spec =
     Inv-loop
     μ-loop
     cast-best
+    mul-least
+    shared-slice-read-least
     sub-rest
     loop-holds
     cast-r
-    mul-if1
-    shared-slice-read-if1
-    mul-if1-2
-    shared-slice-read-if1-2
+    mul-d
+    shared-slice-read-d
     sub-rest-2
     loop-less
     loop-again

@@ -1,39 +1,35 @@
 -- `relax` relaxes the arcs that leave a router: before each turn, and at the end, what `Relaxing` says holds, for any list of arcs that
--- the columns hold. The number of the arc falls in each turn.
+-- stands in the line. The places that are left are fewer in each turn.
 -- Assumes nothing.
 use Rattle.lfa.specs.Network.{Arc}
 use Rattle.distance.specs.Search.{Relaxing, measure}
-use Rattle.distance.proofs.SearchLaws.{Indexed, relax-indexed, relax-turn}
-use mathlib.Core.Path.{_≡_, sym, _∙_}
+use Rattle.distance.proofs.SearchLaws.{Indexed, relax-indexed, relax-turn, relax-done}
+use mathlib.Core.Path.{sym, _∙_}
 use mathlib.Core.List.{List}
 use mathlib.Core.Logic.{⊎-elim, inl, inr}
-use Prim.Native.Nat.{ℕ, _≤_}
+use Prim.Native.Nat.{ℕ, _-_, _≤_}
 use native.Mathlib.Omega.{arith}
 use native.Mathlib.Nat.{le-trans}
-use lib.ListN.{set}
 use borrow.Author.Needs.{needs}
 use Rattle.distance.proofs.rows.relax.Statement.{statement}
 use Rattle.distance.proofs.rows.relax.Tie as tie
 
 abbrev Inv-loop : tie.InvT-loop
-Inv-loop arc d earlier heads costs row₀ pending set₀ p₀ row set p = (hops : List Arc) (n s u : ℕ) → Relaxing hops n s u arc d earlier heads costs row₀ pending →
-    Relaxing hops n s u p d earlier heads costs row set × (measure row set ≤ measure row₀ pending)
+Inv-loop first end d heads costs row₀ pending set₀ q₀ row set q = (hops : List Arc) (n s u : ℕ) (bound : List ℕ) →
+    Relaxing hops n s u first end d bound heads costs row₀ pending →
+    Relaxing hops n s u q end d bound heads costs row set × (measure row set ≤ measure row₀ pending)
 
 abbrev μ-loop : tie.MeasureT-loop
-μ-loop arc d earlier heads costs row₀ pending set₀ p₀ row set p = p
+μ-loop first end d heads costs row₀ pending set₀ q₀ row set q = end - q
 
 -- what indexing asks, in each turn
-indexed : (c : tie.In-loop Inv-loop μ-loop) → Indexed (c .before .loop .p) (c .before .before .before .args .earlier .now) (c .before .before .before .args .heads .now)
-    (c .before .loop .row)
+indexed : (c : tie.In-loop Inv-loop μ-loop) → Indexed (c .before .loop .q) (c .before .before .before .args .heads .now) (c .before .loop .row)
 indexed c =
     let w = c .before .before .before .pre in
-    relax-indexed (c .before .loop .inv (w .0) (w .1) (w .2) (w .3) (w .4) .0) (c .loop-test .taken)
+    relax-indexed (c .before .loop .inv (w .0) (w .1) (w .2) (w .3) (w .4) (w .5) .0) (c .loop-test .taken)
 
 loop-holds : tie.Need-loop-holds Inv-loop μ-loop
-loop-holds c = λ hops n s u r. (r, omega arith)
-
-sub-j : tie.Need-sub-j Inv-loop μ-loop
-sub-j c = search needs
+loop-holds c = λ hops n s u bound r. (r, omega arith)
 
 mul-v : tie.Need-mul-v Inv-loop μ-loop
 mul-v c = omega (arith, indexed c)
@@ -65,33 +61,29 @@ slice-write-row c = omega (arith, indexed (c .before .before .before .before .be
 with-requires : tie.Need-with-requires Inv-loop μ-loop
 with-requires c κs = omega (arith, indexed (c .before .before .before .before .before))
 
-mul-p : tie.Need-mul-p Inv-loop μ-loop
-mul-p c = omega (arith, indexed (c .before .before .before .before .before))
-
-element-copy-out-p : tie.Need-element-copy-out-p Inv-loop μ-loop
-element-copy-out-p c = omega (arith, indexed (c .before .before .before .before .before))
+add-q : tie.Need-add-q Inv-loop μ-loop
+add-q c = omega (arith, indexed (c .before .before .before .before .before))
 
 loop-less : tie.Need-loop-less Inv-loop μ-loop
-loop-less c = omega (arith, indexed (c .before .before .before .before .before .before))
+loop-less c = search needs
 
 loop-again : tie.Need-loop-again Inv-loop μ-loop
-loop-again c = λ hops n s u r.
-    let turn = c .before .before .before .before .before .before in
-    let i = turn .before .loop .inv hops n s u r in
-    let t = relax-turn (c .before .before .before .add .result) (i .0) (turn .loop-test .taken) (c .before .before .before .add .ensures)
-    (⊎-elim (λ w. inl (w .0 .taken, w .2, w .3 ∙ w .1 .ensures)) (λ w. inr (w .0 .left, w .1, w .2)) (c .before .if1 .came)) in
+loop-again c = λ hops n s u bound r.
+    let turn = c .before .before .before .before .before in
+    let i = turn .before .loop .inv hops n s u bound r in
+    let t = relax-turn (c .before .before .add .result) (i .0) (turn .loop-test .taken) (c .before .before .add .ensures)
+    (⊎-elim (λ w. inl (w .0 .taken, w .2, w .3 ∙ w .1 .ensures)) (λ w. inr (w .0 .left, w .1, w .2)) (c .if1 .came)) in
     (t .0, le-trans (t .1) (i .1))
 
 same-length : tie.Need-same-length Inv-loop μ-loop
 same-length c =
     let w = c .before .before .before .pre in
-    c .before .loop .inv (w .0) (w .1) (w .2) (w .3) (w .4) .0 .searched .long ∙ sym (w .4 .searched .long)
+    c .before .loop .inv (w .0) (w .1) (w .2) (w .3) (w .4) (w .5) .0 .searched .long ∙ sym (w .5 .searched .long)
 
 returns : tie.Need-returns Inv-loop μ-loop
-returns c = λ hops n s u r.
-    let i = c .before .loop .inv hops n s u r in
-    let e : c .before .loop .p ≡ 0 = omega arith in
-    record { searched = rw e at (i .0 .searched); fallen = i .1 }
+returns c = λ hops n s u bound r.
+    let i = c .before .loop .inv hops n s u bound r in
+    record { searched = relax-done (i .0) (omega arith); fallen = i .1 }
 
 pub relax-spec : {M : Type 1} → statement M
 relax-spec =
@@ -100,7 +92,6 @@ relax-spec =
     Inv-loop
     μ-loop
     loop-holds
-    sub-j
     mul-v
     element-copy-out-v
     mul-add
@@ -111,8 +102,7 @@ relax-spec =
     mul-row
     slice-write-row
     with-requires
-    mul-p
-    element-copy-out-p
+    add-q
     loop-less
     loop-again
     same-length
