@@ -11,6 +11,7 @@ use lib.ListN.{getD, length, drop}
 use lib.Seq.{drop-cons}
 use borrow.Author.Tests.{eq-eqb, ne-eqb}
 use Rattle.lfa.specs.File.{Bytes, byteAt, wordAt, allZero}
+use Rattle.lfa.specs.Laws.Test.{fails-right}
 
 -- ---- bytes past the end
 
@@ -30,10 +31,6 @@ module _ (b : Bytes) (k : ℕ) where
   word-last h = sym (rw (past-end b (k + 1) h))
 
 -- ---- zeros
-
-and-false : (z : Bool) → (z && false) ≡ false
-and-false true = refl
-and-false false = refl
 
 and-true : (z : Bool) → (z && true) ≡ z
 and-true true = refl
@@ -55,7 +52,7 @@ module _ (s : Bytes) (i : ℕ) (h : i < length s) where
   unfolding allZero
   zero-fails z f q inv =
       let rest : allZero (drop i s) ≡ false = rw (first-byte, allZero, ne-eqb (getD s i 0) 0 f) in
-      inv ∙ rw (q, rest, and-false z)
+      inv ∙ fails-right z _ rest ∙ rw q
 
 -- the end is reached
 rest-none : (s : Bytes) (i : ℕ) → length s ≤ i → allZero (drop i s) ≡ true

@@ -21,10 +21,10 @@ use Rattle.lfa.specs.Laws.Counting.{map-below-same}
 use Rattle.lfa.specs.Laws.File.Parts.{part-rest}
 use Rattle.lfa.specs.Laws.File.RowFacts.{prefix-facts, slot-facts, prefix-length}
 use Rattle.block.specs.Judged.{Sized}
-use Rattle.network_file.specs.Struct.{routerOf, costOf, column, attachedColumn, slotColumn, prefixesIn}
+use Rattle.network_file.specs.Struct.{routerOf, costOf, column, stored, attachedColumn, slotColumn, prefixColumns, prefixesIn}
 use Rattle.network_file.specs.Entry.{PrefixesSound, Slots}
 use Rattle.network_file.proofs.TableLaws.{mark}
-use Rattle.network_file.proofs.ColumnLaws.{column-map, column-same, column-full, eights}
+use Rattle.network_file.proofs.ColumnLaws.{column-map, column-same, column-full, stored-column, eights}
 
 -- ---- places
 
@@ -37,6 +37,14 @@ module _ (b : Bytes) (links p : ℕ) (right : links ≡ linksOf b) where
   pub prefix-there : partOf b (512 * (1 + (links + 83) / 84 + p / 14) + 4 + 34 * (p % 14)) 34 ≡ prefixEntry b p
   unfolding prefixEntry linkBlocks ceil
   prefix-there = rw right
+
+-- ---- a slot as one number
+
+-- the halves of the number that the code puts together
+pub slot-halves : (e : Bytes) (s : ℕ) {w low high : ℕ} → low < 65536 → low ≡ getD e (2 + 4 * s) 0 + 256 * getD e (2 + 4 * s + 1) 0 →
+    high ≡ getD e (4 + 4 * s) 0 + 256 * getD e (4 + 4 * s + 1) 0 → w ≡ low + 65536 * high → (w % 65536 ≡ wordAt e (2 + 4 * s)) × (w / 65536 ≡ wordAt e (4 + 4 * s))
+unfolding wordAt byteAt
+slot-halves e s small l h q = (omega arith, omega arith)
 
 -- ---- a loop that tests every number below n
 
@@ -149,24 +157,37 @@ pub routers-tested : (b e : Bytes) (p : ℕ) {r : Bool} → e ≡ prefixEntry b 
 unfolding routersNew
 routers-tested b e p is q = rw (← is) (sym q)
 
--- ---- the numbers of prefix p, as they stand in its entry
+-- ---- the numbers of a prefix, as they stand in its entry
 
-module _ (b e : Bytes) (p : ℕ) (is : e ≡ prefixEntry b p) where
-  pub attached-read : getD e 0 0 ≡ attachments (prefixEntry b p)
-  unfolding attachments byteAt
-  attached-read = rw is
+pub attached-read : (b e : Bytes) (p : ℕ) → e ≡ prefixEntry b p → getD e 0 0 ≡ attachments (prefixEntry b p)
+unfolding attachments byteAt
+attached-read b e p is = rw is
 
-  pub router-read : (s : ℕ) → getD e (2 + 4 * s) 0 ≡ routerOf (slot (prefixEntry b p) s)
-  unfolding routerOf slot slotRouter byteAt
-  router-read s = rw is
+pub router-read : (e : Bytes) (s : ℕ) → getD e (2 + 4 * s) 0 ≡ routerOf (slot e s)
+unfolding routerOf slot slotRouter byteAt
+router-read e s = refl
 
-  pub cost-read : (s : ℕ) → wordAt e (4 + 4 * s) ≡ costOf (slot (prefixEntry b p) s)
-  unfolding costOf slot
-  cost-read s = rw is
+pub cost-read : (e : Bytes) (s : ℕ) → wordAt e (4 + 4 * s) ≡ costOf (slot e s)
+unfolding costOf slot
+cost-read e s = refl
+
+-- The slots of prefix p are the next eight of the column: with them the slots of p + 1 prefixes are filled.
+pub eight-more : (b e : Bytes) (p : ℕ) (f : Attachment → ℕ) {d cells : List ℕ} → p < 128 → e ≡ prefixEntry b p →
+    cells ≡ column 1024 (8 * p) (λ k. f (slot (prefixEntry b (k / 8)) (k % 8))) → d ≡ stored (8 * p) 8 (λ s. f (slot e s)) cells →
+    d ≡ column 1024 (8 * (p + 1)) (λ k. f (slot (prefixEntry b (k / 8)) (k % 8)))
+eight-more b e p f h is c q =
+    let next : 8 * (p + 1) ≡ 8 * p + 8 = omega arith in
+    q ∙ rw (c, next) (stored-column 1024 (8 * p) 8 _ _ (omega arith) same)
+  where
+    same : (s : ℕ) → s < 8 → f (slot e s) ≡ f (slot (prefixEntry b ((8 * p + s) / 8)) ((8 * p + s) % 8))
+    same s l =
+        let place : (8 * p + s) / 8 ≡ p = omega arith in
+        let rest : (8 * p + s) % 8 ≡ s = omega arith in
+        rw (place, rest, is)
 
 -- ---- columns
 
-pub column-attached : (b : Bytes) (n : ℕ) → column 128 n (λ p. attachments (prefixEntry b p)) ≡ attachedColumn (prefixesIn b n)
+column-attached : (b : Bytes) (n : ℕ) → column 128 n (λ p. attachments (prefixEntry b p)) ≡ attachedColumn (prefixesIn b n)
 unfolding attachedColumn prefixesIn prefixOf
 column-attached b n = column-same 128 n _ (λ p. length (prefixOf b p)) (λ p h. sym (prefix-length (prefixEntry b p))) ∙ column-map 128 n length (prefixOf b)
 
@@ -215,10 +236,16 @@ module _ (b : Bytes) (n : ℕ) (sound : PrefixesSound b n) where
   unfolding prefixGood
   few-slots p h = prefix-facts (routersOf b) (prefixEntry b p) (sound p h) .few
 
-  pub column-routers : column 1024 (8 * n) (λ k. routerOf (slot (prefixEntry b (k / 8)) (k % 8))) ≡ slotColumn routerOf (prefixesIn b n)
+  column-routers : column 1024 (8 * n) (λ k. routerOf (slot (prefixEntry b (k / 8)) (k % 8))) ≡ slotColumn routerOf (prefixesIn b n)
   unfolding prefixGood
   column-routers = column-slots b n routerOf few-slots (λ p s h. unused-router (routersOf b) (prefixEntry b p) (sound p h) s)
 
-  pub column-costs : column 1024 (8 * n) (λ k. costOf (slot (prefixEntry b (k / 8)) (k % 8))) ≡ slotColumn costOf (prefixesIn b n)
+  column-costs : column 1024 (8 * n) (λ k. costOf (slot (prefixEntry b (k / 8)) (k % 8))) ≡ slotColumn costOf (prefixesIn b n)
   unfolding prefixGood
   column-costs = column-slots b n costOf few-slots (λ p s h. unused-cost (routersOf b) (prefixEntry b p) (sound p h) s)
+
+  -- all three columns
+  pub columns-filled : {attached at own : List ℕ} → attached ≡ column 128 n (λ p. attachments (prefixEntry b p)) → at ≡ column 1024 (8 * n) (λ k. routerOf (slot (prefixEntry b (k / 8)) (k % 8))) →
+      own ≡ column 1024 (8 * n) (λ k. costOf (slot (prefixEntry b (k / 8)) (k % 8))) → record { attached = attached; at = at; own = own } ≡ prefixColumns (prefixesIn b n)
+  unfolding prefixColumns
+  columns-filled a r c = rw (a, r, c, column-attached b n, column-routers, column-costs)

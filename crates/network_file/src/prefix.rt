@@ -1,17 +1,24 @@
 // Prefixes: rows 8 and 9, and their entries read into columns.
 use field::all_zero;
-use field::word_at;
+use field::word_of;
 ghost use mathlib.Core.Path.{_≡_};
 ghost use mathlib.Core.Bool.{_&&_};
-ghost use Prim.Native.Nat.{_+_, _*_, _≤_, _<_};
+ghost use Prim.Native.Nat.{_+_, _*_, _/_, _%_, _≤_, _<_};
 ghost use lib.Dec.{eqb, ltb};
 ghost use lib.ListN.{length};
 ghost use Rattle.lfa.specs.Lists.{firstFailing, everyBelow};
-ghost use Rattle.lfa.specs.File.{routersOf, linksOf, prefixesOf, prefixEntry, attachments, slotGood, soundPrefix, prefixGood, slotNew, routersNew};
+ghost use Rattle.lfa.specs.File.{routersOf, linksOf, prefixesOf, wordAt, prefixEntry, attachments, slot, slotGood, soundPrefix, prefixGood, slotNew, routersNew};
 ghost use Rattle.block.specs.First.{firstOr};
 ghost use Rattle.block.specs.Judged.{Sized};
-ghost use Rattle.network_file.specs.Struct.{routerOf, costOf, attachedColumn, slotColumn, prefixesIn};
+ghost use Rattle.network_file.specs.Struct.{routerOf, costOf, stored, prefixColumns, prefixesIn};
 ghost use Rattle.network_file.specs.Entry.{Counted, PrefixesSound, Slots};
+
+// One column for the numbers of attachments, a cell for each prefix, and one for each number of a slot, eight cells to a prefix.
+pub(crate) struct PrefixColumns {
+    pub attached: [u8; 128],
+    pub at: [u8; 1024],
+    pub own: [u16; 1024],
+}
 
 // The 34 bytes of prefix p. The blocks of links, 84 to a block, stand before those of prefixes.
 pub(crate) fn prefix_part(file: &[u8], links: usize, p: usize) -> &[u8]
@@ -22,6 +29,19 @@ pub(crate) fn prefix_part(file: &[u8], links: usize, p: usize) -> &[u8]
     let start = 512 * (1 + blocks + p / 14) + 4 + 34 * (p % 14);
     let end = start + 34;
     &file[start..end]
+}
+
+// The four bytes of slot s as one number: router and zero byte in its low half, the cost in its high half. Eight such numbers are
+// read with fewer instructions than their 32 bytes.
+fn slot_word(entry: &[u8], s: usize) -> u32
+    requires { ⌜ (length (now entry) ≡ 34) × (s < 8) ⌝ }
+    ensures { λ r. ⌜ (r % 65536 ≡ wordAt (now (entry .entry)) (2 + 4 * s)) × (r / 65536 ≡ wordAt (now (entry .entry)) (4 + 4 * s)) ⌝ }
+{
+    let first = 2 + 4 * s;
+    let third = 4 + 4 * s;
+    let low = word_of(entry[first], entry[first + 1]);
+    let high = word_of(entry[third], entry[third + 1]);
+    (low as u32) + 65536 * (high as u32)
 }
 
 // A byte as a number to count and to index with.
@@ -127,49 +147,45 @@ pub(crate) fn first_router_twice(file: &[u8], links: usize, prefixes: usize) -> 
     prefixes
 }
 
-// Reads how many attachments each prefix has.
-pub(crate) fn fill_attached(file: &[u8], links: usize, prefixes: usize) -> [u8; 128]
-    requires { ⌜ Counted (now file) links prefixes ⌝ }
-    ensures { λ r. ⌜ r ≡ attachedColumn (prefixesIn (now (file .entry)) prefixes) ⌝ }
+// Stores the routers of an entry's eight slots, used or not, into the cells of prefix p.
+fn store_routers(entry: &[u8], p: usize, at: &mut [u8; 1024])
+    requires { ⌜ (length (now entry) ≡ 34) × (p < 128) ⌝ }
+    ensures { λ _. ⌜ now (at .exit) ≡ stored (8 * p) 8 (λ s. routerOf (slot (now (entry .entry)) s)) (now (at .entry)) ⌝ }
+{
+    let mut s: usize = 0;
+    while s < 8 {
+        at[8 * p + s] = entry[2 + 4 * s];
+        s += 1;
+    }
+}
+
+// Stores their costs in the same way.
+fn store_costs(entry: &[u8], p: usize, own: &mut [u16; 1024])
+    requires { ⌜ (length (now entry) ≡ 34) × (p < 128) ⌝ }
+    ensures { λ _. ⌜ now (own .exit) ≡ stored (8 * p) 8 (λ s. costOf (slot (now (entry .entry)) s)) (now (own .entry)) ⌝ }
+{
+    let mut s: usize = 0;
+    while s < 8 {
+        own[8 * p + s] = (slot_word(entry, s) / 65536) as u16;
+        s += 1;
+    }
+}
+
+// Reads the entries of the prefixes into columns. Row 8 has passed, so the slots that are not used are zero.
+pub(crate) fn fill_prefixes(file: &[u8], links: usize, prefixes: usize) -> PrefixColumns
+    requires { ⌜ Counted (now file) links prefixes × PrefixesSound (now file) prefixes ⌝ }
+    ensures { λ r. ⌜ r ≡ prefixColumns (prefixesIn (now (file .entry)) prefixes) ⌝ }
 {
     let mut attached = [0u8; 128];
+    let mut at = [0u8; 1024];
+    let mut own = [0u16; 1024];
     let mut p: usize = 0;
     while p < prefixes {
         let entry = prefix_part(file, links, p);
         attached[p] = entry[0];
+        store_routers(entry, p, &mut at);
+        store_costs(entry, p, &mut own);
         p += 1;
     }
-    attached
-}
-
-// Reads the routers of the slots into a column, eight slots to a prefix. Row 8 has passed, so the slots that are not used are zero.
-pub(crate) fn fill_routers(file: &[u8], links: usize, prefixes: usize) -> [u8; 1024]
-    requires { ⌜ Counted (now file) links prefixes × PrefixesSound (now file) prefixes ⌝ }
-    ensures { λ r. ⌜ r ≡ slotColumn routerOf (prefixesIn (now (file .entry)) prefixes) ⌝ }
-{
-    let mut at = [0u8; 1024];
-    let slots = 8 * prefixes;
-    let mut k: usize = 0;
-    while k < slots {
-        let entry = prefix_part(file, links, k / 8);
-        at[k] = entry[2 + 4 * (k % 8)];
-        k += 1;
-    }
-    at
-}
-
-// Reads the costs of the slots into a column, in the same way.
-pub(crate) fn fill_costs(file: &[u8], links: usize, prefixes: usize) -> [u16; 1024]
-    requires { ⌜ Counted (now file) links prefixes × PrefixesSound (now file) prefixes ⌝ }
-    ensures { λ r. ⌜ r ≡ slotColumn costOf (prefixesIn (now (file .entry)) prefixes) ⌝ }
-{
-    let mut own = [0u16; 1024];
-    let slots = 8 * prefixes;
-    let mut k: usize = 0;
-    while k < slots {
-        let entry = prefix_part(file, links, k / 8);
-        own[k] = word_at(entry, 4 + 4 * (k % 8));
-        k += 1;
-    }
-    own
+    PrefixColumns { attached, at, own }
 }
