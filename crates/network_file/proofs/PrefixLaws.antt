@@ -1,29 +1,27 @@
 -- Prefixes: where their entries stand, the loops of rows 8 and 9 over one entry, and the columns of their slots.
 -- Assumes nothing.
-use Prim.Native.Nat.{ℕ, zero, suc, _+_, _-_, _*_, _/_, _%_, _≤_, _<_}
+use Prim.Native.Nat.{ℕ, zero, suc, _+_, _*_, _/_, _%_, _≤_, _<_}
 use mathlib.Core.Path.{_≡_, refl, sym, ap, _∙_}
 use mathlib.Core.Bool.{Bool, true, false, not, _&&_}
-use mathlib.Core.List.{List, [], _∷_, map, map-map}
+use mathlib.Core.List.{List, map, map-map}
 use native.Mathlib.Omega.{arith}
 use native.Mathlib.Numerals.{add-one}
-use lib.Dec.{eqb, ltb}
+use lib.Dec.{eqb}
 use lib.ListN.{length, getD, set, drop, replicate, length-set, length-replicate, getD-replicate}
-use lib.Seq.{getD-drop}
-use borrow.Author.Tests.{eqb-true, eq-eqb, ne-eqb, le-leb, lt-leb, not-true, not-false}
+use borrow.Author.Tests.{eq-eqb, ne-eqb, le-leb, lt-leb, not-true, not-false}
 use Rattle.lfa.specs.Lists.{below, flat, everyBelow}
 use Rattle.lfa.specs.Network.{Attachment}
 use Rattle.lfa.specs.File.{Bytes, byteAt, wordAt, partOf, allZero, ceil, linkBlocks, prefixBlocks, blocksNeeded, linksOf, prefixesOf, routersOf}
 use Rattle.lfa.specs.File.{prefixEntry, prefixOf, prefixIn, attachments, slotRouter, slot, slotGood, soundPrefix, prefixGood, slotNew, routersNew}
 use Rattle.lfa.specs.FileOf.{pad}
-use Rattle.lfa.specs.Laws.Test.{and-left, and-right}
 use Rattle.lfa.specs.Laws.List.{every-gives}
 use Rattle.lfa.specs.Laws.Counting.{map-below-same}
-use Rattle.lfa.specs.Laws.File.Parts.{part-rest}
 use Rattle.lfa.specs.Laws.File.RowFacts.{prefix-facts, slot-facts, prefix-length}
 use Rattle.block.specs.Judged.{Sized}
 use Rattle.network_file.specs.Struct.{routerOf, costOf, column, stored, attachedColumn, slotColumn, prefixColumns, prefixesIn}
 use Rattle.network_file.specs.Entry.{PrefixesSound, Slots}
 use Rattle.network_file.proofs.TableLaws.{mark}
+use Rattle.network_file.proofs.SlotLaws.{zero-from}
 use Rattle.network_file.proofs.ColumnLaws.{column-map, column-same, column-full, stored-column, eights}
 
 -- ---- places
@@ -37,14 +35,6 @@ module _ (b : Bytes) (links p : ℕ) (right : links ≡ linksOf b) where
   pub prefix-there : partOf b (512 * (1 + (links + 83) / 84 + p / 14) + 4 + 34 * (p % 14)) 34 ≡ prefixEntry b p
   unfolding prefixEntry linkBlocks ceil
   prefix-there = rw right
-
--- ---- a slot as one number
-
--- the halves of the number that the code puts together
-pub slot-halves : (e : Bytes) (s : ℕ) {w low high : ℕ} → low < 65536 → low ≡ getD e (2 + 4 * s) 0 + 256 * getD e (2 + 4 * s + 1) 0 →
-    high ≡ getD e (4 + 4 * s) 0 + 256 * getD e (4 + 4 * s + 1) 0 → w ≡ low + 65536 * high → (w % 65536 ≡ wordAt e (2 + 4 * s)) × (w / 65536 ≡ wordAt e (4 + 4 * s))
-unfolding wordAt byteAt
-slot-halves e s small l h q = (omega arith, omega arith)
 
 -- ---- a loop that tests every number below n
 
@@ -65,11 +55,6 @@ every-fails p n i h e = go (everyBelow p n) refl
 
 -- ---- row 8
 
--- a used slot
-pub slot-tested : (n : ℕ) (e : Bytes) (s : ℕ) (r : Bool) → r ≡ (ltb (getD e (2 + 4 * s) 0) n && eqb (getD e (3 + 4 * s) 0) 0) → slotGood n e s ≡ r
-unfolding slotGood slotRouter byteAt
-slot-tested n e s r q = sym q
-
 -- each return of the code, for an entry that says `count` attachments
 module _ (n : ℕ) (e : Bytes) (count : ℕ) (says : count ≡ getD e 0 0) where
   pub count-none : count < 1 → false ≡ soundPrefix n e
@@ -86,14 +71,9 @@ module _ (n : ℕ) (e : Bytes) (count : ℕ) (says : count ≡ getD e 0 0) where
       unfolding soundPrefix attachments byteAt
       second-wrong f = rw (← says, le-leb 1 count some, le-leb count 8 few, ne-eqb (getD e 1 0) 0 f)
 
-      module _ (second : getD e 1 0 ≡ 0) where
-        pub slot-wrong : everyBelow (slotGood n e) count ≡ false → false ≡ soundPrefix n e
-        unfolding soundPrefix attachments byteAt
-        slot-wrong f = rw (← says, le-leb 1 count some, le-leb count 8 few, eq-eqb (getD e 1 0) 0 second, f)
-
-        pub rest-tested : {r : Bool} → length e ≡ 34 → everyBelow (slotGood n e) count ≡ true → r ≡ allZero (partOf e (2 + 4 * count) (34 - (2 + 4 * count))) → r ≡ soundPrefix n e
-        unfolding soundPrefix attachments byteAt
-        rest-tested l f q = q ∙ rw (part-rest e (2 + 4 * count) 34 l, ← says, le-leb 1 count some, le-leb count 8 few, eq-eqb (getD e 1 0) 0 second, f)
+      pub slots-tested : {r : Bool} → getD e 1 0 ≡ 0 → r ≡ (everyBelow (slotGood n e) count && allZero (drop (2 + 4 * count) e)) → r ≡ soundPrefix n e
+      unfolding soundPrefix attachments byteAt
+      slots-tested second q = q ∙ rw (← says, le-leb 1 count some, le-leb count 8 few, eq-eqb (getD e 1 0) 0 second)
 
 -- the test of prefix p, done on its entry
 pub prefix-tested : (b e : Bytes) (routers p : ℕ) {r : Bool} → routers ≡ routersOf b → e ≡ prefixEntry b p → r ≡ soundPrefix routers e → prefixGood b p ≡ r
@@ -191,21 +171,11 @@ column-attached : (b : Bytes) (n : ℕ) → column 128 n (λ p. attachments (pre
 unfolding attachedColumn prefixesIn prefixOf
 column-attached b n = column-same 128 n _ (λ p. length (prefixOf b p)) (λ p h. sym (prefix-length (prefixEntry b p))) ∙ column-map 128 n length (prefixOf b)
 
--- every byte of zeros is zero
-zero-byte : (b : Bytes) → allZero b ≡ true → (i : ℕ) → getD b i 0 ≡ 0
-unfolding allZero
-zero-byte [] e i = refl
-zero-byte (x ∷ b) e zero = eqb-true x 0 (and-left (eqb x 0) (allZero b) e)
-zero-byte (x ∷ b) e (suc i) = zero-byte b (and-right (eqb x 0) (allZero b) e) i
-
 -- a byte of an entry that row 8 passes, past its used slots
 module _ (n : ℕ) (e : Bytes) (g : soundPrefix n e ≡ true) where
   unused-byte : (i : ℕ) → 2 + 4 * attachments e ≤ i → byteAt e i ≡ 0
   unfolding byteAt
-  unused-byte i h =
-      let used = 2 + 4 * attachments e in
-      let p : used + (i - used) ≡ i = omega arith in
-      ap (λ (m : ℕ). getD e m 0) (sym p) ∙ sym (getD-drop used e (i - used) 0) ∙ zero-byte (drop used e) (prefix-facts n e g .unused-zero) (i - used)
+  unused-byte i h = zero-from e (2 + 4 * attachments e) (prefix-facts n e g .unused-zero) i h
 
   pub unused-router : (s : ℕ) → attachments e ≤ s → routerOf (slot e s) ≡ 0
   unfolding routerOf slot slotRouter

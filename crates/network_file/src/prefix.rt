@@ -1,17 +1,15 @@
 // Prefixes: rows 8 and 9, and their entries read into columns.
-use field::all_zero;
 use field::word_of;
 ghost use mathlib.Core.Path.{_≡_};
 ghost use mathlib.Core.Bool.{_&&_};
 ghost use Prim.Native.Nat.{_+_, _*_, _/_, _%_, _≤_, _<_};
-ghost use lib.Dec.{eqb, ltb};
-ghost use lib.ListN.{length};
+ghost use lib.ListN.{length, drop};
 ghost use Rattle.lfa.specs.Lists.{firstFailing, everyBelow};
-ghost use Rattle.lfa.specs.File.{routersOf, linksOf, prefixesOf, wordAt, prefixEntry, attachments, slot, slotGood, soundPrefix, prefixGood, slotNew, routersNew};
+ghost use Rattle.lfa.specs.File.{routersOf, linksOf, prefixesOf, wordAt, allZero, prefixEntry, attachments, slot, slotGood, soundPrefix, prefixGood, slotNew, routersNew};
 ghost use Rattle.block.specs.First.{firstOr};
 ghost use Rattle.block.specs.Judged.{Sized};
 ghost use Rattle.network_file.specs.Struct.{routerOf, costOf, stored, prefixColumns, prefixesIn};
-ghost use Rattle.network_file.specs.Entry.{Counted, PrefixesSound, Slots};
+ghost use Rattle.network_file.specs.Entry.{Counted, PrefixesSound, slotSound, Slots};
 
 // One column for the numbers of attachments, a cell for each prefix, and one for each number of a slot, eight cells to a prefix.
 pub(crate) struct PrefixColumns {
@@ -51,34 +49,37 @@ fn wide(byte: u8) -> usize
     byte as usize
 }
 
-// Row 8 at one used slot: its router is below N, and its second byte is zero.
-fn sound_slot(routers: usize, router: u8, second: u8) -> bool
-    ensures { λ r. ⌜ r ≡ (ltb router routers && eqb second 0) ⌝ }
+// Row 8 at one slot. The router of a used slot is below N and its second byte zero, that is, both as one number are below N; a slot
+// that is not used is zero.
+fn sound_slot(routers: usize, used: bool, word: u32) -> bool
+    ensures { λ r. ⌜ r ≡ slotSound routers used word ⌝ }
 {
-    if routers <= (router as usize) {
-        return false;
+    if used {
+        return ((word % 65536) as usize) < routers;
     }
-    second == 0
+    word == 0
 }
 
-// Row 8 at the used slots, of which there are `count`.
+// Row 8 at the eight slots, of which `count` are used. All eight are looked at, also after one that is wrong: a loop that always
+// makes eight turns is faster than one whose end the processor must guess.
 fn sound_slots(routers: usize, entry: &[u8], count: usize) -> bool
-    requires { ⌜ (length (now entry) ≡ 34) × (count ≤ 8) ⌝ }
-    ensures { λ r. ⌜ r ≡ everyBelow (slotGood routers (now (entry .entry))) count ⌝ }
+    requires { ⌜ (length (now entry) ≡ 34) × (count ≤ 8) × (routers ≤ 64) ⌝ }
+    ensures { λ r. ⌜ r ≡ (everyBelow (slotGood routers (now (entry .entry))) count && allZero (drop (2 + 4 * count) (now (entry .entry)))) ⌝ }
 {
+    let mut sound = true;
     let mut s: usize = 0;
-    while s < count {
-        if !sound_slot(routers, entry[2 + 4 * s], entry[3 + 4 * s]) {
-            return false;
+    while s < 8 {
+        if !sound_slot(routers, s < count, slot_word(entry, s)) {
+            sound = false;
         }
         s += 1;
     }
-    true
+    sound
 }
 
 // Row 8 at one prefix. The count is tested before a slot is looked at.
 fn sound_prefix(routers: usize, entry: &[u8]) -> bool
-    requires { ⌜ length (now entry) ≡ 34 ⌝ }
+    requires { ⌜ (length (now entry) ≡ 34) × (routers ≤ 64) ⌝ }
     ensures { λ r. ⌜ r ≡ soundPrefix routers (now (entry .entry)) ⌝ }
 {
     let count = wide(entry[0]);
@@ -91,11 +92,7 @@ fn sound_prefix(routers: usize, entry: &[u8]) -> bool
     if entry[1] != 0 {
         return false;
     }
-    if !sound_slots(routers, entry, count) {
-        return false;
-    }
-    let unused = 2 + 4 * count;
-    all_zero(&entry[unused..34])
+    sound_slots(routers, entry, count)
 }
 
 // Row 8: the first prefix that it turns down, or the number of prefixes.

@@ -24,7 +24,9 @@ prefix-part-requires : tie.Need-prefix-part-requires Inv-loop μ-loop
 prefix-part-requires c κs = let pre = c .before .before .before .pre in (pre .0 .sized, pre .0 .links-right, omega arith)
 
 sound-prefix-requires : tie.Need-sound-prefix-requires Inv-loop μ-loop
-sound-prefix-requires c κs = c .prefix-part .ensures .1
+sound-prefix-requires c κs =
+    let pre = c .before .before .before .before .pre in
+    (c .prefix-part .ensures .1, rw (pre .1) (pre .0 .sized .few-routers))
 
 returns : tie.Need-returns Inv-loop μ-loop
 returns c =

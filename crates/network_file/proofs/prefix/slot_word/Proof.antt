@@ -2,7 +2,7 @@
 -- Assumes nothing.
 use mathlib.Core.Path.{refl}
 use borrow.Author.Needs.{needs}
-use Rattle.network_file.proofs.PrefixLaws.{slot-halves}
+use Rattle.network_file.proofs.SlotLaws.{slot-halves}
 use Rattle.network_file.proofs.prefix.slot_word.Statement.{statement}
 use Rattle.network_file.proofs.prefix.slot_word.Tie as tie
 
