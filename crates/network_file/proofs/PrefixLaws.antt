@@ -19,7 +19,7 @@ use Rattle.lfa.specs.Laws.Counting.{map-below-same}
 use Rattle.lfa.specs.Laws.File.RowFacts.{prefix-facts, slot-facts, prefix-length}
 use Rattle.block.specs.Judged.{Sized}
 use Rattle.network_file.specs.Struct.{routerOf, costOf, column, stored, attachedColumn, slotColumn, prefixColumns, prefixesIn}
-use Rattle.network_file.specs.Entry.{PrefixesSound, Slots}
+use Rattle.network_file.specs.Entry.{placeOf, PrefixesSound, Slots}
 use Rattle.network_file.proofs.TableLaws.{mark}
 use Rattle.network_file.proofs.SlotLaws.{zero-from}
 use Rattle.network_file.proofs.ColumnLaws.{column-map, column-same, column-full, stored-column, eights}
@@ -35,6 +35,41 @@ module _ (b : Bytes) (links p : ℕ) (right : links ≡ linksOf b) where
   pub prefix-there : partOf b (512 * (1 + (links + 83) / 84 + p / 14) + 4 + 34 * (p % 14)) 34 ≡ prefixEntry b p
   unfolding prefixEntry linkBlocks ceil
   prefix-there = rw right
+
+-- the place of the first entry, and of the one after the entry of prefix p, as the code finds them
+pub place-first : (b : Bytes) (links : ℕ) → links ≡ linksOf b → 512 * (1 + (links + 83) / 84) + 4 ≡ placeOf b 0
+unfolding placeOf linkBlocks ceil
+place-first b links right = rw right (omega arith)
+
+module _ (b : Bytes) (p place : ℕ) (is : place ≡ placeOf b p) where
+  pub place-block : (place + 34) % 512 ≡ 480 → place + 34 + 36 ≡ placeOf b (p + 1)
+  unfolding placeOf
+  place-block h = omega arith
+
+  pub place-behind : ((place + 34) % 512 ≡ 480 → ⊥) → place + 34 ≡ placeOf b (p + 1)
+  unfolding placeOf
+  place-behind h =
+      let last : p % 14 ≡ 13 → ⊥ = λ q. h (full (omega arith)) in
+      omega arith
+    where
+      full : place + 34 ≡ 512 * (1 + linkBlocks (linksOf b) + p / 14) + 480 → (place + 34) % 512 ≡ 480
+      full e = rw e (rest (1 + linkBlocks (linksOf b) + p / 14))
+        where
+          rest : (k : ℕ) → (512 * k + 480) % 512 ≡ 480
+          rest k = omega arith
+
+  -- the entry lies inside the file
+  pub place-inside : Sized b → p < prefixesOf b → place + 34 ≤ length b
+  unfolding placeOf blocksNeeded linkBlocks prefixBlocks ceil
+  place-inside s h = omega (arith, s .whole)
+
+  pub place-small : Sized b → p < prefixesOf b → place ≤ 6656
+  unfolding placeOf linkBlocks ceil
+  place-small s h = omega (arith, s .few-links, s .few-prefixes)
+
+  pub place-there : {e : Bytes} → e ≡ partOf b place 34 → e ≡ prefixEntry b p
+  unfolding placeOf prefixEntry
+  place-there q = q ∙ rw is
 
 -- ---- a loop that tests every number below n
 

@@ -43,10 +43,14 @@ from-zero e start f = all-zero (drop start e) (λ i h. getD-drop start e i 0 ∙
 -- ---- a slot as one number
 
 -- the halves of the number that the code puts together
-pub slot-halves : (e : Bytes) (s : ℕ) {w low high : ℕ} → low < 65536 → low ≡ getD e (2 + 4 * s) 0 + 256 * getD e (2 + 4 * s + 1) 0 →
-    high ≡ getD e (4 + 4 * s) 0 + 256 * getD e (4 + 4 * s + 1) 0 → w ≡ low + 65536 * high → (w % 65536 ≡ wordAt e (2 + 4 * s)) × (w / 65536 ≡ wordAt e (4 + 4 * s))
+pub slot-halves : (e : Bytes) (s w : ℕ) →
+    (w % 65536 ≡ getD e (2 + 4 * s) 0 + 256 * getD e (2 + 4 * s + 1) 0) × (w / 65536 ≡ getD e (2 + 4 * s + 2) 0 + 256 * getD e (2 + 4 * s + 3) 0) →
+    (w % 65536 ≡ wordAt e (2 + 4 * s)) × (w / 65536 ≡ wordAt e (4 + 4 * s))
 unfolding wordAt byteAt
-slot-halves e s small l h q = (omega arith, omega arith)
+slot-halves e s w h =
+    let third : 2 + 4 * s + 2 ≡ 4 + 4 * s = omega arith in
+    let fourth : 2 + 4 * s + 3 ≡ 4 + 4 * s + 1 = omega arith in
+    (h .0, h .1 ∙ rw (third, fourth))
 
 -- row 8 at slot s of an entry that says `count` attachments
 unfoldable pub slotPasses : ℕ → Bytes → ℕ → ℕ → Bool

@@ -1,15 +1,14 @@
 // Prefixes: rows 8 and 9, and their entries read into columns.
-use field::word_of;
 ghost use mathlib.Core.Path.{_≡_};
 ghost use mathlib.Core.Bool.{_&&_};
-ghost use Prim.Native.Nat.{_+_, _*_, _/_, _%_, _≤_, _<_};
+ghost use Prim.Native.Nat.{ℕ, _+_, _*_, _/_, _%_, _≤_, _<_};
 ghost use lib.ListN.{length, drop};
 ghost use Rattle.lfa.specs.Lists.{firstFailing, everyBelow};
-ghost use Rattle.lfa.specs.File.{routersOf, linksOf, prefixesOf, wordAt, allZero, prefixEntry, attachments, slot, slotGood, soundPrefix, prefixGood, slotNew, routersNew};
+ghost use Rattle.lfa.specs.File.{Bytes, routersOf, linksOf, prefixesOf, wordAt, allZero, prefixEntry, attachments, slot, slotGood, soundPrefix, prefixGood, slotNew, routersNew};
 ghost use Rattle.block.specs.First.{firstOr};
 ghost use Rattle.block.specs.Judged.{Sized};
 ghost use Rattle.network_file.specs.Struct.{routerOf, costOf, stored, prefixColumns, prefixesIn};
-ghost use Rattle.network_file.specs.Entry.{Counted, PrefixesSound, slotSound, Slots};
+ghost use Rattle.network_file.specs.Entry.{Counted, placeOf, PrefixesSound, slotSound, Slots};
 
 // One column for the numbers of attachments, a cell for each prefix, and one for each number of a slot, eight cells to a prefix.
 pub(crate) struct PrefixColumns {
@@ -29,17 +28,51 @@ pub(crate) fn prefix_part(file: &[u8], links: usize, p: usize) -> &[u8]
     &file[start..end]
 }
 
+// Where the entry of prefix 0 stands.
+fn first_place(links: usize) -> usize
+    requires { ⌜ links ≤ 128 ⌝ }
+    ensures { λ r. ⌜ ((b : Bytes) → links ≡ linksOf b → r ≡ placeOf b 0) ⌝ }
+{
+    512 * (1 + (links + 83) / 84) + 4
+}
+
+// Where the entry after this one stands: behind it, or after 14 of them behind the label of the next block. A loop over the
+// prefixes that keeps the place needs no division.
+fn next_place(place: usize) -> usize
+    requires { ⌜ place ≤ 6656 ⌝ }
+    ensures { λ r. ⌜ ((b : Bytes) (p : ℕ) → place ≡ placeOf b p → r ≡ placeOf b (p + 1)) ⌝ }
+{
+    let next = place + 34;
+    if next % 512 == 480 {
+        return next + 36;
+    }
+    next
+}
+
+// The 34 bytes of the prefix whose entry stands at a place.
+fn entry_at(file: &[u8], place: usize) -> &[u8]
+    requires { ⌜ place + 34 ≤ length (now file) ⌝ }
+    ensures { λ r. ⌜ ((p : ℕ) → place ≡ placeOf (now (file .entry)) p → now r ≡ prefixEntry (now (file .entry)) p) × (length (now r) ≡ 34) ⌝ }
+{
+    let end = place + 34;
+    &file[place..end]
+}
+
+// A 32-bit number from its four bytes, least byte first.
+fn word32_of(a: u8, b: u8, c: u8, d: u8) -> u32
+    ensures { λ r. ⌜ (r % 65536 ≡ a + 256 * b) × (r / 65536 ≡ c + 256 * d) ⌝ }
+{
+    (a as u32) + 256 * (b as u32) + 65536 * (c as u32) + 16777216 * (d as u32)
+}
+
 // The four bytes of slot s as one number: router and zero byte in its low half, the cost in its high half. Eight such numbers are
 // read with fewer instructions than their 32 bytes.
 fn slot_word(entry: &[u8], s: usize) -> u32
     requires { ⌜ (length (now entry) ≡ 34) × (s < 8) ⌝ }
     ensures { λ r. ⌜ (r % 65536 ≡ wordAt (now (entry .entry)) (2 + 4 * s)) × (r / 65536 ≡ wordAt (now (entry .entry)) (4 + 4 * s)) ⌝ }
 {
-    let first = 2 + 4 * s;
-    let third = 4 + 4 * s;
-    let low = word_of(entry[first], entry[first + 1]);
-    let high = word_of(entry[third], entry[third + 1]);
-    (low as u32) + 65536 * (high as u32)
+    let k = 2 + 4 * s;
+    word32_of(entry[k], entry[k + 1], entry[k + 2], entry[k + 3])
 }
 
 // A byte as a number to count and to index with.
@@ -100,11 +133,13 @@ pub(crate) fn first_bad_prefix(file: &[u8], routers: usize, links: usize, prefix
     requires { ⌜ Counted (now file) links prefixes × (routers ≡ routersOf (now file)) ⌝ }
     ensures { λ r. ⌜ r ≡ firstOr prefixes (firstFailing (prefixGood (now (file .entry))) 0 prefixes) ⌝ }
 {
+    let mut place = first_place(links);
     let mut p: usize = 0;
     while p < prefixes {
-        if !sound_prefix(routers, prefix_part(file, links, p)) {
+        if !sound_prefix(routers, entry_at(file, place)) {
             return p;
         }
+        place = next_place(place);
         p += 1;
     }
     prefixes
@@ -134,11 +169,13 @@ pub(crate) fn first_router_twice(file: &[u8], links: usize, prefixes: usize) -> 
     requires { ⌜ Counted (now file) links prefixes × PrefixesSound (now file) prefixes ⌝ }
     ensures { λ r. ⌜ r ≡ firstOr prefixes (firstFailing (routersNew (now (file .entry))) 0 prefixes) ⌝ }
 {
+    let mut place = first_place(links);
     let mut p: usize = 0;
     while p < prefixes {
-        if !new_routers(prefix_part(file, links, p)) {
+        if !new_routers(entry_at(file, place)) {
             return p;
         }
+        place = next_place(place);
         p += 1;
     }
     prefixes
@@ -176,12 +213,14 @@ pub(crate) fn fill_prefixes(file: &[u8], links: usize, prefixes: usize) -> Prefi
     let mut attached = [0u8; 128];
     let mut at = [0u8; 1024];
     let mut own = [0u16; 1024];
+    let mut place = first_place(links);
     let mut p: usize = 0;
     while p < prefixes {
-        let entry = prefix_part(file, links, p);
+        let entry = entry_at(file, place);
         attached[p] = entry[0];
         store_routers(entry, p, &mut at);
         store_costs(entry, p, &mut own);
+        place = next_place(place);
         p += 1;
     }
     PrefixColumns { attached, at, own }
