@@ -1,8 +1,8 @@
 -- Fields near the end of the bytes, and zeros, one step of the loop at a time.
 -- Assumes nothing.
 use Prim.Native.Nat.{ℕ, zero, suc, _+_, _*_, _≤_, _<_}
-use mathlib.Core.Path.{_≡_, refl, sym}
-use mathlib.Core.Bool.{true, false}
+use mathlib.Core.Path.{_≡_, refl, sym, _∙_}
+use mathlib.Core.Bool.{Bool, true, false, _&&_}
 use mathlib.Core.List.{[], _∷_}
 use native.Mathlib.Omega.{arith}
 use native.Mathlib.Nat.{le-of-suc-le-suc, not-suc-le-zero}
@@ -11,6 +11,7 @@ use lib.ListN.{getD, length, drop}
 use lib.Seq.{drop-cons}
 use borrow.Author.Tests.{eq-eqb, ne-eqb}
 use Rattle.lfa.specs.File.{Bytes, byteAt, wordAt, allZero}
+use Rattle.lfa.specs.Laws.Test.{fails-right}
 
 -- ---- bytes past the end
 
@@ -31,24 +32,35 @@ module _ (b : Bytes) (k : ℕ) where
 
 -- ---- zeros
 
+and-true : (z : Bool) → (z && true) ≡ z
+and-true true = refl
+and-true false = refl
+
 module _ (s : Bytes) (i : ℕ) (h : i < length s) where
   first-byte : drop i s ≡ getD s i 0 ∷ drop (i + 1) s
   first-byte = rw (add-one i, drop-cons s i 0 h)
 
-  -- a zero is passed
-  pub zero-passed : getD s i 0 ≡ 0 → allZero (drop i s) ≡ allZero (drop (i + 1) s)
+  -- The turns of the loop, where z tells whether the bytes before i are zero. A zero is passed:
+  pub zero-passed : {y z : Bool} → getD s i 0 ≡ 0 → y ≡ z → allZero s ≡ (z && allZero (drop i s)) → allZero s ≡ (y && allZero (drop (i + 1) s))
   unfolding allZero
-  zero-passed e = rw (first-byte, allZero, eq-eqb (getD s i 0) 0 e)
+  zero-passed e q inv =
+      let rest : allZero (drop i s) ≡ allZero (drop (i + 1) s) = rw (first-byte, allZero, eq-eqb (getD s i 0) 0 e) in
+      inv ∙ rw (q, rest)
 
-  -- another byte is found
-  pub zero-fails : (getD s i 0 ≡ 0 → ⊥) → false ≡ allZero (drop i s)
+  -- another byte is found:
+  pub zero-fails : (z : Bool) {y : Bool} → (getD s i 0 ≡ 0 → ⊥) → y ≡ false → allZero s ≡ (z && allZero (drop i s)) → allZero s ≡ (y && allZero (drop (i + 1) s))
   unfolding allZero
-  zero-fails f = rw (first-byte, allZero, ne-eqb (getD s i 0) 0 f)
+  zero-fails z f q inv =
+      let rest : allZero (drop i s) ≡ false = rw (first-byte, allZero, ne-eqb (getD s i 0) 0 f) in
+      inv ∙ fails-right z _ rest ∙ rw q
 
 -- the end is reached
-pub zero-ends : (s : Bytes) (i : ℕ) → length s ≤ i → true ≡ allZero (drop i s)
+rest-none : (s : Bytes) (i : ℕ) → length s ≤ i → allZero (drop i s) ≡ true
 unfolding allZero
-zero-ends [] zero h = refl
-zero-ends [] (suc i) h = refl
-zero-ends (x ∷ s) zero h = absurd (not-suc-le-zero h)
-zero-ends (x ∷ s) (suc i) h = zero-ends s i (le-of-suc-le-suc h)
+rest-none [] zero h = refl
+rest-none [] (suc i) h = refl
+rest-none (x ∷ s) zero h = absurd (not-suc-le-zero h)
+rest-none (x ∷ s) (suc i) h = rest-none s i (le-of-suc-le-suc h)
+
+pub zero-ends : (s : Bytes) (i : ℕ) (z : Bool) → length s ≤ i → allZero s ≡ (z && allZero (drop i s)) → z ≡ allZero s
+zero-ends s i z h inv = sym (inv ∙ rw (rest-none s i h, and-true z))

@@ -26,17 +26,19 @@ pub fn word_at(s: &[u8], at: usize) -> u16
     word_of(s[at], s[next])
 }
 
-// Whether every byte is zero.
+// Whether every byte is zero. All bytes are looked at, also after one that is not zero: without an early return the compiler
+// tests many bytes at once.
 pub fn all_zero(s: &[u8]) -> bool
     ensures { λ r. ⌜ r ≡ allZero (now (s .entry)) ⌝ }
 {
     let n = s.len();
+    let mut zero = true;
     let mut i: usize = 0;
     while i < n {
         if s[i] != 0 {
-            return false;
+            zero = false;
         }
         i += 1;
     }
-    true
+    zero
 }

@@ -17,7 +17,7 @@ use Rattle.lfa.specs.FileOf.{pad}
 use Rattle.lfa.specs.Laws.Counting.{length-map-below, map-below-at, map-below-same}
 use Rattle.lfa.specs.Laws.Test.{decide}
 use Rattle.lfa.specs.Laws.Chunks.{part-element, length-flat, part-flat}
-use Rattle.network_file.specs.Struct.{column}
+use Rattle.network_file.specs.Struct.{column, stored}
 
 -- ---- one number more
 
@@ -56,6 +56,25 @@ column-more size i f h =
 -- the same for an invariant's list and for a value that is the column's
 pub more : {size i v : ℕ} {d : List ℕ} (f : ℕ → ℕ) → i < size → d ≡ column size i f → v ≡ f i → set d i v ≡ column size (i + 1) f
 more {size} {i} f h e q = rw (e, q) (column-more size i f h)
+
+-- ---- several stores, one after the other
+
+pub stored-none : (k : ℕ) (f : ℕ → ℕ) (cells : List ℕ) → cells ≡ stored k 0 f cells
+unfolding stored
+stored-none k f cells = refl
+
+-- one store more
+pub stored-more : (k n : ℕ) {v : ℕ} {d : List ℕ} (f : ℕ → ℕ) (cells : List ℕ) → d ≡ stored k n f cells → v ≡ f n → set d (k + n) v ≡ stored k (n + 1) f cells
+unfolding stored
+stored-more k n f cells e q = rw (add-one n, stored, e, q)
+
+-- stores of the numbers that come next in a column
+pub stored-column : (size k n : ℕ) (f g : ℕ → ℕ) → k + n ≤ size → ((s : ℕ) → s < n → g s ≡ f (k + s)) → stored k n g (column size k f) ≡ column size (k + n) f
+unfolding stored
+stored-column size k zero f g h same = rw add-zero
+stored-column size k (suc n) f g h same =
+    let e : k + suc n ≡ k + n + 1 = omega arith in
+    rw (stored-column size k n f g (omega arith) (λ s l. same s (omega arith)), same n (omega arith), e) (column-more size (k + n) f (omega arith))
 
 -- ---- its cells
 

@@ -1,30 +1,28 @@
 -- Prefixes: where their entries stand, the loops of rows 8 and 9 over one entry, and the columns of their slots.
 -- Assumes nothing.
-use Prim.Native.Nat.{ℕ, zero, suc, _+_, _-_, _*_, _/_, _%_, _≤_, _<_}
+use Prim.Native.Nat.{ℕ, zero, suc, _+_, _*_, _/_, _%_, _≤_, _<_}
 use mathlib.Core.Path.{_≡_, refl, sym, ap, _∙_}
 use mathlib.Core.Bool.{Bool, true, false, not, _&&_}
-use mathlib.Core.List.{List, [], _∷_, map, map-map}
+use mathlib.Core.List.{List, map, map-map}
 use native.Mathlib.Omega.{arith}
 use native.Mathlib.Numerals.{add-one}
-use lib.Dec.{eqb, ltb}
+use lib.Dec.{eqb}
 use lib.ListN.{length, getD, set, drop, replicate, length-set, length-replicate, getD-replicate}
-use lib.Seq.{getD-drop}
-use borrow.Author.Tests.{eqb-true, eq-eqb, ne-eqb, le-leb, lt-leb, not-true, not-false}
+use borrow.Author.Tests.{eq-eqb, ne-eqb, le-leb, lt-leb, not-true, not-false}
 use Rattle.lfa.specs.Lists.{below, flat, everyBelow}
 use Rattle.lfa.specs.Network.{Attachment}
 use Rattle.lfa.specs.File.{Bytes, byteAt, wordAt, partOf, allZero, ceil, linkBlocks, prefixBlocks, blocksNeeded, linksOf, prefixesOf, routersOf}
 use Rattle.lfa.specs.File.{prefixEntry, prefixOf, prefixIn, attachments, slotRouter, slot, slotGood, soundPrefix, prefixGood, slotNew, routersNew}
 use Rattle.lfa.specs.FileOf.{pad}
-use Rattle.lfa.specs.Laws.Test.{and-left, and-right}
 use Rattle.lfa.specs.Laws.List.{every-gives}
 use Rattle.lfa.specs.Laws.Counting.{map-below-same}
-use Rattle.lfa.specs.Laws.File.Parts.{part-rest}
 use Rattle.lfa.specs.Laws.File.RowFacts.{prefix-facts, slot-facts, prefix-length}
 use Rattle.block.specs.Judged.{Sized}
-use Rattle.network_file.specs.Struct.{routerOf, costOf, column, attachedColumn, slotColumn, prefixesIn}
-use Rattle.network_file.specs.Entry.{PrefixesSound, Slots}
+use Rattle.network_file.specs.Struct.{routerOf, costOf, column, stored, attachedColumn, slotColumn, prefixColumns, prefixesIn}
+use Rattle.network_file.specs.Entry.{placeOf, PrefixesSound, Slots}
 use Rattle.network_file.proofs.TableLaws.{mark}
-use Rattle.network_file.proofs.ColumnLaws.{column-map, column-same, column-full, eights}
+use Rattle.network_file.proofs.SlotLaws.{zero-from}
+use Rattle.network_file.proofs.ColumnLaws.{column-map, column-same, column-full, stored-column, eights}
 
 -- ---- places
 
@@ -37,6 +35,41 @@ module _ (b : Bytes) (links p : ℕ) (right : links ≡ linksOf b) where
   pub prefix-there : partOf b (512 * (1 + (links + 83) / 84 + p / 14) + 4 + 34 * (p % 14)) 34 ≡ prefixEntry b p
   unfolding prefixEntry linkBlocks ceil
   prefix-there = rw right
+
+-- the place of the first entry, and of the one after the entry of prefix p, as the code finds them
+pub place-first : (b : Bytes) (links : ℕ) → links ≡ linksOf b → 512 * (1 + (links + 83) / 84) + 4 ≡ placeOf b 0
+unfolding placeOf linkBlocks ceil
+place-first b links right = rw right (omega arith)
+
+module _ (b : Bytes) (p place : ℕ) (is : place ≡ placeOf b p) where
+  pub place-block : (place + 34) % 512 ≡ 480 → place + 34 + 36 ≡ placeOf b (p + 1)
+  unfolding placeOf
+  place-block h = omega arith
+
+  pub place-behind : ((place + 34) % 512 ≡ 480 → ⊥) → place + 34 ≡ placeOf b (p + 1)
+  unfolding placeOf
+  place-behind h =
+      let last : p % 14 ≡ 13 → ⊥ = λ q. h (full (omega arith)) in
+      omega arith
+    where
+      full : place + 34 ≡ 512 * (1 + linkBlocks (linksOf b) + p / 14) + 480 → (place + 34) % 512 ≡ 480
+      full e = rw e (rest (1 + linkBlocks (linksOf b) + p / 14))
+        where
+          rest : (k : ℕ) → (512 * k + 480) % 512 ≡ 480
+          rest k = omega arith
+
+  -- the entry lies inside the file
+  pub place-inside : Sized b → p < prefixesOf b → place + 34 ≤ length b
+  unfolding placeOf blocksNeeded linkBlocks prefixBlocks ceil
+  place-inside s h = omega (arith, s .whole)
+
+  pub place-small : Sized b → p < prefixesOf b → place ≤ 6656
+  unfolding placeOf linkBlocks ceil
+  place-small s h = omega (arith, s .few-links, s .few-prefixes)
+
+  pub place-there : {e : Bytes} → e ≡ partOf b place 34 → e ≡ prefixEntry b p
+  unfolding placeOf prefixEntry
+  place-there q = q ∙ rw is
 
 -- ---- a loop that tests every number below n
 
@@ -57,11 +90,6 @@ every-fails p n i h e = go (everyBelow p n) refl
 
 -- ---- row 8
 
--- a used slot
-pub slot-tested : (n : ℕ) (e : Bytes) (s : ℕ) (r : Bool) → r ≡ (ltb (getD e (2 + 4 * s) 0) n && eqb (getD e (3 + 4 * s) 0) 0) → slotGood n e s ≡ r
-unfolding slotGood slotRouter byteAt
-slot-tested n e s r q = sym q
-
 -- each return of the code, for an entry that says `count` attachments
 module _ (n : ℕ) (e : Bytes) (count : ℕ) (says : count ≡ getD e 0 0) where
   pub count-none : count < 1 → false ≡ soundPrefix n e
@@ -78,14 +106,9 @@ module _ (n : ℕ) (e : Bytes) (count : ℕ) (says : count ≡ getD e 0 0) where
       unfolding soundPrefix attachments byteAt
       second-wrong f = rw (← says, le-leb 1 count some, le-leb count 8 few, ne-eqb (getD e 1 0) 0 f)
 
-      module _ (second : getD e 1 0 ≡ 0) where
-        pub slot-wrong : everyBelow (slotGood n e) count ≡ false → false ≡ soundPrefix n e
-        unfolding soundPrefix attachments byteAt
-        slot-wrong f = rw (← says, le-leb 1 count some, le-leb count 8 few, eq-eqb (getD e 1 0) 0 second, f)
-
-        pub rest-tested : {r : Bool} → length e ≡ 34 → everyBelow (slotGood n e) count ≡ true → r ≡ allZero (partOf e (2 + 4 * count) (34 - (2 + 4 * count))) → r ≡ soundPrefix n e
-        unfolding soundPrefix attachments byteAt
-        rest-tested l f q = q ∙ rw (part-rest e (2 + 4 * count) 34 l, ← says, le-leb 1 count some, le-leb count 8 few, eq-eqb (getD e 1 0) 0 second, f)
+      pub slots-tested : {r : Bool} → getD e 1 0 ≡ 0 → r ≡ (everyBelow (slotGood n e) count && allZero (drop (2 + 4 * count) e)) → r ≡ soundPrefix n e
+      unfolding soundPrefix attachments byteAt
+      slots-tested second q = q ∙ rw (← says, le-leb 1 count some, le-leb count 8 few, eq-eqb (getD e 1 0) 0 second)
 
 -- the test of prefix p, done on its entry
 pub prefix-tested : (b e : Bytes) (routers p : ℕ) {r : Bool} → routers ≡ routersOf b → e ≡ prefixEntry b p → r ≡ soundPrefix routers e → prefixGood b p ≡ r
@@ -149,42 +172,45 @@ pub routers-tested : (b e : Bytes) (p : ℕ) {r : Bool} → e ≡ prefixEntry b 
 unfolding routersNew
 routers-tested b e p is q = rw (← is) (sym q)
 
--- ---- the numbers of prefix p, as they stand in its entry
+-- ---- the numbers of a prefix, as they stand in its entry
 
-module _ (b e : Bytes) (p : ℕ) (is : e ≡ prefixEntry b p) where
-  pub attached-read : getD e 0 0 ≡ attachments (prefixEntry b p)
-  unfolding attachments byteAt
-  attached-read = rw is
+pub attached-read : (b e : Bytes) (p : ℕ) → e ≡ prefixEntry b p → getD e 0 0 ≡ attachments (prefixEntry b p)
+unfolding attachments byteAt
+attached-read b e p is = rw is
 
-  pub router-read : (s : ℕ) → getD e (2 + 4 * s) 0 ≡ routerOf (slot (prefixEntry b p) s)
-  unfolding routerOf slot slotRouter byteAt
-  router-read s = rw is
+pub router-read : (e : Bytes) (s : ℕ) → getD e (2 + 4 * s) 0 ≡ routerOf (slot e s)
+unfolding routerOf slot slotRouter byteAt
+router-read e s = refl
 
-  pub cost-read : (s : ℕ) → wordAt e (4 + 4 * s) ≡ costOf (slot (prefixEntry b p) s)
-  unfolding costOf slot
-  cost-read s = rw is
+pub cost-read : (e : Bytes) (s : ℕ) → wordAt e (4 + 4 * s) ≡ costOf (slot e s)
+unfolding costOf slot
+cost-read e s = refl
+
+-- The slots of prefix p are the next eight of the column: with them the slots of p + 1 prefixes are filled.
+pub eight-more : (b e : Bytes) (p : ℕ) (f : Attachment → ℕ) {d cells : List ℕ} → p < 128 → e ≡ prefixEntry b p →
+    cells ≡ column 1024 (8 * p) (λ k. f (slot (prefixEntry b (k / 8)) (k % 8))) → d ≡ stored (8 * p) 8 (λ s. f (slot e s)) cells →
+    d ≡ column 1024 (8 * (p + 1)) (λ k. f (slot (prefixEntry b (k / 8)) (k % 8)))
+eight-more b e p f h is c q =
+    let next : 8 * (p + 1) ≡ 8 * p + 8 = omega arith in
+    q ∙ rw (c, next) (stored-column 1024 (8 * p) 8 _ _ (omega arith) same)
+  where
+    same : (s : ℕ) → s < 8 → f (slot e s) ≡ f (slot (prefixEntry b ((8 * p + s) / 8)) ((8 * p + s) % 8))
+    same s l =
+        let place : (8 * p + s) / 8 ≡ p = omega arith in
+        let rest : (8 * p + s) % 8 ≡ s = omega arith in
+        rw (place, rest, is)
 
 -- ---- columns
 
-pub column-attached : (b : Bytes) (n : ℕ) → column 128 n (λ p. attachments (prefixEntry b p)) ≡ attachedColumn (prefixesIn b n)
+column-attached : (b : Bytes) (n : ℕ) → column 128 n (λ p. attachments (prefixEntry b p)) ≡ attachedColumn (prefixesIn b n)
 unfolding attachedColumn prefixesIn prefixOf
 column-attached b n = column-same 128 n _ (λ p. length (prefixOf b p)) (λ p h. sym (prefix-length (prefixEntry b p))) ∙ column-map 128 n length (prefixOf b)
-
--- every byte of zeros is zero
-zero-byte : (b : Bytes) → allZero b ≡ true → (i : ℕ) → getD b i 0 ≡ 0
-unfolding allZero
-zero-byte [] e i = refl
-zero-byte (x ∷ b) e zero = eqb-true x 0 (and-left (eqb x 0) (allZero b) e)
-zero-byte (x ∷ b) e (suc i) = zero-byte b (and-right (eqb x 0) (allZero b) e) i
 
 -- a byte of an entry that row 8 passes, past its used slots
 module _ (n : ℕ) (e : Bytes) (g : soundPrefix n e ≡ true) where
   unused-byte : (i : ℕ) → 2 + 4 * attachments e ≤ i → byteAt e i ≡ 0
   unfolding byteAt
-  unused-byte i h =
-      let used = 2 + 4 * attachments e in
-      let p : used + (i - used) ≡ i = omega arith in
-      ap (λ (m : ℕ). getD e m 0) (sym p) ∙ sym (getD-drop used e (i - used) 0) ∙ zero-byte (drop used e) (prefix-facts n e g .unused-zero) (i - used)
+  unused-byte i h = zero-from e (2 + 4 * attachments e) (prefix-facts n e g .unused-zero) i h
 
   pub unused-router : (s : ℕ) → attachments e ≤ s → routerOf (slot e s) ≡ 0
   unfolding routerOf slot slotRouter
@@ -215,10 +241,16 @@ module _ (b : Bytes) (n : ℕ) (sound : PrefixesSound b n) where
   unfolding prefixGood
   few-slots p h = prefix-facts (routersOf b) (prefixEntry b p) (sound p h) .few
 
-  pub column-routers : column 1024 (8 * n) (λ k. routerOf (slot (prefixEntry b (k / 8)) (k % 8))) ≡ slotColumn routerOf (prefixesIn b n)
+  column-routers : column 1024 (8 * n) (λ k. routerOf (slot (prefixEntry b (k / 8)) (k % 8))) ≡ slotColumn routerOf (prefixesIn b n)
   unfolding prefixGood
   column-routers = column-slots b n routerOf few-slots (λ p s h. unused-router (routersOf b) (prefixEntry b p) (sound p h) s)
 
-  pub column-costs : column 1024 (8 * n) (λ k. costOf (slot (prefixEntry b (k / 8)) (k % 8))) ≡ slotColumn costOf (prefixesIn b n)
+  column-costs : column 1024 (8 * n) (λ k. costOf (slot (prefixEntry b (k / 8)) (k % 8))) ≡ slotColumn costOf (prefixesIn b n)
   unfolding prefixGood
   column-costs = column-slots b n costOf few-slots (λ p s h. unused-cost (routersOf b) (prefixEntry b p) (sound p h) s)
+
+  -- all three columns
+  pub columns-filled : {attached at own : List ℕ} → attached ≡ column 128 n (λ p. attachments (prefixEntry b p)) → at ≡ column 1024 (8 * n) (λ k. routerOf (slot (prefixEntry b (k / 8)) (k % 8))) →
+      own ≡ column 1024 (8 * n) (λ k. costOf (slot (prefixEntry b (k / 8)) (k % 8))) → record { attached = attached; at = at; own = own } ≡ prefixColumns (prefixesIn b n)
+  unfolding prefixColumns
+  columns-filled a r c = rw (a, r, c, column-attached b n, column-routers, column-costs)

@@ -1,11 +1,12 @@
 -- Rows 6 to 9, the rows of the entries: what is known when they are tried, and what they look at.
 -- Assumes nothing.
-use Prim.Native.Nat.{ℕ, _+_, _-_, _*_, _≤_, _<_, min}
+use Prim.Native.Nat.{ℕ, _+_, _-_, _*_, _/_, _%_, _≤_, _<_, min}
 use mathlib.Core.Path.{_≡_}
-use mathlib.Core.Bool.{true}
+use mathlib.Core.Bool.{Bool, true, false}
 use mathlib.Core.List.{List, [], _∷_, _++_}
+use lib.Dec.{eqb, ltb}
 use lib.ListN.{length, getD}
-use Rattle.lfa.specs.File.{Bytes, linksOf, prefixesOf, linkOf, prefixGood}
+use Rattle.lfa.specs.File.{Bytes, linksOf, prefixesOf, linkBlocks, linkOf, prefixGood}
 use Rattle.lfa.specs.Refusal.{Row, badLink, parallelLink, badPrefix, routerTwice}
 use Rattle.block.specs.Judged.{Sized}
 use Rattle.network_file.specs.Struct.{fromOf, toOf}
@@ -43,6 +44,14 @@ unfoldable pub pairCell : ℕ → ℕ → ℕ
 pairCell a b = 64 * min a b + (a + b - min a b)
 
 -- ---- rows 8 and 9 over the entry of a prefix
+
+-- where the entry of prefix p stands
+unfoldable pub placeOf : Bytes → ℕ → ℕ
+placeOf b p = 512 * (1 + linkBlocks (linksOf b) + p / 14) + 4 + 34 * (p % 14)
+
+-- row 8 at a slot, its four bytes as one number: in a used slot the two low bytes are below n, another slot is zero
+unfoldable pub slotSound : ℕ → Bool → ℕ → Bool
+slotSound n used word = elim used [ true ↦ ltb (word % 65536) n | false ↦ eqb word 0 ]
 
 -- an entry that row 8 passes, as row 9 reads it: at most eight slots are used, and their routers are below 64
 pub record Slots (e : Bytes) : Type 0 where

@@ -1,8 +1,8 @@
 -- The network by value, as document 01's network gives it: columns of numbers, zeros past the last.
 -- Assumes nothing.
-use Prim.Native.Nat.{ℕ}
+use Prim.Native.Nat.{ℕ, zero, suc, _+_}
 use mathlib.Core.List.{List, map}
-use lib.ListN.{length}
+use lib.ListN.{length, set}
 use Rattle.lfa.specs.Lists.{below, flat}
 use Rattle.lfa.specs.Network as lfa
 use Rattle.lfa.specs.Network.{Link, link, Attachment, at, Target}
@@ -10,6 +10,7 @@ use Rattle.lfa.specs.File.{Bytes, linkOf, prefixOf}
 use Rattle.lfa.specs.FileOf.{pad}
 use Rattle.network_file.specs.declared.network.Network.{Network}
 use Rattle.network_file.specs.declared.link.LinkColumns.{LinkColumns}
+use Rattle.network_file.specs.declared.prefix.PrefixColumns.{PrefixColumns}
 
 -- ---- one number of a link or of an attachment
 
@@ -37,6 +38,11 @@ costOf (at r c) = c
 unfoldable pub column : ℕ → ℕ → (ℕ → ℕ) → List ℕ
 column size n f = pad size (map f (below n))
 
+-- a column after n stores, from cell k on
+unfoldable pub stored : ℕ → ℕ → (ℕ → ℕ) → List ℕ → List ℕ
+stored k zero f cells = cells
+stored k (suc n) f cells = set (stored k n f cells) (k + n) (f n)
+
 -- one number of each link
 unfoldable pub linkColumn : (Link → ℕ) → List Link → List ℕ
 linkColumn f links = pad 128 (map f links)
@@ -54,6 +60,9 @@ attachedColumn prefixes = pad 128 (map length prefixes)
 unfoldable pub linkColumns : List Link → LinkColumns
 linkColumns links =
     record { from = linkColumn fromOf links; to = linkColumn toOf links; out = linkColumn outOf links; back = linkColumn backOf links }
+
+unfoldable pub prefixColumns : List Target → PrefixColumns
+prefixColumns prefixes = record { attached = attachedColumn prefixes; at = slotColumn routerOf prefixes; own = slotColumn costOf prefixes }
 
 -- the network by value
 unfoldable pub structOf : lfa.Network → Network

@@ -5,9 +5,7 @@ use super::link::fill_links;
 use super::link::first_bad_link;
 use super::link::first_parallel_link;
 use super::network::Network;
-use super::prefix::fill_attached;
-use super::prefix::fill_costs;
-use super::prefix::fill_routers;
+use super::prefix::fill_prefixes;
 use super::prefix::first_bad_prefix;
 use super::prefix::first_router_twice;
 use field::word_at;
@@ -62,14 +60,15 @@ pub(crate) fn network_of(file: &[u8], routers: usize, links: usize, prefixes: us
     requires { ⌜ Counted (now file) links prefixes × (routers ≡ routersOf (now file)) × (firstRow (returned (loading (now file))) prefixRows ≡ none) ⌝ }
     ensures { λ r. ⌜ r ≡ structOf (networkOf (now (file .entry))) ⌝ }
 {
-    let columns = fill_links(file, links);
-    let attached = fill_attached(file, links, prefixes);
-    let at = fill_routers(file, links, prefixes);
-    let own = fill_costs(file, links, prefixes);
-    let from = columns.from;
-    let to = columns.to;
-    let out = columns.out;
-    let back = columns.back;
+    let ends = fill_links(file, links);
+    let slots = fill_prefixes(file, links, prefixes);
+    let from = ends.from;
+    let to = ends.to;
+    let out = ends.out;
+    let back = ends.back;
+    let attached = slots.attached;
+    let at = slots.at;
+    let own = slots.own;
     Network {
         routers,
         links,

@@ -1,17 +1,21 @@
 // Prefixes: rows 8 and 9, and their entries read into columns.
-use field::all_zero;
-use field::word_at;
 ghost use mathlib.Core.Path.{_≡_};
 ghost use mathlib.Core.Bool.{_&&_};
-ghost use Prim.Native.Nat.{_+_, _*_, _≤_, _<_};
-ghost use lib.Dec.{eqb, ltb};
-ghost use lib.ListN.{length};
+ghost use Prim.Native.Nat.{ℕ, _+_, _*_, _/_, _%_, _≤_, _<_};
+ghost use lib.ListN.{length, drop};
 ghost use Rattle.lfa.specs.Lists.{firstFailing, everyBelow};
-ghost use Rattle.lfa.specs.File.{routersOf, linksOf, prefixesOf, prefixEntry, attachments, slotGood, soundPrefix, prefixGood, slotNew, routersNew};
+ghost use Rattle.lfa.specs.File.{Bytes, routersOf, linksOf, prefixesOf, wordAt, allZero, prefixEntry, attachments, slot, slotGood, soundPrefix, prefixGood, slotNew, routersNew};
 ghost use Rattle.block.specs.First.{firstOr};
 ghost use Rattle.block.specs.Judged.{Sized};
-ghost use Rattle.network_file.specs.Struct.{routerOf, costOf, attachedColumn, slotColumn, prefixesIn};
-ghost use Rattle.network_file.specs.Entry.{Counted, PrefixesSound, Slots};
+ghost use Rattle.network_file.specs.Struct.{routerOf, costOf, stored, prefixColumns, prefixesIn};
+ghost use Rattle.network_file.specs.Entry.{Counted, placeOf, PrefixesSound, slotSound, Slots};
+
+// One column for the numbers of attachments, a cell for each prefix, and one for each number of a slot, eight cells to a prefix.
+pub(crate) struct PrefixColumns {
+    pub attached: [u8; 128],
+    pub at: [u8; 1024],
+    pub own: [u16; 1024],
+}
 
 // The 34 bytes of prefix p. The blocks of links, 84 to a block, stand before those of prefixes.
 pub(crate) fn prefix_part(file: &[u8], links: usize, p: usize) -> &[u8]
@@ -24,6 +28,53 @@ pub(crate) fn prefix_part(file: &[u8], links: usize, p: usize) -> &[u8]
     &file[start..end]
 }
 
+// Where the entry of prefix 0 stands.
+fn first_place(links: usize) -> usize
+    requires { ⌜ links ≤ 128 ⌝ }
+    ensures { λ r. ⌜ ((b : Bytes) → links ≡ linksOf b → r ≡ placeOf b 0) ⌝ }
+{
+    512 * (1 + (links + 83) / 84) + 4
+}
+
+// Where the entry after this one stands: behind it, or after 14 of them behind the label of the next block. A loop over the
+// prefixes that keeps the place needs no division.
+fn next_place(place: usize) -> usize
+    requires { ⌜ place ≤ 6656 ⌝ }
+    ensures { λ r. ⌜ ((b : Bytes) (p : ℕ) → place ≡ placeOf b p → r ≡ placeOf b (p + 1)) ⌝ }
+{
+    let next = place + 34;
+    if next % 512 == 480 {
+        return next + 36;
+    }
+    next
+}
+
+// The 34 bytes of the prefix whose entry stands at a place.
+fn entry_at(file: &[u8], place: usize) -> &[u8]
+    requires { ⌜ place + 34 ≤ length (now file) ⌝ }
+    ensures { λ r. ⌜ ((p : ℕ) → place ≡ placeOf (now (file .entry)) p → now r ≡ prefixEntry (now (file .entry)) p) × (length (now r) ≡ 34) ⌝ }
+{
+    let end = place + 34;
+    &file[place..end]
+}
+
+// A 32-bit number from its four bytes, least byte first.
+fn word32_of(a: u8, b: u8, c: u8, d: u8) -> u32
+    ensures { λ r. ⌜ (r % 65536 ≡ a + 256 * b) × (r / 65536 ≡ c + 256 * d) ⌝ }
+{
+    (a as u32) + 256 * (b as u32) + 65536 * (c as u32) + 16777216 * (d as u32)
+}
+
+// The four bytes of slot s as one number: router and zero byte in its low half, the cost in its high half. Eight such numbers are
+// read with fewer instructions than their 32 bytes.
+fn slot_word(entry: &[u8], s: usize) -> u32
+    requires { ⌜ (length (now entry) ≡ 34) × (s < 8) ⌝ }
+    ensures { λ r. ⌜ (r % 65536 ≡ wordAt (now (entry .entry)) (2 + 4 * s)) × (r / 65536 ≡ wordAt (now (entry .entry)) (4 + 4 * s)) ⌝ }
+{
+    let k = 2 + 4 * s;
+    word32_of(entry[k], entry[k + 1], entry[k + 2], entry[k + 3])
+}
+
 // A byte as a number to count and to index with.
 fn wide(byte: u8) -> usize
     ensures { λ r. ⌜ r ≡ byte ⌝ }
@@ -31,34 +82,37 @@ fn wide(byte: u8) -> usize
     byte as usize
 }
 
-// Row 8 at one used slot: its router is below N, and its second byte is zero.
-fn sound_slot(routers: usize, router: u8, second: u8) -> bool
-    ensures { λ r. ⌜ r ≡ (ltb router routers && eqb second 0) ⌝ }
+// Row 8 at one slot. The router of a used slot is below N and its second byte zero, that is, both as one number are below N; a slot
+// that is not used is zero.
+fn sound_slot(routers: usize, used: bool, word: u32) -> bool
+    ensures { λ r. ⌜ r ≡ slotSound routers used word ⌝ }
 {
-    if routers <= (router as usize) {
-        return false;
+    if used {
+        return ((word % 65536) as usize) < routers;
     }
-    second == 0
+    word == 0
 }
 
-// Row 8 at the used slots, of which there are `count`.
+// Row 8 at the eight slots, of which `count` are used. All eight are looked at, also after one that is wrong: a loop that always
+// makes eight turns is faster than one whose end the processor must guess.
 fn sound_slots(routers: usize, entry: &[u8], count: usize) -> bool
-    requires { ⌜ (length (now entry) ≡ 34) × (count ≤ 8) ⌝ }
-    ensures { λ r. ⌜ r ≡ everyBelow (slotGood routers (now (entry .entry))) count ⌝ }
+    requires { ⌜ (length (now entry) ≡ 34) × (count ≤ 8) × (routers ≤ 64) ⌝ }
+    ensures { λ r. ⌜ r ≡ (everyBelow (slotGood routers (now (entry .entry))) count && allZero (drop (2 + 4 * count) (now (entry .entry)))) ⌝ }
 {
+    let mut sound = true;
     let mut s: usize = 0;
-    while s < count {
-        if !sound_slot(routers, entry[2 + 4 * s], entry[3 + 4 * s]) {
-            return false;
+    while s < 8 {
+        if !sound_slot(routers, s < count, slot_word(entry, s)) {
+            sound = false;
         }
         s += 1;
     }
-    true
+    sound
 }
 
 // Row 8 at one prefix. The count is tested before a slot is looked at.
 fn sound_prefix(routers: usize, entry: &[u8]) -> bool
-    requires { ⌜ length (now entry) ≡ 34 ⌝ }
+    requires { ⌜ (length (now entry) ≡ 34) × (routers ≤ 64) ⌝ }
     ensures { λ r. ⌜ r ≡ soundPrefix routers (now (entry .entry)) ⌝ }
 {
     let count = wide(entry[0]);
@@ -71,11 +125,7 @@ fn sound_prefix(routers: usize, entry: &[u8]) -> bool
     if entry[1] != 0 {
         return false;
     }
-    if !sound_slots(routers, entry, count) {
-        return false;
-    }
-    let unused = 2 + 4 * count;
-    all_zero(&entry[unused..34])
+    sound_slots(routers, entry, count)
 }
 
 // Row 8: the first prefix that it turns down, or the number of prefixes.
@@ -83,11 +133,13 @@ pub(crate) fn first_bad_prefix(file: &[u8], routers: usize, links: usize, prefix
     requires { ⌜ Counted (now file) links prefixes × (routers ≡ routersOf (now file)) ⌝ }
     ensures { λ r. ⌜ r ≡ firstOr prefixes (firstFailing (prefixGood (now (file .entry))) 0 prefixes) ⌝ }
 {
+    let mut place = first_place(links);
     let mut p: usize = 0;
     while p < prefixes {
-        if !sound_prefix(routers, prefix_part(file, links, p)) {
+        if !sound_prefix(routers, entry_at(file, place)) {
             return p;
         }
+        place = next_place(place);
         p += 1;
     }
     prefixes
@@ -117,59 +169,59 @@ pub(crate) fn first_router_twice(file: &[u8], links: usize, prefixes: usize) -> 
     requires { ⌜ Counted (now file) links prefixes × PrefixesSound (now file) prefixes ⌝ }
     ensures { λ r. ⌜ r ≡ firstOr prefixes (firstFailing (routersNew (now (file .entry))) 0 prefixes) ⌝ }
 {
+    let mut place = first_place(links);
     let mut p: usize = 0;
     while p < prefixes {
-        if !new_routers(prefix_part(file, links, p)) {
+        if !new_routers(entry_at(file, place)) {
             return p;
         }
+        place = next_place(place);
         p += 1;
     }
     prefixes
 }
 
-// Reads how many attachments each prefix has.
-pub(crate) fn fill_attached(file: &[u8], links: usize, prefixes: usize) -> [u8; 128]
-    requires { ⌜ Counted (now file) links prefixes ⌝ }
-    ensures { λ r. ⌜ r ≡ attachedColumn (prefixesIn (now (file .entry)) prefixes) ⌝ }
+// Stores the routers of an entry's eight slots, used or not, into the cells of prefix p.
+fn store_routers(entry: &[u8], p: usize, at: &mut [u8; 1024])
+    requires { ⌜ (length (now entry) ≡ 34) × (p < 128) ⌝ }
+    ensures { λ _. ⌜ now (at .exit) ≡ stored (8 * p) 8 (λ s. routerOf (slot (now (entry .entry)) s)) (now (at .entry)) ⌝ }
+{
+    let mut s: usize = 0;
+    while s < 8 {
+        at[8 * p + s] = entry[2 + 4 * s];
+        s += 1;
+    }
+}
+
+// Stores their costs in the same way.
+fn store_costs(entry: &[u8], p: usize, own: &mut [u16; 1024])
+    requires { ⌜ (length (now entry) ≡ 34) × (p < 128) ⌝ }
+    ensures { λ _. ⌜ now (own .exit) ≡ stored (8 * p) 8 (λ s. costOf (slot (now (entry .entry)) s)) (now (own .entry)) ⌝ }
+{
+    let mut s: usize = 0;
+    while s < 8 {
+        own[8 * p + s] = (slot_word(entry, s) / 65536) as u16;
+        s += 1;
+    }
+}
+
+// Reads the entries of the prefixes into columns. Row 8 has passed, so the slots that are not used are zero.
+pub(crate) fn fill_prefixes(file: &[u8], links: usize, prefixes: usize) -> PrefixColumns
+    requires { ⌜ Counted (now file) links prefixes × PrefixesSound (now file) prefixes ⌝ }
+    ensures { λ r. ⌜ r ≡ prefixColumns (prefixesIn (now (file .entry)) prefixes) ⌝ }
 {
     let mut attached = [0u8; 128];
+    let mut at = [0u8; 1024];
+    let mut own = [0u16; 1024];
+    let mut place = first_place(links);
     let mut p: usize = 0;
     while p < prefixes {
-        let entry = prefix_part(file, links, p);
+        let entry = entry_at(file, place);
         attached[p] = entry[0];
+        store_routers(entry, p, &mut at);
+        store_costs(entry, p, &mut own);
+        place = next_place(place);
         p += 1;
     }
-    attached
-}
-
-// Reads the routers of the slots into a column, eight slots to a prefix. Row 8 has passed, so the slots that are not used are zero.
-pub(crate) fn fill_routers(file: &[u8], links: usize, prefixes: usize) -> [u8; 1024]
-    requires { ⌜ Counted (now file) links prefixes × PrefixesSound (now file) prefixes ⌝ }
-    ensures { λ r. ⌜ r ≡ slotColumn routerOf (prefixesIn (now (file .entry)) prefixes) ⌝ }
-{
-    let mut at = [0u8; 1024];
-    let slots = 8 * prefixes;
-    let mut k: usize = 0;
-    while k < slots {
-        let entry = prefix_part(file, links, k / 8);
-        at[k] = entry[2 + 4 * (k % 8)];
-        k += 1;
-    }
-    at
-}
-
-// Reads the costs of the slots into a column, in the same way.
-pub(crate) fn fill_costs(file: &[u8], links: usize, prefixes: usize) -> [u16; 1024]
-    requires { ⌜ Counted (now file) links prefixes × PrefixesSound (now file) prefixes ⌝ }
-    ensures { λ r. ⌜ r ≡ slotColumn costOf (prefixesIn (now (file .entry)) prefixes) ⌝ }
-{
-    let mut own = [0u16; 1024];
-    let slots = 8 * prefixes;
-    let mut k: usize = 0;
-    while k < slots {
-        let entry = prefix_part(file, links, k / 8);
-        own[k] = word_at(entry, 4 + 4 * (k % 8));
-        k += 1;
-    }
-    own
+    PrefixColumns { attached, at, own }
 }

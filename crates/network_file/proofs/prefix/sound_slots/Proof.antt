@@ -1,49 +1,32 @@
--- `sound_slots` is the test of row 8 at the used slots. The invariant: each slot before s passes.
+-- `sound_slots` is the test of row 8 at the slots. The invariant: `sound` tells whether the slots before s pass.
 -- Assumes nothing.
 use Prim.Native.Nat.{_-_, _≤_}
 use mathlib.Core.Path.{_≡_, sym, _∙_}
-use mathlib.Core.Bool.{true}
+use mathlib.Core.Logic.{⊎-elim}
 use native.Mathlib.Omega.{arith}
+use denote.Ref.{now}
 use borrow.Author.Tests.{not-true, not-false}
 use borrow.Author.Needs.{needs}
 use Rattle.lfa.specs.Lists.{everyBelow}
-use Rattle.lfa.specs.File.{slotGood}
-use Rattle.network_file.proofs.PrefixLaws.{every-none, every-more, every-fails, slot-tested}
+use Rattle.network_file.proofs.PrefixLaws.{every-none}
+use Rattle.network_file.proofs.SlotLaws.{slotPasses, slot-tested, passed-more, failed-more, eight-tested}
 use Rattle.network_file.proofs.prefix.sound_slots.Statement.{statement}
 use Rattle.network_file.proofs.prefix.sound_slots.Tie as tie
 
 abbrev Inv-loop : tie.InvT-loop
-Inv-loop routers entry count s₀ s = (s ≤ count) × (everyBelow (slotGood routers entry) s ≡ true)
+Inv-loop routers entry count sound₀ s₀ sound s = (s ≤ 8) × (sound ≡ everyBelow (slotPasses routers entry count) s)
 
 abbrev μ-loop : tie.MeasureT-loop
-μ-loop routers entry count s₀ s = count - s
+μ-loop routers entry count sound₀ s₀ sound s = 8 - s
 
 loop-holds : tie.Need-loop-holds Inv-loop μ-loop
-loop-holds c = (omega arith, every-none _)
+loop-holds c = (omega arith, sym (every-none _))
 
-mul-sound-slot : tie.Need-mul-sound-slot Inv-loop μ-loop
-mul-sound-slot c = search needs
-
-add-sound-slot : tie.Need-add-sound-slot Inv-loop μ-loop
-add-sound-slot c = search needs
-
-shared-slice-read-sound-slot : tie.Need-shared-slice-read-sound-slot Inv-loop μ-loop
-shared-slice-read-sound-slot c = search needs
-
-mul-sound-slot-2 : tie.Need-mul-sound-slot-2 Inv-loop μ-loop
-mul-sound-slot-2 c = search needs
-
-add-sound-slot-2 : tie.Need-add-sound-slot-2 Inv-loop μ-loop
-add-sound-slot-2 c = search needs
-
-shared-slice-read-sound-slot-2 : tie.Need-shared-slice-read-sound-slot-2 Inv-loop μ-loop
-shared-slice-read-sound-slot-2 c = search needs
+slot-word-requires : tie.Need-slot-word-requires Inv-loop μ-loop
+slot-word-requires c κs = search needs
 
 sound-slot-requires : tie.Need-sound-slot-requires Inv-loop μ-loop
 sound-slot-requires c κs = search needs
-
-returns : tie.Need-returns Inv-loop μ-loop
-returns c = every-fails _ _ _ (c .before .before .before .before .loop-test .taken) (slot-tested _ _ _ _ (c .before .sound-slot .ensures) ∙ not-true _ (c .if1 .taken))
 
 add-s : tie.Need-add-s Inv-loop μ-loop
 add-s c = search needs
@@ -53,14 +36,20 @@ loop-less c = search needs
 
 loop-again : tie.Need-loop-again Inv-loop μ-loop
 loop-again c =
-    let l = c .before .before .before .before .before .loop in
-    (omega arith, every-more _ _ (l .inv .1) (slot-tested _ _ _ _ (c .before .sound-slot .ensures) ∙ not-false _ (c .if1 .left)))
+    let word = c .before .before in
+    let l = word .before .before .loop in
+    let a = word .before .before .before .before .args in
+    let tested = slot-tested (a .routers) (now (a .entry)) (a .count) (l .s) (word .slot-word .result) (word .slot-word .ensures .0) (word .slot-word .ensures .1) (c .before .sound-slot .ensures) in (
+      omega arith,
+      ⊎-elim (λ w. failed-more _ (l .s) (tested ∙ not-true _ (w .0 .taken)) (w .1)) (λ w. passed-more _ (l .s) (tested ∙ not-false _ (w .0 .left)) (w .1) (l .inv .1)) (c .if1 .came),
+    )
 
-returns-2 : tie.Need-returns-2 Inv-loop μ-loop
-returns-2 c =
+returns : tie.Need-returns Inv-loop μ-loop
+returns c =
     let l = c .before .loop in
-    let e : l .s ≡ c .before .before .before .args .count = omega arith in
-    rw (← e) (sym (l .inv .1))
+    let a = c .before .before .before in
+    let e : l .s ≡ 8 = omega arith in
+    rw e at (l .inv .1) ∙ eight-tested _ _ _ (a .pre .0) (a .pre .1) (a .pre .2)
 
 pub sound-slots-spec : {M : Type 1} → statement M
 sound-slots-spec =
@@ -69,15 +58,9 @@ sound-slots-spec =
     Inv-loop
     μ-loop
     loop-holds
-    mul-sound-slot
-    add-sound-slot
-    shared-slice-read-sound-slot
-    mul-sound-slot-2
-    add-sound-slot-2
-    shared-slice-read-sound-slot-2
+    slot-word-requires
     sound-slot-requires
-    returns
     add-s
     loop-less
     loop-again
-    returns-2)
+    returns)
