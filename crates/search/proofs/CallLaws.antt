@@ -7,7 +7,7 @@ use mathlib.Core.List.{List}
 use native.Mathlib.Omega.{arith}
 use lib.Dec.{ltb, leb}
 use lib.ListN.{length, getD}
-use borrow.Author.Tests.{ltb-true, leb-true, lt-ltb, le-ltb, le-leb, lt-leb}
+use borrow.Author.Tests.{ltb-true, leb-true, lt-ltb, le-ltb, le-leb}
 use Rattle.lfa.specs.Network.{Link, link, Arc, arcs}
 use Rattle.lfa.specs.Distance.{distances, distanceIn, filled}
 use Rattle.lfa.specs.Space.{Protected, protectedBy, protected, Space, spaceOf}

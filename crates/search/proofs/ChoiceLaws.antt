@@ -12,18 +12,17 @@ use types.Run.{OneOf}
 use denote.Enum.Declared.{tagOf}
 use borrow.Author.Tests.{eqb-false}
 use Rattle.lfa.specs.Lists.{countUp, below, keepIf, select, flat}
-use Rattle.lfa.specs.Network.{Target, arcsFrom}
+use Rattle.lfa.specs.Network.{Target}
 use Rattle.lfa.specs.Repair.{Pair, pair, Keys, key, keysOf, pairKey, noLater, earlier, choose, Outcome, noneServes, outcomeOf}
 use Rattle.lfa.specs.Laws.Order.{later-gives, later-make, later-trans, later-total}
 use Rattle.lfa.specs.Distance.{unreachable}
-use Rattle.lfa.specs.Space.{Protected, FirstHop, first, firstHops, setOf}
-use Rattle.distance.specs.Columns.{linksIn, arcsIn}
+use Rattle.lfa.specs.Space.{Protected, setOf}
 use Rattle.distance.specs.Laws.List.{below-more, select-append}
 use Rattle.search.specs.declared.pair.Chosen.{Chosen}
 use Rattle.search.specs.declared.pair.Best.{Best}
 use Rattle.search.specs.declared.pair.Best.the-variants.{Nothing, Pair as FoundPair}
-use Rattle.search.specs.Choice.{keysIn, foundIn, outcomeFor, addKeys, firstOf, classBy, keysAt, mayEnd, hopKeys, endsOf, keysOfHop, arcKeys, overFirst, keysOver}
-use Rattle.search.specs.Spaces.{clearsTo, leavesNear}
+use Rattle.search.specs.Choice.{keysIn, foundIn, outcomeFor, addKeys, firstOf, classBy, keysAt, mayEnd, hopKeys, endsOf, keysOfHop, overFirst, keysOver}
+use Rattle.search.specs.Spaces.{clearsTo, sideOf, firstBy, firstsIn}
 use Rattle.search.proofs.ListLaws.{later-differ, later-equal, later-last, flat-append}
 use Rattle.search.proofs.SpaceLaws.{firsts-more}
 use Rattle.search.proofs.pair.Best.{the-type}
@@ -108,55 +107,27 @@ module _ (d : ℕ → ℕ → ℕ) (near far : ℕ) (h : ℕ → ℕ) (n c set y
   end-same o t e =
       e ∙ sym (ap (firstOf o) (hop-more ∙ ap (λ (b : Bool). hopKeys d near far h n c set y ++ map (keysAt d near h n c) (keepIf b y [])) t ∙ append-nil (hopKeys d near far h n c set y)))
 
--- a hop that is no first hop has no pairs, and the pairs of a first hop are tried
-module _ (d : ℕ → ℕ → ℕ) (q : Protected) (h : ℕ → ℕ) (mask n x z c : ℕ) where
-  pub hop-skipped : (found : Option Keys) → leavesNear x z (q .near) (q .far) ≡ false → found ≡ firstOf found (arcKeys d q h mask n x z c)
-  unfolding arcKeys firstOf
-  hop-skipped found e = rw (e, firstOf)
+-- the pairs of one first hop more of a column
+module _ (d : ℕ → ℕ → ℕ) (q : Protected) (h : ℕ → ℕ) (mask n : ℕ) (from to out back arcs : List ℕ) where
+  pub none-tried : none ≡ firstOf none (keysOver d q h mask n (firstsIn from to out back 0 arcs))
+  unfolding firstOf keysOver firstsIn below countUp flat
+  none-tried = refl
 
-  pub hop-tried : {next : Option Keys} {m cost set ends : ℕ} (found : Option Keys) → leavesNear x z (q .near) (q .far) ≡ true → m ≡ z → cost ≡ c → set ≡ setOf n (clearsTo d q m) → ends ≡ bitAnd mask set →
-      next ≡ firstOf found (hopKeys d (q .near) (q .far) h m cost ends n) → next ≡ firstOf found (arcKeys d q h mask n x z c)
-  unfolding arcKeys keysOfHop endsOf
-  hop-tried {next} {m} {cost} {set} {ends} found e em ec es ee s =
-      let one : hopKeys d (q .near) (q .far) h m cost ends n ≡ keysOfHop d q h mask n z c = rw (ee, es, em, ec) refl in
-      s ∙ ap (firstOf found) (one ∙ rw (e, arcKeys))
-
--- both directions of one link more
-module _ (d : ℕ → ℕ → ℕ) (q : Protected) (h : ℕ → ℕ) (mask n : ℕ) where
-  over-append : (l m : List FirstHop) → keysOver d q h mask n (l ++ m) ≡ keysOver d q h mask n l ++ keysOver d q h mask n m
-  unfolding keysOver
-  over-append l m = ap flat (map-append (overFirst d q h mask n) l m) ∙ flat-append (map (overFirst d q h mask n) l) (map (overFirst d q h mask n) m)
-
-  over-keep : (x z c l : ℕ) → keysOver d q h mask n (keepIf (leavesNear x z (q .near) (q .far)) (first z c l) []) ≡ arcKeys d q h mask n x z c
-  unfolding keysOver arcKeys overFirst flat
-  over-keep x z c l = go (leavesNear x z (q .near) (q .far))
-    where
-      go : (t : Bool) → flat (map (overFirst d q h mask n) (keepIf t (first z c l) [])) ≡ elim t as (λ _. List Keys) [ true ↦ keysOfHop d q h mask n z c | false ↦ [] ]
-      go true = append-nil (keysOfHop d q h mask n z c)
-      go false = refl
-
-  pub link-tried : {found one two : Option Keys} (from to out back : List ℕ) (k : ℕ) →
-      let a = getD from k 0 in
-      let b = getD to k 0 in
-      found ≡ firstOf none (keysOver d q h mask n (firstHops q (arcsIn from to out back k))) → one ≡ firstOf found (arcKeys d q h mask n a b (getD out k 0)) →
-      two ≡ firstOf one (arcKeys d q h mask n b a (getD back k 0)) → two ≡ firstOf none (keysOver d q h mask n (firstHops q (arcsIn from to out back (k + 1))))
-  link-tried {found} {one} {two} from to out back k e e₁ e₂ =
-      let a = getD from k 0 in
-      let b = getD to k 0 in
-      let keys₁ = arcKeys d q h mask n a b (getD out k 0) in
-      let keys₂ = arcKeys d q h mask n b a (getD back k 0) in
-      let f₁ = keepIf (leavesNear a b (q .near) (q .far)) (first b (getD out k 0) k) [] in
-      let f₂ = keepIf (leavesNear b a (q .near) (q .far)) (first a (getD back k 0) k) [] in
-      let before = firstHops q (arcsIn from to out back k) in
-      let all : keysOver d q h mask n (firstHops q (arcsIn from to out back (k + 1))) ≡ keysOver d q h mask n before ++ (keys₁ ++ keys₂) =
-      ap (keysOver d q h mask n) (firsts-more q from to out back k) ∙ over-append before (f₁ ++ f₂)
-      ∙ ap (λ (l : List Keys). keysOver d q h mask n before ++ l) (over-append f₁ f₂ ∙ ap₂ (λ (l m : List Keys). l ++ m) (over-keep a b (getD out k 0) k) (over-keep b a (getD back k 0) k)) in
-      e₂ ∙ ap (λ (o : Option Keys). firstOf o keys₂) (e₁ ∙ ap (λ (o : Option Keys). firstOf o keys₁) e)
-      ∙ sym (ap (firstOf none) all ∙ first-append none (keysOver d q h mask n before) (keys₁ ++ keys₂) ∙ first-append (firstOf none (keysOver d q h mask n before)) keys₁ keys₂)
-
-  pub none-tried : (from to out back : List ℕ) → none ≡ firstOf none (keysOver d q h mask n (firstHops q (arcsIn from to out back 0)))
-  unfolding firstOf keysOver firstHops arcsIn linksIn arcsFrom below countUp select flat
-  none-tried from to out back = refl
+  pub hop-tried : {found next : Option Keys} {m c set ends : ℕ} (i : ℕ) → found ≡ firstOf none (keysOver d q h mask n (firstsIn from to out back i arcs)) →
+      m ≡ sideOf (getD arcs i 0) to from → c ≡ sideOf (getD arcs i 0) out back → set ≡ setOf n (clearsTo d q m) → ends ≡ bitAnd mask set →
+      next ≡ firstOf found (hopKeys d (q .near) (q .far) h m c ends n) → next ≡ firstOf none (keysOver d q h mask n (firstsIn from to out back (i + 1) arcs))
+  unfolding keysOver overFirst firstBy keysOfHop endsOf flat
+  hop-tried {found} {next} {m} {c} {set} {ends} i e em ec es ee s =
+      let before = firstsIn from to out back i arcs in
+      let f = firstBy from to out back (getD arcs i 0) in
+      let keys = overFirst d q h mask n f in
+      let one : hopKeys d (q .near) (q .far) h m c ends n ≡ keys = rw (ee, es, em, ec) refl in
+      let all : keysOver d q h mask n (firstsIn from to out back (i + 1) arcs) ≡ keysOver d q h mask n before ++ keys =
+      ap (keysOver d q h mask n) (firsts-more from to out back i arcs)
+      ∙ ap flat (map-append (overFirst d q h mask n) before (f ∷ []))
+      ∙ flat-append (map (overFirst d q h mask n) before) (keys ∷ [])
+      ∙ ap (λ (l : List Keys). keysOver d q h mask n before ++ l) (append-nil keys) in
+      s ∙ ap₂ firstOf e one ∙ sym (ap (firstOf none) all ∙ first-append none (keysOver d q h mask n before) keys)
 
 -- ---- the pair that is chosen
 

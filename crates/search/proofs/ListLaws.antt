@@ -13,9 +13,8 @@ use lib.Bits.{bitOr, or-shifted-r}
 use borrow.Author.Tests.{le-ltb, eq-eqb, ne-eqb, le-leb, lt-leb, ltb-true, ltb-false, eqb-true, eqb-false}
 use Rattle.lfa.specs.Laws.Test.{and-left, and-right, and-make, same-test}
 use Rattle.lfa.specs.Repair.{noLater}
-use Rattle.lfa.specs.Lists.{keepIf, select, anyOf, flat, one}
-use Rattle.lfa.specs.Network.{Arc, arc}
-use Rattle.lfa.specs.Space.{Protected, first, isFirst, firstOver, firstHops, setOf}
+use Rattle.lfa.specs.Lists.{keepIf, select, flat, one}
+use Rattle.lfa.specs.Space.{setOf}
 use Rattle.lfa.specs.Laws.Set.{setOf-lt}
 use Rattle.distance.specs.Laws.List.{select-append}
 
@@ -38,35 +37,6 @@ module _ {A : Type 0} where
       go : (b : Bool) → select p (select q l) ≡ select (λ x. q x && p x) l → select p (keepIf b x (select q l)) ≡ keepIf (b && p x) x (select (λ x. q x && p x) l)
       go true rest = ap (keepIf (p x) x) rest
       go false rest = rest
-
-module _ {A : Type 0} (p : A → Bool) where
-  any-append : (l m : List A) → anyOf p (l ++ m) ≡ (anyOf p l || anyOf p m)
-  unfolding anyOf
-  any-append [] m = refl
-  any-append (x ∷ l) m = go (p x) (any-append l m)
-    where
-      go : (b : Bool) → anyOf p (l ++ m) ≡ (anyOf p l || anyOf p m) → (b || anyOf p (l ++ m)) ≡ ((b || anyOf p l) || anyOf p m)
-      go true rest = refl
-      go false rest = rest
-
-  any-keep : (t : Bool) (x : A) → anyOf p (keepIf t x []) ≡ (t && p x)
-  unfolding anyOf
-  any-keep true x = go (p x)
-    where
-      go : (b : Bool) → (b || false) ≡ b
-      go true = refl
-      go false = refl
-  any-keep false x = refl
-
-  -- a test over a list and two elements more that may be left out
-  pub any-two : (l : List A) (s t : Bool) (x y : A) → anyOf p (l ++ (keepIf s x [] ++ keepIf t y [])) ≡ ((anyOf p l || (s && p x)) || (t && p y))
-  any-two l s t x y =
-      any-append l (keepIf s x [] ++ keepIf t y []) ∙ ap (λ (b : Bool). anyOf p l || b) (any-append (keepIf s x []) (keepIf t y []) ∙ ap₂ (λ (b c : Bool). b || c) (any-keep s x) (any-keep t y))
-      ∙ go (anyOf p l) (s && p x) (t && p y)
-    where
-      go : (a b c : Bool) → (a || (b || c)) ≡ ((a || b) || c)
-      go true b c = refl
-      go false b c = refl
 
 module _ {A B : Type 0} where
   pub select-map : (p : B → Bool) (f : A → B) (l : List A) → select p (map f l) ≡ map f (select (λ x. p (f x)) l)
@@ -92,24 +62,6 @@ module _ {A B : Type 0} where
   unfolding flat
   map-flat g f [] = refl
   map-flat g f (x ∷ l) = map-append g (f x) (flat (map f l)) ∙ ap (λ (k : List _). map g (f x) ++ k) (map-flat g f l)
-
--- ---- the arcs of one link more
-
--- the first hops among two lists of arcs, and those of the two arcs of a link
-pub firsts-append : (q : Protected) (l m : List Arc) → firstHops q (l ++ m) ≡ firstHops q l ++ firstHops q m
-unfolding firstHops
-firsts-append q l m = rw (select-append (isFirst q) l m) (simp map-append)
-
-pub firsts-two : (q : Protected) (a b ab ba k : ℕ) →
-    firstHops q (arc a b ab k ∷ arc b a ba k ∷ []) ≡ keepIf (isFirst q (arc a b ab k)) (first b ab k) [] ++ keepIf (isFirst q (arc b a ba k)) (first a ba k) []
-unfolding firstHops select firstOver
-firsts-two q a b ab ba k = go (isFirst q (arc a b ab k)) (isFirst q (arc b a ba k))
-  where
-    go : (s t : Bool) → map firstOver (keepIf s (arc a b ab k) (keepIf t (arc b a ba k) [])) ≡ keepIf s (first b ab k) [] ++ keepIf t (first a ba k) []
-    go true true = refl
-    go true false = refl
-    go false true = refl
-    go false false = refl
 
 -- ---- sets of routers
 

@@ -15,7 +15,7 @@ use Rattle.search.specs.declared.pair.Best.{Best}
 use Rattle.search.specs.declared.pair.Best.the-variants.{Nothing, Pair}
 use Rattle.search.specs.declared.Found.{Found}
 use Rattle.search.specs.declared.Found.the-variants.{Unreachable, Untouched, Nothing as None, Pair as Serving}
-use Rattle.search.specs.Spaces.{clearsTo, leavesNear}
+use Rattle.search.specs.Spaces.{clearsTo}
 
 -- ---- what the code holds
 
@@ -76,11 +76,7 @@ endsOf d q mask routers n = bitAnd mask (setOf routers (clearsTo d q n))
 unfoldable pub keysOfHop : (ℕ → ℕ → ℕ) → Protected → (h : ℕ → ℕ) → (mask routers n c : ℕ) → List Keys
 keysOfHop d q h mask routers n c = hopKeys d (q .near) (q .far) h n c (endsOf d q mask routers n) routers
 
--- those of the hop from x to z: none where it is no first hop
-unfoldable pub arcKeys : (ℕ → ℕ → ℕ) → Protected → (h : ℕ → ℕ) → (mask routers x z c : ℕ) → List Keys
-arcKeys d q h mask routers x z c = elim (leavesNear x z (q .near) (q .far)) [ true ↦ keysOfHop d q h mask routers z c | false ↦ [] ]
-
--- and those of all first hops
+-- and those of first hops
 unfoldable pub overFirst : (ℕ → ℕ → ℕ) → Protected → (h : ℕ → ℕ) → (mask routers : ℕ) → FirstHop → List Keys
 overFirst d q h mask routers (first n c l) = keysOfHop d q h mask routers n c
 

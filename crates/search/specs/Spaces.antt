@@ -1,14 +1,15 @@
--- The tests that the code computes for spaces: the protected link, avoiding by distances, and first hops.
+-- The tests that the code computes for spaces: the protected link, avoiding by distances, and the first hops in a column.
 -- Assumes nothing.
-use Prim.Native.Nat.{ℕ, _+_, min}
-use mathlib.Core.Bool.{Bool, not, _&&_}
-use mathlib.Core.List.{List}
+use Prim.Native.Nat.{ℕ, _+_, _*_, _/_, _%_, _≤_, _<_, min}
+use mathlib.Core.Path.{_≡_}
+use mathlib.Core.Bool.{Bool, true, false, not, _&&_}
+use mathlib.Core.List.{List, map}
 use lib.Dec.{ltb, eqb}
 use lib.ListN.{getD}
-use Rattle.lfa.specs.Lists.{anyOf}
+use Rattle.lfa.specs.Lists.{below, select, anyOf}
 use Rattle.lfa.specs.Distance.{unreachable}
 use Rattle.lfa.specs.Network.{link}
-use Rattle.lfa.specs.Space.{Protected, protectedBy, FirstHop, hopRouter, Space, pSpace, extendedP, qSpace}
+use Rattle.lfa.specs.Space.{Protected, protectedBy, FirstHop, first, hopRouter, Space, pSpace, extendedP, qSpace}
 use Rattle.search.specs.declared.Link.{Link}
 use Rattle.search.specs.declared.Which.{Which}
 use Rattle.search.specs.declared.Which.the-variants.{P, ExtendedP, Q}
@@ -33,13 +34,36 @@ clears d q h x = belowBoth (h x) (d x (q .near)) (d x (q .far)) (q .out) (q .bac
 unfoldable pub clearsTo : (ℕ → ℕ → ℕ) → Protected → (x r : ℕ) → Bool
 clearsTo d q x r = clears d q (λ z. d z r) x
 
--- a hop from x to z is a first hop: x is S and z is not E
-abbrev pub leavesNear : (x z near far : ℕ) → Bool
-leavesNear x z near far = eqb x near && not (eqb z far)
+-- What two columns hold for an arc: arc 2k leads over link k from its first router to its second and reads the first column, arc
+-- 2k + 1 leads the other way and reads the second.
+unfoldable pub sideOf : ℕ → (there back : List ℕ) → ℕ
+sideOf a there back = elim (eqb (a % 2) 0) [ true ↦ getD there (a / 2) 0 | false ↦ getD back (a / 2) 0 ]
 
--- and z avoids the link on the way to router r, by the distances
-unfoldable pub hopClears : (ℕ → ℕ → ℕ) → Protected → (x z r : ℕ) → Bool
-hopClears d q x z r = leavesNear x z (q .near) (q .far) && clearsTo d q z r
+-- an arc is a first hop: it leaves S and does not lead to E
+unfoldable pub leavesNear : (near far : ℕ) → (from to : List ℕ) → ℕ → Bool
+leavesNear near far from to a = eqb (sideOf a from to) near && not (eqb (sideOf a to from) far)
+
+-- the first `count` of a column of arcs
+unfoldable pub arcsListed : ℕ → (arcs : List ℕ) → List ℕ
+arcsListed count arcs = map (λ i. getD arcs i 0) (below count)
+
+-- the column holds the first hops among the arcs of the links, in file order
+pub record Listed (q : Protected) (from to : List ℕ) (links count : ℕ) (arcs : List ℕ) : Type 0 where
+  pub few : count ≤ 256
+  pub all : arcsListed count arcs ≡ select (leavesNear (q .near) (q .far) from to) (below (2 * links))
+
+-- the arcs that a column holds lead to routers below n
+pub record HopsWithin (n : ℕ) (from to : List ℕ) (count : ℕ) (arcs : List ℕ) : Type 0 where
+  pub few : count ≤ 256
+  pub head-in : (i : ℕ) → i < count → sideOf (getD arcs i 0) to from < n
+
+-- an arc as a first hop: the router that it leads to, its cost and its link
+unfoldable pub firstBy : (from to out back : List ℕ) → ℕ → FirstHop
+firstBy from to out back a = first (sideOf a to from) (sideOf a out back) (a / 2)
+
+-- the first hops that a column of arcs holds
+unfoldable pub firstsIn : (from to out back : List ℕ) → ℕ → (arcs : List ℕ) → List FirstHop
+firstsIn from to out back count arcs = map (λ i. firstBy from to out back (getD arcs i 0)) (below count)
 
 -- one of the first hops avoids the link on the way to router r, by the distances
 unfoldable pub someClears : (ℕ → ℕ → ℕ) → Protected → List FirstHop → ℕ → Bool

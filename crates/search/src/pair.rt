@@ -6,14 +6,13 @@ ghost use Prim.Native.Nat.{_*_, _≤_, _<_};
 ghost use lib.ListN.{length, getD};
 ghost use Rattle.lfa.specs.Network.{Target};
 ghost use Rattle.lfa.specs.Distance.{towards};
-ghost use Rattle.lfa.specs.Space.{firstHops};
 ghost use Rattle.lfa.specs.Repair.{key, noLater, orElse, firstPair, outcomeOf, linkOutcome, prefixOutcome};
 ghost use Rattle.distance.specs.Columns.{arcsIn};
 ghost use Rattle.metric.specs.Fit.{ColumnsWithin, SlotsWithin};
 ghost use Rattle.distance.specs.Area.{held, column, slotsIn};
 ghost use Rattle.search.specs.Known.{Readable, Known};
-ghost use Rattle.search.specs.Spaces.{asked};
-ghost use Rattle.search.specs.Choice.{keysIn, foundIn, outcomeFor, outcomeIn, addKeys, firstOf, classBy, keysAt, mayEnd, hopKeys, arcKeys, keysOver};
+ghost use Rattle.search.specs.Spaces.{asked, HopsWithin, firstsIn};
+ghost use Rattle.search.specs.Choice.{keysIn, foundIn, outcomeFor, outcomeIn, addKeys, firstOf, classBy, keysAt, mayEnd, hopKeys, keysOver};
 ghost use Rattle.search.specs.Calls.{columnsOf, LinkTold, PrefixTold};
 use crate::Found;
 use crate::FoundPair;
@@ -21,6 +20,7 @@ use crate::Link;
 use crate::protected::protect;
 use crate::protected::ready;
 use crate::space;
+use crate::space::FirstHops;
 use distance::towards_prefix;
 use distance::towards_router;
 use metric::Distance;
@@ -150,65 +150,32 @@ fn over_hop(
     best
 }
 
-// The earliest of what was found and, where the hop from x to z is a first hop, its pairs with an endpoint in the mask that z avoids
-// the link on the way to.
-fn over_arc(
-    dist: &[u32],
-    n: usize,
-    link: Link,
-    target: &[u32; 64],
-    x: u8,
-    z: u8,
-    cost: u16,
-    mask: u64,
-    before: Best,
-) -> Best
-    requires { ⌜ Readable n (asked link) (now dist) × (z < n) ⌝ }
-    ensures { λ r. ⌜ foundIn r ≡ firstOf (foundIn before) (arcKeys (held n (now (dist .entry))) (asked link) (λ x. getD (now (target .entry)) x 0) mask n x z cost) ⌝ }
-{
-    let near = link.near;
-    let far = link.far;
-    if !space::leaves(x, z, near, far) {
-        return before;
-    }
-    let hop = space::wide(z);
-    let ends = mask & space::avoiding_from(dist, n, link, hop);
-    over_hop(
-        dist,
-        n,
-        near,
-        far,
-        target,
-        hop,
-        space::cost_of(cost),
-        ends,
-        before,
-    )
-}
-
 // The earliest of the pairs of the first hops with an endpoint in the mask that the first hop avoids the link on the way to.
 pub(crate) fn search(
     dist: &[u32],
     n: usize,
-    links: usize,
     from: &[u8; 128],
     to: &[u8; 128],
     out: &[u16; 128],
     back: &[u16; 128],
     link: Link,
     target: &[u32; 64],
+    hops: FirstHops,
     mask: u64,
 ) -> Best
-    requires { ⌜ Readable n (asked link) (now dist) × ColumnsWithin n links (now from) (now to) ⌝ }
+    requires { ⌜ Readable n (asked link) (now dist) × HopsWithin n (now from) (now to) (hops .count) (hops .arcs) ⌝ }
     ensures { λ r. ⌜ foundIn r ≡ firstOf none (keysOver (held n (now (dist .entry))) (asked link) (λ x. getD (now (target .entry)) x 0) mask n
-        (firstHops (asked link) (arcsIn (now (from .entry)) (now (to .entry)) (now (out .entry)) (now (back .entry)) links))) ⌝ }
+        (firstsIn (now (from .entry)) (now (to .entry)) (now (out .entry)) (now (back .entry)) (hops .count) (hops .arcs))) ⌝ }
 {
     let mut best = Best::Nothing;
-    let mut k = 0;
-    while k < links {
-        best = over_arc(dist, n, link, target, from[k], to[k], out[k], mask, best);
-        best = over_arc(dist, n, link, target, to[k], from[k], back[k], mask, best);
-        k += 1;
+    let mut i = 0;
+    while i < hops.count {
+        let arc = hops.arcs[i];
+        let hop = space::head_of(arc, from, to);
+        let cost = space::price_of(arc, out, back);
+        let ends = mask & space::avoiding_from(dist, n, link, hop);
+        best = over_hop(dist, n, link.near, link.far, target, hop, cost, ends, best);
+        i += 1;
     }
     best
 }
@@ -231,9 +198,10 @@ pub(crate) fn first_pair(
         → outcomeFor (foundIn r) ≡ outcomeOf (held n (now (dist .entry))) (asked link) t
         (firstPair n (arcsIn (now (from .entry)) (now (to .entry)) (now (out .entry)) (now (back .entry)) links) (held n (now (dist .entry))) (asked link) t)) ⌝ }
 {
-    let extended = space::extended_p(dist, n, links, from, to, link);
+    let hops = space::first_hops(links, from, to, link);
+    let extended = space::extended_p(dist, n, from, to, link, hops);
     let mask = extended & space::avoiding_to(dist, n, link, target);
-    search(dist, n, links, from, to, out, back, link, target, mask)
+    search(dist, n, from, to, out, back, link, target, hops, mask)
 }
 
 // What was found, told without the distance that ordered it.

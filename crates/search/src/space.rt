@@ -3,13 +3,13 @@ ghost use mathlib.Core.Path.{_≡_};
 ghost use mathlib.Core.List.{List, []};
 ghost use Prim.Native.Nat.{ℕ, _*_, _≤_, _<_};
 ghost use lib.ListN.{length, getD};
-ghost use Rattle.lfa.specs.Network.{Arc, router};
-ghost use Rattle.lfa.specs.Space.{pSpace, qSpace, spaceOf, setOf, firstHops};
+ghost use Rattle.lfa.specs.Network.{Arc};
+ghost use Rattle.lfa.specs.Space.{pSpace, qSpace, spaceOf, setOf};
 ghost use Rattle.metric.specs.Fit.{ColumnsWithin};
 ghost use Rattle.distance.specs.Columns.{arcsIn};
 ghost use Rattle.distance.specs.Area.{held};
 ghost use Rattle.search.specs.Known.{Readable, Known};
-ghost use Rattle.search.specs.Spaces.{asked, belowBoth, clears, clearsTo, leavesNear, hopClears, someClears, crossesOut, spaceNamed};
+ghost use Rattle.search.specs.Spaces.{asked, belowBoth, clears, clearsTo, sideOf, leavesNear, Listed, HopsWithin, firstsIn, someClears, crossesOut, spaceNamed};
 ghost use Rattle.search.specs.Calls.{columnsOf, SpaceTold};
 use crate::Link;
 use crate::Which;
@@ -93,42 +93,82 @@ pub(crate) fn avoiding_from(dist: &[u32], n: usize, link: Link, x: usize) -> u64
     set
 }
 
-// Whether a hop from x to z is a first hop: it leaves S and does not lead to E.
-pub(crate) fn leaves(x: u8, z: u8, near: usize, far: usize) -> bool
-    ensures { λ r. ⌜ r ≡ leavesNear x z near far ⌝ }
+// The router that an arc leads to. Arc 2k leads over link k from its first router to its second, and arc 2k + 1 the other way; the
+// router that an arc leads from is the one that it leads to when the two columns change places.
+pub(crate) fn head_of(arc: u8, from: &[u8; 128], to: &[u8; 128]) -> usize
+    ensures { λ r. ⌜ r ≡ sideOf arc (now (to .entry)) (now (from .entry)) ⌝ }
 {
-    wide(x) == near && wide(z) != far
+    let k = wide(arc / 2);
+    if arc % 2 == 0 {
+        return wide(to[k]);
+    }
+    wide(from[k])
 }
 
-// The routers that z avoids the link on the way to, where the hop from x to z is a first hop, and else none.
-fn avoiding_over(dist: &[u32], n: usize, link: Link, x: u8, z: u8) -> u64
-    requires { ⌜ Readable n (asked link) (now dist) × (z < n) ⌝ }
-    ensures { λ s. ⌜ s ≡ setOf n (hopClears (held n (now (dist .entry))) (asked link) x z) ⌝ }
+// The cost of an arc.
+pub(crate) fn price_of(arc: u8, out: &[u16; 128], back: &[u16; 128]) -> u32
+    ensures { λ r. ⌜ r ≡ sideOf arc (now (out .entry)) (now (back .entry)) ⌝ }
 {
-    if !leaves(x, z, link.near, link.far) {
-        return 0;
+    let k = wide(arc / 2);
+    if arc % 2 == 0 {
+        return cost_of(out[k]);
     }
-    avoiding_from(dist, n, link, wide(z))
+    cost_of(back[k])
+}
+
+// Whether an arc is a first hop: it leaves S and does not lead to E.
+fn leaves(arc: u8, from: &[u8; 128], to: &[u8; 128], near: usize, far: usize) -> bool
+    ensures { λ r. ⌜ r ≡ leavesNear near far (now (from .entry)) (now (to .entry)) arc ⌝ }
+{
+    head_of(arc, to, from) == near && head_of(arc, from, to) != far
+}
+
+// The first hops of a repair: the numbers of `count` arcs.
+pub(crate) struct FirstHops {
+    pub(crate) count: usize,
+    pub(crate) arcs: [u8; 256],
+}
+
+// Lists the first hops in file order of the links. Their routers and costs are read from the columns by the arc's number, so that one
+// column of numbers is written.
+pub(crate) fn first_hops(links: usize, from: &[u8; 128], to: &[u8; 128], link: Link) -> FirstHops
+    requires { ⌜ links ≤ 128 ⌝ }
+    ensures { λ r. ⌜ Listed (asked link) (now (from .entry)) (now (to .entry)) links (r .count) (r .arcs) ⌝ }
+{
+    let near = link.near;
+    let far = link.far;
+    let mut arcs = [0u8; 256];
+    let mut count = 0;
+    let mut arc = 0;
+    while arc < 2 * links {
+        let number = arc as u8;
+        if leaves(number, from, to, near, far) {
+            arcs[count] = number;
+            count += 1;
+        }
+        arc += 1;
+    }
+    FirstHops { count, arcs }
 }
 
 // The routers that one of the first hops avoids the link on the way to: extended P. The costs of the links have no part in it.
 pub(crate) fn extended_p(
     dist: &[u32],
     n: usize,
-    links: usize,
     from: &[u8; 128],
     to: &[u8; 128],
     link: Link,
+    hops: FirstHops,
 ) -> u64
-    requires { ⌜ Readable n (asked link) (now dist) × ColumnsWithin n links (now from) (now to) ⌝ }
-    ensures { λ s. ⌜ ((out back : List ℕ) → s ≡ setOf n (someClears (held n (now (dist .entry))) (asked link) (firstHops (asked link) (arcsIn (now (from .entry)) (now (to .entry)) out back links)))) ⌝ }
+    requires { ⌜ Readable n (asked link) (now dist) × HopsWithin n (now from) (now to) (hops .count) (hops .arcs) ⌝ }
+    ensures { λ s. ⌜ ((out back : List ℕ) → s ≡ setOf n (someClears (held n (now (dist .entry))) (asked link) (firstsIn (now (from .entry)) (now (to .entry)) out back (hops .count) (hops .arcs)))) ⌝ }
 {
     let mut set: u64 = 0;
-    let mut k = 0;
-    while k < links {
-        set = set | avoiding_over(dist, n, link, from[k], to[k]);
-        set = set | avoiding_over(dist, n, link, to[k], from[k]);
-        k += 1;
+    let mut i = 0;
+    while i < hops.count {
+        let hop = head_of(hops.arcs[i], from, to);
+        set = set | avoiding_from(dist, n, link, hop);
+        i += 1;
     }
     set
 }
@@ -168,7 +208,9 @@ pub(crate) fn space_of<'a>(
 {
     match which {
         Which::P => p_space(dist, n, link),
-        Which::ExtendedP => extended_p(dist, n, links, from, to, link),
+        Which::ExtendedP => {
+            extended_p(dist, n, from, to, link, first_hops(links, from, to, link))
+        }
         Which::Q => q_space(dist, n, link),
     }
 }

@@ -1,7 +1,6 @@
 -- `search::fit::priced_both` meets its contract. No 16-bit number is above 65,535.
 -- Assumes nothing.
 use native.Mathlib.Omega.{arith}
-use borrow.Author.Needs.{needs}
 use Rattle.search.proofs.CallLaws.{both-priced, one-free}
 use Rattle.search.proofs.fit.priced_both.Statement.{statement}
 use Rattle.search.proofs.fit.priced_both.Tie as tie

@@ -1,6 +1,6 @@
 -- `search::protected::ready` meets its contract. The area is filled where the test passes.
 -- Assumes nothing.
-use mathlib.Core.Path.{_≡_, refl, sym, _∙_}
+use mathlib.Core.Path.{refl, sym, _∙_}
 use mathlib.Core.List.{[]}
 use borrow.Author.Tests.{not-true, not-false}
 use borrow.Author.Needs.{needs}

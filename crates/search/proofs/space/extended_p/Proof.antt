@@ -1,72 +1,59 @@
--- `search::space::extended_p` meets its contract. The loop's invariant: the set holds the routers that a first hop of the links passed avoids to.
+-- `search::space::extended_p` meets its contract. The loop's invariant: the set holds the routers that one of the first hops passed avoids to.
 -- Assumes nothing.
 use Prim.Native.Nat.{ℕ, _-_, _≤_}
 use mathlib.Core.Path.{_≡_, ap, _∙_}
 use mathlib.Core.List.{List}
 use native.Mathlib.Omega.{arith}
 use borrow.Author.Needs.{needs}
-use Rattle.lfa.specs.Space.{firstHops, setOf}
-use Rattle.distance.specs.Columns.{arcsIn}
+use Rattle.lfa.specs.Space.{setOf}
 use Rattle.distance.specs.Area.{held}
-use Rattle.search.specs.Spaces.{asked, someClears}
-use Rattle.search.proofs.SpaceLaws.{no-links, link-more}
+use Rattle.search.specs.Spaces.{asked, firstsIn, someClears}
+use Rattle.search.proofs.SpaceLaws.{no-hops, hop-more}
 use Rattle.search.proofs.space.extended_p.Statement.{statement}
 use Rattle.search.proofs.space.extended_p.Tie as tie
 
 abbrev Inv-loop : tie.InvT-loop
-Inv-loop dist n links from to link set₀ k₀ set k = (k ≤ links) × ((out back : List ℕ) → set ≡ setOf n (someClears (held n dist) (asked link) (firstHops (asked link) (arcsIn from to out back k))))
+Inv-loop dist n from to link hops set₀ i₀ set i = (i ≤ hops .count) × ((out back : List ℕ) → set ≡ setOf n (someClears (held n dist) (asked link) (firstsIn from to out back i (hops .arcs))))
 
 abbrev μ-loop : tie.MeasureT-loop
-μ-loop dist n links from to link set₀ k₀ set k = links - k
+μ-loop dist n from to link hops set₀ i₀ set i = hops .count - i
 
 loop-holds : tie.Need-loop-holds Inv-loop μ-loop
-loop-holds c = (omega arith, λ out back. no-links _ _ _ _ _ out back)
+loop-holds c = (omega arith, λ out back. no-hops _ _ _ _ _ _ out back)
 
-element-copy-out-avoiding-over : tie.Need-element-copy-out-avoiding-over Inv-loop μ-loop
-element-copy-out-avoiding-over c = search needs
+element-copy-out-head-of : tie.Need-element-copy-out-head-of Inv-loop μ-loop
+element-copy-out-head-of c = search needs
 
-element-copy-out-avoiding-over-2 : tie.Need-element-copy-out-avoiding-over-2 Inv-loop μ-loop
-element-copy-out-avoiding-over-2 c = search needs
+head-of-requires : tie.Need-head-of-requires Inv-loop μ-loop
+head-of-requires c κs = search needs
 
-avoiding-over-requires : tie.Need-avoiding-over-requires Inv-loop μ-loop
-avoiding-over-requires c κs =
-    let at-loop = c .before .before .before in
-    let s = at-loop .before .before in
-    (s .pre .0, s .pre .1 .to-in (at-loop .loop .k) (c .before .before .loop-test .taken))
+avoiding-from-requires : tie.Need-avoiding-from-requires Inv-loop μ-loop
+avoiding-from-requires c κs =
+    let in-loop = c .before .before in
+    let p = in-loop .before .before .before .pre in
+    (p .0, omega (arith, c .head-of .ensures, p .1 .head-in (in-loop .before .loop .i) (in-loop .loop-test .taken)))
 
-element-copy-out-avoiding-over-3 : tie.Need-element-copy-out-avoiding-over-3 Inv-loop μ-loop
-element-copy-out-avoiding-over-3 c = search needs
-
-element-copy-out-avoiding-over-4 : tie.Need-element-copy-out-avoiding-over-4 Inv-loop μ-loop
-element-copy-out-avoiding-over-4 c = search needs
-
-avoiding-over-requires-2 : tie.Need-avoiding-over-requires-2 Inv-loop μ-loop
-avoiding-over-requires-2 c κs =
-    let at-loop = c .before .before .before .before .before .before in
-    let s = at-loop .before .before in
-    (s .pre .0, s .pre .1 .from-in (at-loop .loop .k) (c .before .before .before .before .before .loop-test .taken))
-
-add-k : tie.Need-add-k Inv-loop μ-loop
-add-k c = search needs
+add-i : tie.Need-add-i Inv-loop μ-loop
+add-i c = search needs
 
 loop-less : tie.Need-loop-less Inv-loop μ-loop
 loop-less c = search needs
 
 loop-again : tie.Need-loop-again Inv-loop μ-loop
 loop-again c =
-    let at-loop = c .before .before .before .before .before .before .before in
+    let at-loop = c .before .before .before .before in
     let a = at-loop .before .before .args in (
       omega arith,
-      λ out back. link-more (a .n) (held (a .n) (a .dist .now)) (asked (a .link)) (a .from .now) (a .to .now) out back (at-loop .loop .k) (at-loop .loop .inv .1 out back)
-          (c .before .before .before .avoiding-over .ensures) (c .avoiding-over2 .ensures),
+      λ out back. hop-more (a .n) (held (a .n) (a .dist .now)) (asked (a .link)) (a .from .now) (a .to .now) (a .t6 .arcs) out back (at-loop .loop .i) (at-loop .loop .inv .1 out back)
+          (c .before .head-of .ensures) (c .avoiding-from .ensures),
     )
 
 returns : tie.Need-returns Inv-loop μ-loop
 returns c = λ out back.
     let a = c .before .before .before .args in
-    let e : c .before .loop .k ≡ a .links = omega arith in
+    let e : c .before .loop .i ≡ a .t6 .count = omega arith in
     c .before .loop .inv .1 out back
-    ∙ ap (λ (k : ℕ). setOf (a .n) (someClears (held (a .n) (a .dist .now)) (asked (a .link)) (firstHops (asked (a .link)) (arcsIn (a .from .now) (a .to .now) out back k)))) e
+    ∙ ap (λ (k : ℕ). setOf (a .n) (someClears (held (a .n) (a .dist .now)) (asked (a .link)) (firstsIn (a .from .now) (a .to .now) out back k (a .t6 .arcs)))) e
 
 pub extended-p-spec : {M : Type 1} → statement M
 extended-p-spec =
@@ -75,13 +62,10 @@ extended-p-spec =
     Inv-loop
     μ-loop
     loop-holds
-    element-copy-out-avoiding-over
-    element-copy-out-avoiding-over-2
-    avoiding-over-requires
-    element-copy-out-avoiding-over-3
-    element-copy-out-avoiding-over-4
-    avoiding-over-requires-2
-    add-k
+    element-copy-out-head-of
+    head-of-requires
+    avoiding-from-requires
+    add-i
     loop-less
     loop-again
     returns)

@@ -5,6 +5,7 @@ use Rattle.distance.specs.Columns.{arcsIn}
 use Rattle.search.specs.Known.{Readable}
 use Rattle.search.specs.Spaces.{asked}
 use Rattle.search.proofs.KnownLaws.{readable, extended-space}
+use Rattle.search.proofs.SpaceLaws.{listed-firsts, listed-within}
 use Rattle.search.proofs.space.space_of.Statement.{statement}
 use Rattle.search.proofs.space.space_of.Tie as tie
 
@@ -21,8 +22,11 @@ p-space-requires c κs = search needs
 enum-told-2 : tie.Need-enum-told-2
 enum-told-2 c = search needs
 
+first-hops-requires : tie.Need-first-hops-requires
+first-hops-requires c κs = c .before .before .before .pre .0 .few-links
+
 extended-p-requires : tie.Need-extended-p-requires
-extended-p-requires c κs = let s = c .before .before .before in (known s, s .pre .0)
+extended-p-requires c κs = let s = c .before .before .before .before in (known s, listed-within _ _ _ _ _ _ (c .first-hops .ensures) (s .pre .0))
 
 enum-told-3 : tie.Need-enum-told-3
 enum-told-3 c = search needs
@@ -34,7 +38,9 @@ returns : tie.Need-returns
 returns c = λ out back k. rw (c .before .enum-told .given .1) (c .p-space .ensures _ k)
 
 returns-2 : tie.Need-returns-2
-returns-2 c = λ out back k. rw (c .before .enum-told2 .given .1) (extended-space _ _ _ _ k (c .extended-p .ensures out back))
+returns-2 c = λ out back k.
+    let firsts = listed-firsts _ _ _ _ _ _ (c .before .first-hops .ensures) out back in
+    rw (c .before .before .enum-told2 .given .1) (extended-space _ _ _ _ k (rw (← firsts) (c .extended-p .ensures out back)))
 
 returns-3 : tie.Need-returns-3
 returns-3 c = λ out back k. rw (c .before .enum-told3 .given .1) (c .q-space .ensures _ k)
@@ -46,6 +52,7 @@ space-of-spec =
     enum-told
     p-space-requires
     enum-told-2
+    first-hops-requires
     extended-p-requires
     enum-told-3
     q-space-requires
