@@ -1,6 +1,6 @@
 -- `search::space::first_hops` meets its contract. The loop's invariant: the cells before `count` hold the first hops among the arcs passed.
 -- Assumes nothing.
-use Prim.Native.Nat.{_*_, _-_, _≤_, _<_}
+use Prim.Native.Nat.{_*_, _-_, _≤_}
 use mathlib.Core.Path.{_≡_, refl, sym, _∙_}
 use mathlib.Core.Logic.{⊎-elim}
 use native.Mathlib.Omega.{arith}
