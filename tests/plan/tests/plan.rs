@@ -80,6 +80,15 @@ fn every_network_of_the_cases() {
 }
 
 #[test]
+fn the_stored_texts() {
+    let Cases { networks, reader, .. } = cases();
+    let printed = |case: &Case| format!("case {}\n{}", case.name, printed(&case.file));
+    let texts: String = networks.iter().chain(&reader).map(printed).collect();
+    let stored = std::fs::read_to_string(stored::root().join("tests/plan/stored.txt"));
+    assert_eq!(texts, stored.expect("the plans that the oracle stored"));
+}
+
+#[test]
 fn every_example() {
     let texts = compared(&cases().examples);
     assert!(texts.iter().any(|text| text.starts_with("plan 4 4 1\n0 0 0 1 3 2 3 2\n")));

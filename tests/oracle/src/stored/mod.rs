@@ -6,6 +6,7 @@
 //! |---|---|
 //! | `examples/NAME.net` | `examples/NAME.txt` |
 //! | `crates/PROGRAM/stdin`, `crates/PROGRAM/stdout` | the cases that the program reads |
+//! | `tests/plan/stored.txt` | the networks and the files for the reader: the plan of each |
 //!
 //! The programs, their cases and the sections that they print are listed in
 //! `programs`. A program whose folder does not exist is left out.
@@ -18,6 +19,7 @@ mod reading;
 mod repairs;
 mod routes;
 
+use crate::answer::plan_text;
 use crate::fault::Context;
 use cases::{Case, Cases};
 use programs::PROGRAMS;
@@ -75,7 +77,18 @@ pub fn made(root: &Path) -> Result<Vec<Stored>, String> {
             made.push(Stored { place: format!("{folder}/stdout"), bytes: output.into_bytes() });
         }
     }
+    if root.join("tests/plan").is_dir() {
+        made.push(plans(&cases));
+    }
     Ok(made)
+}
+
+/// The plan of every case, each after a line `case NAME`.
+fn plans(cases: &Cases) -> Stored {
+    let plan =
+        |case: &Case| format!("case {}\n{}", case.name, plan_text(&Context::sound(), &case.file));
+    let text: String = cases.networks.iter().chain(&cases.reader).map(plan).collect();
+    Stored { place: "tests/plan/stored.txt".to_string(), bytes: text.into_bytes() }
 }
 
 /// The network file of an example.
