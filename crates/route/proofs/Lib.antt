@@ -1,4 +1,3 @@
-pub mod OptionLaws
 pub mod LegLaws
 pub mod PlayLaws
 pub mod RouteLaws

@@ -1,3 +1,2 @@
-pub mod Options
 pub mod Leg
 pub mod Answer

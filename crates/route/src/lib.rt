@@ -1,7 +1,6 @@
 // Played routes: the routers that a packet visits when the pair of a prefix repair carries it, choice bytes deciding between options.
 // The network is known from the file part's answer, the pair and the distances from the repair part's.
 use network_file::load;
-use options::wide;
 use play::play;
 use repair::Refusal;
 use repair::Repair;
@@ -14,7 +13,6 @@ ghost use Rattle.lfa.specs.Refusal.{askRoute, answerTo, workAfter, routeAfter};
 ghost use Rattle.search.specs.Spaces.{protectedIn};
 ghost use Rattle.route.specs.Answer.{playedOf, passedOn};
 
-mod options;
 mod play;
 
 // The answer of a route call: a refusal, one of the answers of the prefix repair that have no pair, or how many routers were written.
@@ -23,6 +21,13 @@ pub enum Played {
     Unreachable,
     Untouched,
     Written(usize),
+}
+
+// A router's number, or a count, as an index.
+fn wide(x: u8) -> usize
+    ensures { λ r. ⌜ r ≡ x ⌝ }
+{
+    x as usize
 }
 
 // The answers of the prefix repair that have no pair, passed on.

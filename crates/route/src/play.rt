@@ -1,8 +1,8 @@
 // The play of a route: it writes the repairing router and the first hop, goes the leg through the tunnel, and then the leg from the
 // endpoint on to delivery.
-use crate::options::Move;
-use crate::options::move_at;
 use distance::towards_prefix;
+use options::Move;
+use options::move_at;
 use supply::choice;
 ghost use mathlib.Core.Path.{_≡_};
 ghost use mathlib.Core.List.{List, _++_};

@@ -11,7 +11,8 @@ use Rattle.distance.specs.Columns.{arcsIn}
 use Rattle.distance.specs.Area.{held, slotsIn}
 use Rattle.distance.specs.Laws.Calls.{prefix-known}
 use Rattle.distance.specs.Laws.Columns.{columns-within}
-use Rattle.route.specs.Options.{moveIn}
+use Rattle.options.specs.Options.{moveIn}
+use Rattle.options.specs.Laws.Options.{move-known}
 use Rattle.route.proofs.LegLaws.{step-nearer, leg-stops, leg-delivers, Playing, playing-starts, playing-on, playing-ends}
 use Rattle.route.proofs.play.leg.Statement.{statement}
 use Rattle.route.proofs.play.leg.Tie as tie
@@ -37,7 +38,7 @@ choice-requires : tie.Need-choice-requires Inv-loop μ-loop
 choice-requires c κs = search needs
 
 move-at-requires : tie.Need-move-at-requires Inv-loop μ-loop
-move-at-requires c κs = let l = c .before .before .before in let p = l .before .before .before .before .before .pre in (_, p .0 .within, p .0 .slots .few, l .loop .inv .inside)
+move-at-requires c κs = search needs
 
 enum-known-taken : tie.Need-enum-known-taken Inv-loop μ-loop
 enum-known-taken c = search needs
@@ -57,7 +58,7 @@ moved c =
     let a = s .args in
     let net = s .pre .0 in
     let target-is = prefix-known (a .n) (a .dist .now) (net .within .few-routers) (net .long) (a .at .now) (a .own .now) (a .first) (a .count) (net .slots) (l .before .towards-prefix .ensures) in
-    ap (optionTaken _) (sym (c .before .before .choice .ensures)) ∙ sym (c .move-at .ensures (a .n) (held (a .n) (a .dist .now)) (net .within) (l .loop .inv .inside) target-is)
+    ap (optionTaken _) (sym (c .before .before .choice .ensures)) ∙ sym (c .move-at .ensures ∙ move-known (net .within) _ _ _ _ _ _ (net .slots .few) (held (a .n) (a .dist .now)) _ target-is _ _ (l .loop .inv .inside))
 
 -- a step leads to a router that is nearer to the target
 went : (c : tie.After-known-told Inv-loop μ-loop) →

@@ -1,25 +1,25 @@
 // The options of a walk at a router, and the one that a choice byte takes.
+//
+// `move_at` takes any numbers. Where they are not cells of the columns, it delivers; a link to a number that is no router leads nowhere.
 ghost use mathlib.Core.Path.{_≡_};
 ghost use Prim.Native.Nat.{ℕ, _+_, _≤_, _<_};
 ghost use lib.ListN.{getD};
 ghost use Rattle.lfa.specs.Network.{arc};
 ghost use Rattle.lfa.specs.Space.{setOf};
-ghost use Rattle.lfa.specs.Route.{movesOf, options, optionTaken};
-ghost use Rattle.metric.specs.Fit.{ColumnsWithin, SlotsWithin};
+ghost use Rattle.lfa.specs.Route.{movesOf, optionTaken};
 ghost use Rattle.distance.specs.Columns.{arcsIn};
-ghost use Rattle.distance.specs.Area.{column, slotsIn};
-ghost use Rattle.lfa.specs.Distance.{towards};
-ghost use Rattle.route.specs.Options.{moveIn, stepTo, nextBy, deliversBy, membersOf};
+ghost use Rattle.distance.specs.Area.{slotsIn};
+ghost use Rattle.options.specs.Options.{moveIn, stepTo, nextBy, deliversBy, membersOf, moveBy};
 use metric::Distance;
 
 // What an option does: it delivers the packet, or takes it to the next router.
-pub(crate) enum Move {
+pub enum Move {
     Deliver,
     Go(usize),
 }
 
-// A router's number, or a count, as an index.
-pub(crate) fn wide(x: u8) -> usize
+// A router's number, or a choice byte, as an index.
+fn wide(x: u8) -> usize
     ensures { λ r. ⌜ r ≡ x ⌝ }
 {
     x as usize
@@ -33,9 +33,9 @@ fn cost_of(c: u16) -> u32
 }
 
 // The set of the router that a hop from u to v at this cost leads to, where it is a step of a walk at x, and the empty set where it is
-// not. `to` holds the distances to the target.
+// not. A set has no number above 63. `to` holds the distances to the target.
 fn step_to(u: u8, v: u8, cost: u16, to: &[u32; 64], x: usize) -> u64
-    requires { ⌜ (v < 64) × (x < 64) ⌝ }
+    requires { ⌜ x < 64 ⌝ }
     ensures { λ r. ⌜ ((l : ℕ) → r ≡ setOf 64 (λ z. stepTo (λ y. getD (now (to .entry)) y 0) x z (arc u v cost l))) ⌝ }
 {
     let own = to[x];
@@ -46,6 +46,9 @@ fn step_to(u: u8, v: u8, cost: u16, to: &[u32; 64], x: usize) -> u64
         return 0;
     }
     let head = wide(v);
+    if 64 <= head {
+        return 0;
+    }
     if Distance::add(cost_of(cost), to[head]) != own {
         return 0;
     }
@@ -62,7 +65,7 @@ fn next_routers(
     target: &[u32; 64],
     x: usize,
 ) -> u64
-    requires { ⌜ ColumnsWithin 64 links (now from) (now to) × (x < 64) ⌝ }
+    requires { ⌜ (links ≤ 128) × (x < 64) ⌝ }
     ensures { λ r. ⌜ r ≡ setOf 64 (nextBy (λ y. getD (now (target .entry)) y 0) (arcsIn (now (from .entry)) (now (to .entry)) (now (out .entry)) (now (back .entry)) links) x) ⌝ }
 {
     let mut set: u64 = 0;
@@ -138,8 +141,9 @@ fn option_taken(deliver: bool, next: u64, byte: u8) -> Move
     Move::Go(member(next, number - 1))
 }
 
-// The option that a choice byte takes at router x.
-pub(crate) fn move_at<'a>(
+// The option that a choice byte takes at router x. The numbers are tested here and not the elements of the columns, so that a call costs
+// one pass over the links.
+pub fn move_at<'a>(
     links: usize,
     from: &'a [u8; 128],
     to: &'a [u8; 128],
@@ -153,11 +157,20 @@ pub(crate) fn move_at<'a>(
     x: usize,
     byte: u8,
 ) -> Move
-    requires { ⌜ ((n : ℕ) × ColumnsWithin n links (now from) (now to) × (first + count ≤ 1024) × (x < n)) ⌝ }
-    ensures { λ r. ⌜ ((n : ℕ) (d : ℕ → ℕ → ℕ) → ColumnsWithin n links (now (from .entry)) (now (to .entry)) → x < n
-        → now (target .entry) ≡ column n (towards d (slotsIn (now (at .entry)) (now (own .entry)) first count))
-        → moveIn r ≡ optionTaken (options n (arcsIn (now (from .entry)) (now (to .entry)) (now (out .entry)) (now (back .entry)) links) d (slotsIn (now (at .entry)) (now (own .entry)) first count) x) byte) ⌝ }
+    ensures { λ r. ⌜ moveIn r ≡ moveBy links (now (from .entry)) (now (to .entry)) (now (out .entry)) (now (back .entry)) (now (at .entry)) (now (own .entry)) first count (now (target .entry)) x byte ⌝ }
 {
+    if 128 < links {
+        return Move::Deliver;
+    }
+    if 1024 < first {
+        return Move::Deliver;
+    }
+    if 1024 - first < count {
+        return Move::Deliver;
+    }
+    if 64 <= x {
+        return Move::Deliver;
+    }
     let next = next_routers(links, from, to, out, back, target, x);
     let deliver = delivers(at, own, first, count, target, x);
     option_taken(deliver, next, byte)

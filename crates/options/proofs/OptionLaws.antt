@@ -4,35 +4,34 @@
 use Prim.Native.Nat.{ℕ, zero, suc, _+_, _-_, _*_, _/_, _%_, _^_, _≤_, _<_, min}
 use mathlib.Core.Path.{_≡_, refl, sym, ap, ap₂, _∙_}
 use mathlib.Core.Bool.{Bool, true, false, _&&_, _||_}
-use mathlib.Core.List.{List, [], _∷_, _++_, map, append-nil, append-assoc, List·Memᴰ, List·Memᴰ·head, List·Memᴰ·tail, Memᴰ·cast}
+use mathlib.Core.Logic.{_⊎_, inl, inr}
+use mathlib.Core.List.{List, [], _∷_, _++_, map, append-assoc, List·Memᴰ, Memᴰ·cast}
 use native.Mathlib.Nat.{mod-eq-of-lt, mod-lt}
 use native.Mathlib.Numerals.{add-one}
 use native.Mathlib.Omega.{arith}
-use lib.Dec.{eqb, ltb}
+use lib.Dec.{eqb, ltb, leb}
 use lib.ListN.{length, getD, length-append, length-map}
 use lib.Pow.{shl-exact, pow-lt}
 use lib.Bits.{bitOr, bitAnd}
 use lib.Count.{ones}
-use borrow.Author.Tests.{ltb-true, lt-ltb, le-ltb, eqb-true, eq-eqb, ne-eqb, eqb-false}
+use borrow.Author.Tests.{lt-ltb, le-ltb, lt-leb, eqb-true, eq-eqb, ne-eqb, eqb-false}
 use Rattle.lfa.specs.Lists.{countUp, below, keepIf, select, anyOf, count, one}
 use Rattle.lfa.specs.Network.{Arc, arc, arcsFrom, Attachment, at, Target}
-use Rattle.lfa.specs.Distance.{unreachable, towards}
+use Rattle.lfa.specs.Distance.{unreachable}
 use Rattle.lfa.specs.Space.{has, setOf, sizeOf}
-use Rattle.lfa.specs.Walk.{isStep}
-use Rattle.lfa.specs.Route.{deliver, go, attachedAt, delivers, isStepTo, nextRouters, movesOf, options, optionTaken}
-use Rattle.lfa.specs.Laws.Test.{and-left, and-right, and-make, same-test}
-use Rattle.lfa.specs.Laws.List.{any-gives, any-make, below-mem, from-counted, getD-in}
+use Rattle.lfa.specs.Route.{Move, deliver, go, attachedAt, movesOf, optionTaken}
+use Rattle.lfa.specs.Laws.Test.{and-make, fails-left, fails-right}
+use Rattle.lfa.specs.Laws.List.{any-make, getD-in}
 use Rattle.lfa.specs.Laws.Counting.{length-map-below, map-below-at}
 use Rattle.lfa.specs.Laws.Chunks.{element-mapped}
-use Rattle.lfa.specs.Laws.Set.{setOf-has, setOf-same, has-setOf, size-ones}
-use Rattle.lfa.specs.Laws.Arrive.{Within}
+use Rattle.lfa.specs.Laws.Set.{setOf-has, setOf-same, size-ones}
 use Rattle.distance.specs.Columns.{linksIn, arcsIn}
-use Rattle.distance.specs.Area.{column, slotsIn}
-use Rattle.distance.specs.Laws.List.{below-more, map-below-more, select-append, any-more, any-same, select-same}
+use Rattle.distance.specs.Area.{slotsIn}
+use Rattle.distance.specs.Laws.List.{below-more, map-below-more, select-append, any-more}
 use Rattle.distance.specs.Laws.Set.{or-setOf, setOf-none, has-bit, has-no-bit, has-self, has-other}
 use Rattle.distance.specs.Laws.Columns.{arcsIn-more}
-use Rattle.distance.specs.Laws.Area.{column-at}
-use Rattle.route.specs.Options.{stepTo, nextBy, deliversBy, membersOf}
+use Rattle.options.specs.Options.{stepTo, nextBy, deliversBy, membersOf, fits, moveBy}
+use Rattle.options.specs.Laws.Options.{all-fit}
 
 -- ---- a hop as a set
 
@@ -64,6 +63,15 @@ module _ (to : ℕ → ℕ) (x u v c l : ℕ) where
       by true true = le-ltb (to x) unreachable h
       by true false = refl
       by false b = refl
+
+  -- the hop leads to a number that is no member of a set
+  pub leads-beyond : 64 ≤ v → 0 ≡ setOf 64 (λ z. stepTo to x z (arc u v c l))
+  unfolding stepTo
+  leads-beyond h = setOf-none 64 ∙ setOf-same 64 (λ z. false) (λ z. steps && eqb v z) (λ z i. by steps (ne-eqb v z (λ e. omega arith)))
+    where
+      by : {b : Bool} (a : Bool) → b ≡ false → false ≡ (a && b)
+      by true e = sym e
+      by false e = refl
 
   -- the sum over the hop, as it was read
   module _ {w k sum : ℕ} (w-is : w ≡ v) (k-is : k ≡ c) (sum-is : sum ≡ min (k + to w) unreachable) where
@@ -273,82 +281,21 @@ module _ (routers costs : List ℕ) (first x d : ℕ) where
       by true = refl
       by false = refl
 
--- ---- the options are document 01's
+-- ---- the move
 
-count-split : (i m k : ℕ) → countUp i (m + k) ≡ countUp i m ++ countUp (i + m) k
-unfolding countUp
-count-split i zero k = ap₂ countUp (let e : i ≡ i + 0 = omega arith in e) (let e : 0 + k ≡ k = omega arith in e)
-count-split i (suc m) k = ap (countUp i) (let e : suc m + k ≡ suc (m + k) = omega arith in e) ∙ ap (λ (l : List ℕ). i ∷ l) (count-split (suc i) m k ∙ ap (λ (j : ℕ). countUp (suc i) m ++ countUp j k) (omega arith))
-
-select-none : (p : ℕ → Bool) (l : List ℕ) → ((z : ℕ) → List·Memᴰ z l → p z ≡ false) → select p l ≡ []
-unfolding select
-select-none p [] h = refl
-select-none p (z ∷ l) h = ap (λ (b : Bool). keepIf b z (select p l)) (h z (List·Memᴰ·head refl)) ∙ select-none p l (λ w m. h w (List·Memᴰ·tail m))
-
--- a sum that is a finite distance is below the cap
-capped-step : (a : Bool) (s t : ℕ) → (a && eqb (min s unreachable) t && ltb t unreachable) ≡ (a && eqb s t && ltb t unreachable)
-capped-step a s t = same-test _ _ there back
-  where
-    there : (a && eqb (min s unreachable) t && ltb t unreachable) ≡ true → (a && eqb s t && ltb t unreachable) ≡ true
-    there k =
-        let l = and-left (a && eqb (min s unreachable) t) (ltb t unreachable) k in
-        let r = and-right (a && eqb (min s unreachable) t) (ltb t unreachable) k in
-        let f : t < unreachable = ltb-true t unreachable r in
-        let e : min s unreachable ≡ t = eqb-true (min s unreachable) t (and-right a (eqb (min s unreachable) t) l) in
-        let g : s ≡ t = omega arith in
-        and-make (a && eqb s t) (ltb t unreachable) (and-make a (eqb s t) (and-left a (eqb (min s unreachable) t) l) (eq-eqb s t g)) r
-
-    back : (a && eqb s t && ltb t unreachable) ≡ true → (a && eqb (min s unreachable) t && ltb t unreachable) ≡ true
-    back k =
-        let l = and-left (a && eqb s t) (ltb t unreachable) k in
-        let r = and-right (a && eqb s t) (ltb t unreachable) k in
-        let f : t < unreachable = ltb-true t unreachable r in
-        let e : s ≡ t = eqb-true s t (and-right a (eqb s t) l) in
-        let g : min s unreachable ≡ t = omega arith in
-        and-make (a && eqb (min s unreachable) t) (ltb t unreachable) (and-make a (eqb (min s unreachable) t) (and-left a (eqb s t) l) (eq-eqb (min s unreachable) t g)) r
-
--- Distances are read from a column, sums are capped, and routers are looked for among 64 numbers: the options are the same, since
--- each arc joins routers below n, a finite distance is below the cap, and no arc leads to another number.
-module _ (n : ℕ) (few : n ≤ 64) (hops : List Arc) (within : Within hops n) (d : ℕ → ℕ → ℕ) (to : Target) (held : List ℕ) (held-is : held ≡ column n (towards d to)) (x : ℕ) (x-in : x < n) where
-  abbrev h : ℕ → ℕ
-  h y = getD held y 0
-
-  at-router : (y : ℕ) → y < n → h y ≡ towards d to y
-  at-router y k = rw held-is (column-at n (towards d to) y k)
-
-  same-step : (z : ℕ) (a : Arc) → List·Memᴰ a hops → stepTo h x z a ≡ isStepTo d to x z a
-  unfolding stepTo isStepTo isStep
-  same-step z (arc u v c l) m =
-      let hx = at-router x x-in in
-      let hv = at-router v (within .to m) in
-      ap (λ (b : Bool). b && eqb v z) (capped-step (eqb u x) (c + h v) (h x) ∙ ap₂ (λ (p q : ℕ). eqb u x && eqb (c + p) q && ltb q unreachable) hv hx)
-
-  abbrev leads : ℕ → Bool
-  leads z = anyOf (isStepTo d to x z) hops
-
-  -- no step leads to a number that is no router
-  none-beyond : (z : ℕ) → n ≤ z → leads z ≡ false
-  unfolding isStepTo
-  none-beyond z k = by (leads z) refl
+module _ (links : ℕ) (from to out back routers costs : List ℕ) (first count : ℕ) (target : List ℕ) (x byte : ℕ) where
+  -- some number is no cell of the columns
+  pub move-none : (128 < links) ⊎ (1024 < first + count) ⊎ (64 ≤ x) → deliver ≡ moveBy links from to out back routers costs first count target x byte
+  unfolding moveBy fits
+  move-none o = rw (none-fit o, moveBy)
     where
-      no : leads z ≡ true → ⊥
-      no t = let r = any-gives (isStepTo d to x z) hops t in at-arc (r .0) (r .1) (r .2)
-        where
-          at-arc : (a : Arc) → List·Memᴰ a hops → isStepTo d to x z a ≡ true → ⊥
-          at-arc (arc u v c l) m t = let e : v ≡ z = eqb-true v z (and-right (isStep d to x (arc u v c l)) (eqb v z) t) in omega (arith, within .to m)
+      none-fit : (128 < links) ⊎ (1024 < first + count) ⊎ (64 ≤ x) → fits links first count x ≡ false
+      none-fit (inl l) = fails-left _ _ (fails-left _ _ (lt-leb links 128 l))
+      none-fit (inr (inl s)) = fails-left _ _ (fails-right (leb links 128) _ (lt-leb (first + count) 1024 s))
+      none-fit (inr (inr h)) = fails-right (leb links 128 && leb (first + count) 1024) _ (le-ltb x 64 h)
 
-      by : (b : Bool) → leads z ≡ b → leads z ≡ false
-      by true e = absurd (no e)
-      by false e = e
-
-  next-same : membersOf (setOf 64 (nextBy h hops x)) ≡ nextRouters n hops d to x
-  unfolding membersOf nextBy nextRouters below
-  next-same =
-      select-same (has (setOf 64 (nextBy h hops x))) leads (countUp 0 64) (λ z m. has-setOf 64 (nextBy h hops x) z (below-mem 64 z m) ∙ any-same (stepTo h x z) (isStepTo d to x z) hops (same-step z))
-      ∙ ap (λ (k : ℕ). select leads (countUp 0 k)) (let e : 64 ≡ n + (64 - n) = omega arith in e) ∙ ap (select leads) (count-split 0 n (64 - n))
-      ∙ select-append leads (countUp 0 n) (countUp (0 + n) (64 - n))
-      ∙ ap (λ (l : List ℕ). select leads (countUp 0 n) ++ l) (select-none leads (countUp (0 + n) (64 - n)) (λ z m. none-beyond z (omega (arith, from-counted (0 + n) (64 - n) z m)))) ∙ append-nil (select leads (countUp 0 n))
-
-  pub options-same : {b : Bool} {set : ℕ} → b ≡ deliversBy (h x) to x → set ≡ setOf 64 (nextBy h hops x) → movesOf b (membersOf set) ≡ options n hops d to x
-  unfolding options delivers deliversBy
-  options-same eb es = ap₂ movesOf (eb ∙ ap (λ (k : ℕ). ltb k unreachable && anyOf (attachedAt x k) to) (at-router x x-in)) (ap membersOf es ∙ next-same)
+  -- all are
+  pub move-taken : {b : Bool} {set : ℕ} {m : Move} → links ≤ 128 → first + count ≤ 1024 → x < 64 → b ≡ deliversBy (getD target x 0) (slotsIn routers costs first count) x →
+      set ≡ setOf 64 (nextBy (λ y. getD target y 0) (arcsIn from to out back links) x) → m ≡ optionTaken (movesOf b (membersOf set)) byte → m ≡ moveBy links from to out back routers costs first count target x byte
+  unfolding moveBy
+  move-taken l s h eb es e = rw (all-fit links first count x l s h, moveBy) (e ∙ ap₂ (λ (b : Bool) (set : ℕ). optionTaken (movesOf b (membersOf set)) byte) eb es)

@@ -1,4 +1,4 @@
--- `route::options::option_taken` meets its contract. Delivery, where there is one, is option 0, and moves the others up by one.
+-- `options::option_taken` meets its contract. Delivery, where there is one, is option 0, and moves the others up by one.
 -- Assumes nothing.
 use Prim.Native.Nat.{ℕ, _+_, _-_, _%_}
 use mathlib.Core.Path.{sym, ap, _∙_}
@@ -7,10 +7,10 @@ use lib.Count.{ones}
 use lib.ListN.{getD}
 use borrow.Author.Tests.{not-true, not-false}
 use borrow.Author.Needs.{needs}
-use Rattle.route.specs.Options.{moveIn, membersOf}
-use Rattle.route.proofs.OptionLaws.{few-ones, members-count, taken-none, taken-step, taken-delivery, taken-later}
-use Rattle.route.proofs.options.option_taken.Statement.{statement}
-use Rattle.route.proofs.options.option_taken.Tie as tie
+use Rattle.options.specs.Options.{moveIn, membersOf}
+use Rattle.options.proofs.OptionLaws.{few-ones, members-count, taken-none, taken-step, taken-delivery, taken-later}
+use Rattle.options.proofs.option_taken.Statement.{statement}
+use Rattle.options.proofs.option_taken.Tie as tie
 
 cast-steps : tie.Need-cast-steps
 cast-steps c = record { fits = omega (arith, few-ones (c .args .next) (c .fits .next .fits)) }

@@ -1,4 +1,4 @@
--- `route::options::next_routers` meets its contract. The loop's invariant: the set holds the next routers over the links passed.
+-- `options::next_routers` meets its contract. The loop's invariant: the set holds the next routers over the links passed.
 -- Assumes nothing.
 use Prim.Native.Nat.{ℕ, _-_, _≤_}
 use mathlib.Core.Path.{_≡_, ap, _∙_}
@@ -7,10 +7,10 @@ use lib.ListN.{getD}
 use borrow.Author.Needs.{needs}
 use Rattle.lfa.specs.Space.{setOf}
 use Rattle.distance.specs.Columns.{arcsIn}
-use Rattle.route.specs.Options.{nextBy}
-use Rattle.route.proofs.OptionLaws.{nothing-next, next-more}
-use Rattle.route.proofs.options.next_routers.Statement.{statement}
-use Rattle.route.proofs.options.next_routers.Tie as tie
+use Rattle.options.specs.Options.{nextBy}
+use Rattle.options.proofs.OptionLaws.{nothing-next, next-more}
+use Rattle.options.proofs.next_routers.Statement.{statement}
+use Rattle.options.proofs.next_routers.Tie as tie
 
 abbrev Inv-loop : tie.InvT-loop
 Inv-loop links from to out back target x set₀ k₀ set k = (k ≤ links) × (set ≡ setOf 64 (nextBy (λ y. getD target y 0) (arcsIn from to out back k) x))
@@ -34,7 +34,7 @@ element-copy-out-step-to-3 : tie.Need-element-copy-out-step-to-3 Inv-loop μ-loo
 element-copy-out-step-to-3 c = search needs
 
 step-to-requires : tie.Need-step-to-requires Inv-loop μ-loop
-step-to-requires c κs = (c .before .before .before .before .before .pre .0 .to-in _ (c .before .before .before .loop-test .taken), c .before .before .before .before .before .pre .1)
+step-to-requires c κs = search needs
 
 element-copy-out-step-to-4 : tie.Need-element-copy-out-step-to-4 Inv-loop μ-loop
 element-copy-out-step-to-4 c = search needs
@@ -49,7 +49,7 @@ element-copy-out-step-to-6 : tie.Need-element-copy-out-step-to-6 Inv-loop μ-loo
 element-copy-out-step-to-6 c = search needs
 
 step-to-requires-2 : tie.Need-step-to-requires-2 Inv-loop μ-loop
-step-to-requires-2 c κs = (c .before .before .before .before .before .before .before .before .before .pre .0 .from-in _ (c .before .before .before .before .before .before .before .loop-test .taken), c .before .before .before .before .before .before .before .before .before .pre .1)
+step-to-requires-2 c κs = search needs
 
 add-k : tie.Need-add-k Inv-loop μ-loop
 add-k c = search needs

@@ -1,4 +1,4 @@
--- `route::options::delivers` meets its contract. The loop's invariant: no slot passed is the router's at this cost.
+-- `options::delivers` meets its contract. The loop's invariant: no slot passed is the router's at this cost.
 -- Assumes nothing.
 use Prim.Native.Nat.{_+_, _-_, _≤_}
 use mathlib.Core.Path.{_≡_, sym, _∙_}
@@ -10,9 +10,9 @@ use borrow.Author.Tests.{eqb-true, eqb-false}
 use borrow.Author.Needs.{needs}
 use Rattle.lfa.specs.Network.{at as attachment}
 use Rattle.lfa.specs.Route.{attachedAt}
-use Rattle.route.proofs.OptionLaws.{never-delivers, NoneBefore, none-yet, none-here, other-router, other-cost, delivers-here, delivers-nowhere}
-use Rattle.route.proofs.options.delivers.Statement.{statement}
-use Rattle.route.proofs.options.delivers.Tie as tie
+use Rattle.options.proofs.OptionLaws.{never-delivers, NoneBefore, none-yet, none-here, other-router, other-cost, delivers-here, delivers-nowhere}
+use Rattle.options.proofs.delivers.Statement.{statement}
+use Rattle.options.proofs.delivers.Tie as tie
 
 abbrev Inv-loop : tie.InvT-loop
 Inv-loop at own first count target x d s₀ s = (s ≤ count) × NoneBefore at own first x d s

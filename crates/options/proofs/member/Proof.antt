@@ -1,4 +1,4 @@
--- `route::options::member` meets its contract. The loop's invariant: the member sought is the one with `left` members before it from r on.
+-- `options::member` meets its contract. The loop's invariant: the member sought is the one with `left` members before it from r on.
 -- Assumes nothing.
 use Prim.Native.Nat.{_-_, _≤_}
 use mathlib.Core.Path.{_≡_}
@@ -6,10 +6,10 @@ use mathlib.Core.Logic.{⊎-elim}
 use native.Mathlib.Omega.{arith}
 use lib.ListN.{getD}
 use borrow.Author.Needs.{needs}
-use Rattle.route.specs.Options.{membersOf}
-use Rattle.route.proofs.OptionLaws.{from, from-all, member-found, member-passed, member-other, member-none}
-use Rattle.route.proofs.options.member.Statement.{statement}
-use Rattle.route.proofs.options.member.Tie as tie
+use Rattle.options.specs.Options.{membersOf}
+use Rattle.options.proofs.OptionLaws.{from, from-all, member-found, member-passed, member-other, member-none}
+use Rattle.options.proofs.member.Statement.{statement}
+use Rattle.options.proofs.member.Tie as tie
 
 abbrev Inv-loop : tie.InvT-loop
 Inv-loop set k left₀ r₀ left r = (r ≤ 64) × (getD (from set r) left 0 ≡ getD (membersOf set) k 0)
