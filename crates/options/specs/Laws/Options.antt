@@ -28,11 +28,13 @@ use Rattle.options.specs.Options.{stepTo, nextBy, deliversBy, membersOf,
 
 -- ---- the options
 
+-- the numbers counted, in two parts
 count-split : (i m k : ℕ) → countUp i (m + k) ≡ countUp i m ++ countUp (i + m) k
 unfolding countUp
 count-split i zero k = ap₂ countUp (let e : i ≡ i + 0 = omega arith in e) (let e : 0 + k ≡ k = omega arith in e)
 count-split i (suc m) k = ap (countUp i) (let e : suc m + k ≡ suc (m + k) = omega arith in e) ∙ ap (λ (l : List ℕ). i ∷ l) (count-split (suc i) m k ∙ ap (λ (j : ℕ). countUp (suc i) m ++ countUp j k) (omega arith))
 
+-- a test that no element passes
 select-none : (p : ℕ → Bool) (l : List ℕ) → ((z : ℕ) → List·Memᴰ z l → p z ≡ false) → select p l ≡ []
 unfolding select
 select-none p [] h = refl
@@ -94,6 +96,7 @@ module _ (n : ℕ) (few : n ≤ 64) (hops : List Arc) (within : Within hops n) (
       by true e = absurd (no e)
       by false e = e
 
+  -- the set has the next routers, in their order
   next-same : membersOf (setOf 64 (nextBy h hops x)) ≡ nextRouters n hops d to x
   unfolding membersOf nextBy nextRouters below
   next-same =
@@ -102,6 +105,7 @@ module _ (n : ℕ) (few : n ≤ 64) (hops : List Arc) (within : Within hops n) (
       ∙ select-append leads (countUp 0 n) (countUp (0 + n) (64 - n))
       ∙ ap (λ (l : List ℕ). select leads (countUp 0 n) ++ l) (select-none leads (countUp (0 + n) (64 - n)) (λ z m. none-beyond z (omega (arith, from-counted (0 + n) (64 - n) z m)))) ∙ append-nil (select leads (countUp 0 n))
 
+  -- so that the moves are the options
   options-same : movesOf (deliversBy (h x) to x) (membersOf (setOf 64 (nextBy h hops x))) ≡ options n hops d to x
   unfolding options delivers deliversBy
   options-same = ap₂ movesOf (ap (λ (k : ℕ). ltb k unreachable && anyOf (attachedAt x k) to) (at-router x x-in)) next-same
@@ -113,7 +117,7 @@ pub all-fit : (links first count x : ℕ) → links ≤ 128 → first + count �
 unfolding fits
 all-fit links first count x l s h = and-make _ _ (and-make _ _ (le-leb links 128 l) (le-leb (first + count) 1024 s)) (lt-ltb x 64 h)
 
--- The columns hold a network, the slots in use are among the 1024, and the target's column holds the distances to their routers.
+-- The columns hold a network, the slots in use are among the 1024, and `target` holds the distances to what is attached there.
 pub move-known : {n links : ℕ} {from to : List ℕ} → ColumnsWithin n links from to → (out back routers costs : List ℕ) (first count : ℕ) → first + count ≤ 1024 →
     (d : ℕ → ℕ → ℕ) (target : List ℕ) → target ≡ column n (towards d (slotsIn routers costs first count)) → (x byte : ℕ) → x < n →
     moveBy links from to out back routers costs first count target x byte ≡ optionTaken (options n (arcsIn from to out back links) d (slotsIn routers costs first count) x) byte
