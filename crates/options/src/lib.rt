@@ -1,6 +1,6 @@
 // The options of a walk at a router, and the one that a choice byte takes.
 //
-// `move_at` takes any numbers. Where they are not cells of the columns, it delivers; a link to a number that is no router leads nowhere.
+// `move_at` takes any numbers. Where they are not cells of the columns, it delivers; a link to a number above 63 leads nowhere.
 ghost use mathlib.Core.Path.{_≡_};
 ghost use Prim.Native.Nat.{ℕ, _+_, _≤_, _<_};
 ghost use lib.ListN.{getD};
@@ -33,7 +33,7 @@ fn cost_of(c: u16) -> u32
 }
 
 // The set of the router that a hop from u to v at this cost leads to, where it is a step of a walk at x, and the empty set where it is
-// not. A set has no number above 63. `to` holds the distances to the target.
+// not, or where v is above 63. `to` holds the distances to the target.
 fn step_to(u: u8, v: u8, cost: u16, to: &[u32; 64], x: usize) -> u64
     requires { ⌜ x < 64 ⌝ }
     ensures { λ r. ⌜ ((l : ℕ) → r ≡ setOf 64 (λ z. stepTo (λ y. getD (now (to .entry)) y 0) x z (arc u v cost l))) ⌝ }
