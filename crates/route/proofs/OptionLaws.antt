@@ -27,11 +27,11 @@ use Rattle.lfa.specs.Laws.Chunks.{element-mapped}
 use Rattle.lfa.specs.Laws.Set.{setOf-has, setOf-same, has-setOf, size-ones}
 use Rattle.lfa.specs.Laws.Arrive.{Within}
 use Rattle.distance.specs.Columns.{linksIn, arcsIn}
-use Rattle.distance.specs.Area.{column, slotsIn}
+use Rattle.column.specs.Column.{column, slotsIn}
 use Rattle.distance.specs.Laws.List.{below-more, map-below-more, select-append, any-more, any-same, select-same}
 use Rattle.distance.specs.Laws.Set.{or-setOf, setOf-none, has-bit, has-no-bit, has-self, has-other}
 use Rattle.distance.specs.Laws.Columns.{arcsIn-more}
-use Rattle.distance.specs.Laws.Area.{column-at}
+use Rattle.column.specs.Laws.Column.{column-at}
 use Rattle.route.specs.Options.{stepTo, nextBy, deliversBy, membersOf}
 
 -- ---- a hop as a set

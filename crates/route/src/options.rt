@@ -7,7 +7,7 @@ ghost use Rattle.lfa.specs.Space.{setOf};
 ghost use Rattle.lfa.specs.Route.{movesOf, options, optionTaken};
 ghost use Rattle.metric.specs.Fit.{ColumnsWithin, SlotsWithin};
 ghost use Rattle.distance.specs.Columns.{arcsIn};
-ghost use Rattle.distance.specs.Area.{column, slotsIn};
+ghost use Rattle.column.specs.Column.{column, slotsIn};
 ghost use Rattle.lfa.specs.Distance.{towards};
 ghost use Rattle.route.specs.Options.{moveIn, stepTo, nextBy, deliversBy, membersOf};
 use metric::Distance;

@@ -2,7 +2,7 @@
 // endpoint on to delivery.
 use crate::options::Move;
 use crate::options::move_at;
-use distance::towards_prefix;
+use column::towards_prefix;
 use supply::choice;
 ghost use mathlib.Core.Path.{_≡_};
 ghost use mathlib.Core.List.{List, _++_};
@@ -10,7 +10,8 @@ ghost use Prim.Native.Nat.{ℕ, _+_, _-_, _*_, _≤_, _<_};
 ghost use lib.ListN.{length, take, drop};
 ghost use Rattle.lfa.specs.Route.{options, NamedRoute};
 ghost use Rattle.distance.specs.Columns.{arcsIn};
-ghost use Rattle.distance.specs.Area.{held, slotsIn};
+ghost use Rattle.distance.specs.Area.{held};
+ghost use Rattle.column.specs.Column.{slotsIn};
 ghost use Rattle.route.specs.Leg.{Leg, Playable};
 
 // Goes one leg from router `start`, with `written` routers in the buffer before, and returns how many are in it then. The first two

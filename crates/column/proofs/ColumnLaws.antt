@@ -12,8 +12,8 @@ use Rattle.lfa.specs.Network.{Attachment, at, Target}
 use Rattle.lfa.specs.Distance.{unreachable, least, costOver, towards}
 use Rattle.lfa.specs.Laws.Target.{towards-most}
 use Rattle.lfa.specs.Laws.Counting.{length-map-below}
-use Rattle.distance.specs.Area.{column, slotsIn}
+use Rattle.column.specs.Column.{column, slotsIn}
 use Rattle.distance.specs.Laws.List.{map-below-more}
 
 -- ---- columns
 
