@@ -17,6 +17,7 @@ use Rattle.distance.specs.Laws.List.{map-below-more}
 
 -- ---- columns
 
+-- no cell yet
 pub column-none : (f : ℕ → ℕ) → replicate 64 0 ≡ column 0 f
 unfolding column pad below countUp
 column-none f = refl
