@@ -5,5 +5,4 @@ pub mod SearchLaws
 pub mod RowLaws
 pub mod ColumnLaws
 pub mod TableLaws
-pub mod AreaLaws
 pub mod CallLaws

@@ -1,27 +1,14 @@
--- What the public functions do with any numbers: where these are not those of a network, the area stays as it was, and a column is all
--- zeros.
+-- What the public function does with any numbers: where these are not those of a network, the area stays as it was.
 -- Assumes nothing.
 use Prim.Native.Nat.{ℕ}
 use mathlib.Core.Bool.{true, false, _&&_}
 use mathlib.Core.List.{List}
-use lib.Dec.{ltb}
-use lib.ListN.{length, replicate}
-use Rattle.lfa.specs.Network.{router}
-use Rattle.lfa.specs.Distance.{towards, filled}
-use Rattle.metric.specs.Fit.{cellsFit, linksFit, slotsFit}
+use lib.ListN.{length}
+use Rattle.lfa.specs.Distance.{filled}
+use Rattle.metric.specs.Fit.{cellsFit, linksFit}
 use Rattle.distance.specs.Columns.{networkIn}
-use Rattle.distance.specs.Area.{held, column, slotsIn}
 
 -- the area, once the distances of the network in the columns are filled in
 unfoldable pub areaFilled : (routers links : ℕ) → (from to out back area : List ℕ) → List ℕ
 areaFilled routers links from to out back area =
     elim (cellsFit routers (length area) && linksFit routers links from to) [ true ↦ filled (networkIn routers links from to out back) area | false ↦ area ]
-
--- the distances to router t, from each of the n routers
-unfoldable pub routerColumn : (n t : ℕ) → (area : List ℕ) → List ℕ
-routerColumn n t area = elim (cellsFit n (length area) && ltb t n) [ true ↦ column n (towards (held n area) (router t)) | false ↦ replicate 64 0 ]
-
--- the distances to the prefix whose attachments start at slot `first`, from each of the n routers
-unfoldable pub prefixColumn : (n : ℕ) → (routers costs : List ℕ) → (first count : ℕ) → (area : List ℕ) → List ℕ
-prefixColumn n routers costs first count area =
-    elim (cellsFit n (length area) && slotsFit n first count routers) [ true ↦ column n (towards (held n area) (slotsIn routers costs first count)) | false ↦ replicate 64 0 ]

@@ -26,7 +26,7 @@ use Rattle.lfa.specs.Laws.Counting.{length-map-below, map-below-at}
 use Rattle.lfa.specs.Laws.Chunks.{element-mapped}
 use Rattle.lfa.specs.Laws.Set.{setOf-has, setOf-same, size-ones}
 use Rattle.distance.specs.Columns.{linksIn, arcsIn}
-use Rattle.distance.specs.Area.{slotsIn}
+use Rattle.column.specs.Column.{slotsIn}
 use Rattle.distance.specs.Laws.List.{below-more, map-below-more, select-append, any-more}
 use Rattle.distance.specs.Laws.Set.{or-setOf, setOf-none, has-bit, has-no-bit, has-self, has-other}
 use Rattle.distance.specs.Laws.Columns.{arcsIn-more}

@@ -12,7 +12,7 @@ use Rattle.lfa.specs.Distance.{unreachable}
 use Rattle.lfa.specs.Space.{has, setOf}
 use Rattle.lfa.specs.Route.{Move, deliver, go, attachedAt, movesOf, optionTaken}
 use Rattle.distance.specs.Columns.{arcsIn}
-use Rattle.distance.specs.Area.{slotsIn}
+use Rattle.column.specs.Column.{slotsIn}
 use Rattle.options.specs.declared.Move as declared
 use Rattle.options.specs.declared.Move.the-variants.{Deliver, Go}
 

@@ -8,7 +8,7 @@ ghost use Rattle.lfa.specs.Network.{arc};
 ghost use Rattle.lfa.specs.Space.{setOf};
 ghost use Rattle.lfa.specs.Route.{movesOf, optionTaken};
 ghost use Rattle.distance.specs.Columns.{arcsIn};
-ghost use Rattle.distance.specs.Area.{slotsIn};
+ghost use Rattle.column.specs.Column.{slotsIn};
 ghost use Rattle.options.specs.Options.{moveIn, stepTo, nextBy, deliversBy, membersOf, moveBy};
 use metric::Distance;
 

@@ -11,7 +11,7 @@ use Rattle.lfa.specs.Network.{Arc, at, Target, router}
 use Rattle.lfa.specs.Route.{options, NamedRoute}
 use Rattle.lfa.specs.Laws.Route.{bytes-used}
 use Rattle.distance.specs.Columns.{arcsIn}
-use Rattle.distance.specs.Area.{slotsIn}
+use Rattle.column.specs.Column.{slotsIn}
 use Rattle.distance.specs.Laws.Columns.{columns-within}
 use Rattle.route.specs.Leg.{Leg, Playable}
 use Rattle.route.proofs.LegLaws.{first-leg, second-leg}

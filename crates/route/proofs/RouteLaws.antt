@@ -34,7 +34,8 @@ use Rattle.network_file.specs.declared.network.Network.{Network}
 use Rattle.network_file.specs.Struct.{structOf}
 use Rattle.network_file.specs.Load.{faultRow, faultOf}
 use Rattle.distance.specs.Columns.{arcsIn}
-use Rattle.distance.specs.Area.{held, slotsIn}
+use Rattle.distance.specs.Area.{held}
+use Rattle.column.specs.Column.{slotsIn}
 use Rattle.distance.specs.Laws.Columns.{limits-positive}
 use Rattle.search.specs.Spaces.{protectedIn}
 use Rattle.repair.specs.Laws.Named.{routers-same, hops-are, held-is, prefix-slots, prefix-target, protected-is}

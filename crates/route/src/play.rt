@@ -1,6 +1,6 @@
 // The play of a route: it writes the repairing router and the first hop, goes the leg through the tunnel, and then the leg from the
 // endpoint on to delivery.
-use distance::towards_prefix;
+use column::towards_prefix;
 use options::Move;
 use options::move_at;
 use supply::choice;
@@ -10,7 +10,8 @@ ghost use Prim.Native.Nat.{ℕ, _+_, _-_, _*_, _≤_, _<_};
 ghost use lib.ListN.{length, take, drop};
 ghost use Rattle.lfa.specs.Route.{options, NamedRoute};
 ghost use Rattle.distance.specs.Columns.{arcsIn};
-ghost use Rattle.distance.specs.Area.{held, slotsIn};
+ghost use Rattle.distance.specs.Area.{held};
+ghost use Rattle.column.specs.Column.{slotsIn};
 ghost use Rattle.route.specs.Leg.{Leg, Playable};
 
 // Goes one leg from router `start`, with `written` routers in the buffer before, and returns how many are in it then. The first two

@@ -27,8 +27,9 @@ use Rattle.lfa.specs.Laws.Walk.{equation-crossing}
 use Rattle.lfa.specs.Laws.Avoid.{avoids-gives, avoids-make, avoids-below, below-avoids}
 use Rattle.lfa.specs.Laws.Pair.{firsts-give}
 use Rattle.lfa.specs.Laws.Repair.{may-gives, may-make}
-use Rattle.distance.specs.Area.{held, column}
-use Rattle.distance.specs.Laws.Area.{column-at}
+use Rattle.distance.specs.Area.{held}
+use Rattle.column.specs.Column.{column}
+use Rattle.column.specs.Laws.Column.{column-at}
 use Rattle.distance.specs.Laws.List.{any-same, select-same}
 use Rattle.search.specs.Known.{Readable, Known}
 use Rattle.search.specs.Spaces.{clears, clearsTo, someClears, crossesOut}

@@ -14,7 +14,7 @@ use Rattle.lfa.specs.Space.{protected, Space, spaceOf}
 use Rattle.lfa.specs.Repair.{Outcome, noneServes, linkOutcome, prefixOutcome}
 use Rattle.network_file.specs.declared.network.Network.{Network}
 use Rattle.distance.specs.Columns.{networkIn}
-use Rattle.distance.specs.Area.{slotsIn}
+use Rattle.column.specs.Column.{slotsIn}
 use Rattle.metric.specs.Fit.{cellsFit, joins, slotsFit}
 
 -- ---- the tests

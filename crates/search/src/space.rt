@@ -15,7 +15,7 @@ use crate::Link;
 use crate::Which;
 use crate::protected::protect;
 use crate::protected::ready;
-use distance::towards_router;
+use column::towards_router;
 use metric::Distance;
 
 // D(x,t), read from the table.

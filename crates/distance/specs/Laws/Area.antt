@@ -1,24 +1,21 @@
--- Laws of the distances that an area holds, and of columns.
+-- Laws of the distances that an area holds.
 -- Assumes nothing.
 use Prim.Native.Nat.{ℕ, zero, suc, _+_, _*_, _≤_, _<_}
-use mathlib.Core.Path.{_≡_, refl, sym, ap, _∙_, fun-ext}
+use mathlib.Core.Path.{_≡_, refl, sym, ap, fun-ext}
 use mathlib.Core.Bool.{Bool, true, false, _&&_}
 use mathlib.Core.Logic.{_⊎_, inl, inr}
-use mathlib.Core.List.{List, map}
+use mathlib.Core.List.{List}
 use native.Mathlib.Nat.{lt-of-lt-of-le}
-use native.Mathlib.Omega.{arith}
 use lib.Dec.{eqb, ltb}
 use lib.ListN.{length, getD}
 use lib.Arith.{digits-lt}
 use borrow.Author.Tests.{lt-ltb, ltb-true, ltb-false}
-use Rattle.lfa.specs.Lists.{below, table, cell}
+use Rattle.lfa.specs.Lists.{table, cell}
 use Rattle.lfa.specs.Network.{Arc, Network, arcs}
 use Rattle.lfa.specs.Distance.{unreachable, direct, through, stage, distances, distanceIn, filled}
-use Rattle.lfa.specs.Laws.Counting.{length-map-below, map-below-at}
 use Rattle.lfa.specs.Laws.Table.{cell-out}
 use Rattle.lfa.specs.Laws.Work.{work-cell}
-use Rattle.distance.specs.Area.{held, column}
-use Rattle.distance.specs.Laws.List.{pad-at}
+use Rattle.distance.specs.Area.{held}
 
 -- ---- the area
 
@@ -30,12 +27,6 @@ module _ (n : ℕ) (area : List ℕ) (x t : ℕ) (hx : x < n) (ht : t < n) where
   pub held-cell : held n area x t ≡ getD area (x * n + t) 0
   unfolding held
   held-cell = rw (lt-ltb x n hx, lt-ltb t n ht, held)
-
--- ---- columns
-
-pub column-at : (n : ℕ) (f : ℕ → ℕ) (i : ℕ) → i < n → getD (column n f) i 0 ≡ f i
-unfolding column
-column-at n f i h = pad-at 64 (map f (below n)) i 0 (omega (arith, length-map-below f n)) ∙ map-below-at f 0 n i h
 
 -- ---- the table of distances
 

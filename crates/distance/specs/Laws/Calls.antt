@@ -1,19 +1,17 @@
--- The answers of the public functions where the numbers are those of a network, as a caller knows it.
+-- The answers of the public function where the numbers are those of a network, as a caller knows it.
 -- Assumes nothing.
-use Prim.Native.Nat.{ℕ, _*_, _≤_, _<_}
+use Prim.Native.Nat.{ℕ, _*_, _≤_}
 use mathlib.Core.Path.{_≡_, sym, _∙_}
 use mathlib.Core.Bool.{true, _&&_}
 use mathlib.Core.List.{List}
 use lib.ListN.{length}
-use borrow.Author.Tests.{lt-ltb}
-use Rattle.lfa.specs.Network.{Network, router, arcs}
-use Rattle.lfa.specs.Distance.{towards, distances, filled}
+use Rattle.lfa.specs.Network.{Network, arcs}
+use Rattle.lfa.specs.Distance.{distances, filled}
 use Rattle.lfa.specs.Laws.Test.{and-make}
-use Rattle.metric.specs.Fit.{cellsFit, linksFit, ColumnsWithin, SlotsWithin}
-use Rattle.metric.specs.Laws.Fit.{cells-fit, links-fit, slots-fit}
+use Rattle.metric.specs.Fit.{cellsFit, linksFit, ColumnsWithin}
+use Rattle.metric.specs.Laws.Fit.{cells-fit, links-fit}
 use Rattle.distance.specs.Columns.{InColumns, networkIn}
-use Rattle.distance.specs.Area.{held, column, slotsIn}
-use Rattle.distance.specs.Calls.{areaFilled, routerColumn, prefixColumn}
+use Rattle.distance.specs.Calls.{areaFilled}
 
 -- the distances of a network are those of its routers and links, whatever its prefixes
 pub same-filled : (net other : Network) → net .routers ≡ other .routers → net .links ≡ other .links → (area : List ℕ) → filled net area ≡ filled other area
@@ -28,14 +26,3 @@ filled-columns {n} {links} {from} {to} w out back area long net c e =
     let fits : (cellsFit n (length area) && linksFit n links from to) ≡ true = and-make _ _ (cells-fit n (length area) (w .few-routers) long) (links-fit w) in
     let same = same-filled (networkIn n links from to out back) net (sym (c .routers-are)) (sym (c .links-are)) area in
     e ∙ rw (fits, areaFilled) same
-
--- the column holds the distances to the target
-module _ (n : ℕ) (area : List ℕ) (few : n ≤ 64) (long : n * n ≤ length area) where
-  pub router-known : {column-read : List ℕ} (t : ℕ) → t < n → column-read ≡ routerColumn n t area → column-read ≡ column n (towards (held n area) (router t))
-  unfolding routerColumn
-  router-known t h e = e ∙ rw (cells-fit n (length area) few long, lt-ltb t n h, routerColumn)
-
-  pub prefix-known : {column-read : List ℕ} (routers costs : List ℕ) (first count : ℕ) → SlotsWithin n first count routers → column-read ≡ prefixColumn n routers costs first count area →
-      column-read ≡ column n (towards (held n area) (slotsIn routers costs first count))
-  unfolding prefixColumn
-  prefix-known routers costs first count w e = e ∙ rw (cells-fit n (length area) few long, slots-fit w, prefixColumn)

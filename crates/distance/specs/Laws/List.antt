@@ -1,14 +1,12 @@
--- Laws of lists made by counting up, one element more, and of padding.
+-- Laws of lists made by counting up, one element more.
 -- Assumes nothing.
-use Prim.Native.Nat.{ℕ, zero, suc, _+_, _-_, _<_}
+use Prim.Native.Nat.{ℕ, zero, suc, _+_}
 use mathlib.Core.Path.{refl, ap₂, _≡_, ap, _∙_}
 use mathlib.Core.Bool.{Bool, true, false, _||_}
 use mathlib.Core.List.{[], List·Memᴰ, List·Memᴰ·head, List·Memᴰ·tail, List, _∷_, _++_, map, map-append}
 use native.Mathlib.Numerals.{add-one}
 use native.Mathlib.Omega.{arith}
-use lib.ListN.{length, getD, replicate, List·getD-append}
 use Rattle.lfa.specs.Lists.{keepIf, select, anyOf, countUp, below}
-use Rattle.lfa.specs.FileOf.{pad}
 
 -- ---- counting up
 
@@ -60,9 +58,3 @@ module _ {A : Type 0} where
   unfolding select
   select-same p q [] h = refl
   select-same p q (x ∷ l) h = ap₂ (λ (b : Bool) (k : List A). keepIf b x k) (h x (List·Memᴰ·head refl)) (select-same p q l (λ y m. h y (List·Memᴰ·tail m)))
-
--- ---- padding
-
-pub pad-at : (n : ℕ) (b : List ℕ) (i d : ℕ) → i < length b → getD (pad n b) i d ≡ getD b i d
-unfolding pad
-pad-at n b i d h = List·getD-append b (replicate (n - length b) 0) d i h

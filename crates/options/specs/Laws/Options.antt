@@ -20,10 +20,10 @@ use Rattle.lfa.specs.Laws.Set.{has-setOf}
 use Rattle.lfa.specs.Laws.Arrive.{Within}
 use Rattle.metric.specs.Fit.{ColumnsWithin}
 use Rattle.distance.specs.Columns.{arcsIn}
-use Rattle.distance.specs.Area.{column, slotsIn}
+use Rattle.column.specs.Column.{column, slotsIn}
 use Rattle.distance.specs.Laws.List.{select-append, any-same, select-same}
 use Rattle.distance.specs.Laws.Columns.{columns-within}
-use Rattle.distance.specs.Laws.Area.{column-at}
+use Rattle.column.specs.Laws.Column.{column-at}
 use Rattle.options.specs.Options.{stepTo, nextBy, deliversBy, membersOf, fits, moveBy}
 
 -- ---- the options

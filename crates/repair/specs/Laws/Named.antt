@@ -18,7 +18,8 @@ use Rattle.network_file.specs.declared.network.Network.{Network}
 use Rattle.network_file.specs.Struct.{structOf}
 use Rattle.distance.specs.Columns.{arcsIn}
 use Rattle.metric.specs.Fit.{SlotsWithin}
-use Rattle.distance.specs.Area.{held, slotsIn}
+use Rattle.distance.specs.Area.{held}
+use Rattle.column.specs.Column.{slotsIn}
 use Rattle.distance.specs.Laws.Area.{held-filled}
 use Rattle.distance.specs.Laws.Columns.{arcs-columns}
 use Rattle.search.specs.Spaces.{protectedIn}

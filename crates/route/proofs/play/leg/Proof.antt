@@ -8,8 +8,9 @@ use borrow.Author.Needs.{needs}
 use Rattle.lfa.specs.Distance.{towards}
 use Rattle.lfa.specs.Route.{go, options, choiceAt, optionTaken, Takes}
 use Rattle.distance.specs.Columns.{arcsIn}
-use Rattle.distance.specs.Area.{held, slotsIn}
-use Rattle.distance.specs.Laws.Calls.{prefix-known}
+use Rattle.distance.specs.Area.{held}
+use Rattle.column.specs.Column.{slotsIn}
+use Rattle.column.specs.Laws.Calls.{prefix-known}
 use Rattle.distance.specs.Laws.Columns.{columns-within}
 use Rattle.options.specs.Options.{moveIn}
 use Rattle.options.specs.Laws.Options.{move-known}

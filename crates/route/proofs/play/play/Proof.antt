@@ -9,7 +9,8 @@ use lib.ListN.{length, set, take, drop, length-set}
 use borrow.Author.Needs.{needs}
 use Rattle.lfa.specs.Route.{NamedRoute}
 use Rattle.distance.specs.Columns.{arcsIn}
-use Rattle.distance.specs.Area.{held, slotsIn}
+use Rattle.distance.specs.Area.{held}
+use Rattle.column.specs.Column.{slotsIn}
 use Rattle.route.proofs.PlayLaws.{tunnel-playable, route-length, tunnel-leg, rest-leg, leg-long, written-all}
 use Rattle.route.proofs.play.play.Statement.{statement}
 use Rattle.route.proofs.play.play.Tie as tie

@@ -6,7 +6,7 @@ use borrow.Author.Needs.{needs}
 use Rattle.lfa.specs.Network.{Arc, router}
 use Rattle.lfa.specs.Repair.{linkOutcome}
 use Rattle.distance.specs.Columns.{arcsIn}
-use Rattle.distance.specs.Laws.Calls.{router-known}
+use Rattle.column.specs.Laws.Calls.{router-known}
 use Rattle.search.specs.Known.{Readable}
 use Rattle.search.specs.Spaces.{asked}
 use Rattle.search.proofs.KnownLaws.{readable}

@@ -9,8 +9,9 @@ use Rattle.lfa.specs.Network.{Arc, Target}
 use Rattle.lfa.specs.Distance.{towards}
 use Rattle.lfa.specs.Repair.{prefixOutcome}
 use Rattle.distance.specs.Columns.{arcsIn}
-use Rattle.distance.specs.Area.{held, column, slotsIn}
-use Rattle.distance.specs.Laws.Calls.{prefix-known}
+use Rattle.distance.specs.Area.{held}
+use Rattle.column.specs.Column.{column, slotsIn}
+use Rattle.column.specs.Laws.Calls.{prefix-known}
 use Rattle.search.specs.Known.{Readable}
 use Rattle.search.specs.Spaces.{asked}
 use Rattle.search.specs.Choice.{foundIn, outcomeFor}

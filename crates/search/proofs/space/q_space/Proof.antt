@@ -1,7 +1,7 @@
 -- `search::space::q_space` meets its contract. By distances just the routers of Q avoid to E.
 -- Assumes nothing.
 use borrow.Author.Needs.{needs}
-use Rattle.distance.specs.Laws.Calls.{router-known}
+use Rattle.column.specs.Laws.Calls.{router-known}
 use Rattle.search.specs.Known.{Readable}
 use Rattle.search.specs.Spaces.{asked}
 use Rattle.search.proofs.KnownLaws.{readable, q-space}

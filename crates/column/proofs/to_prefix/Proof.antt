@@ -1,4 +1,4 @@
--- `distance::column::to_prefix` meets its contract. The loop's invariant: `best` is the distance over the slots passed.
+-- `column::to_prefix` meets its contract. The loop's invariant: `best` is the distance over the slots passed.
 -- Assumes nothing.
 use Prim.Native.Nat.{ℕ, _-_, _≤_}
 use mathlib.Core.Path.{_≡_, ap, _∙_}
@@ -7,10 +7,11 @@ use native.Mathlib.Omega.{arith}
 use borrow.Author.Needs.{needs}
 use Rattle.lfa.specs.Lists.{countUp, below}
 use Rattle.lfa.specs.Distance.{least, towards}
-use Rattle.distance.specs.Area.{held, slotsIn}
-use Rattle.distance.proofs.AreaLaws.{slot-turn}
-use Rattle.distance.proofs.column.to_prefix.Statement.{statement}
-use Rattle.distance.proofs.column.to_prefix.Tie as tie
+use Rattle.distance.specs.Area.{held}
+use Rattle.column.specs.Column.{slotsIn}
+use Rattle.column.proofs.ColumnLaws.{slot-turn}
+use Rattle.column.proofs.to_prefix.Statement.{statement}
+use Rattle.column.proofs.to_prefix.Tie as tie
 
 abbrev Inv-loop : tie.InvT-loop
 Inv-loop dist n x at own first count best₀ s₀ best s = (s ≤ count) × (best ≡ towards (held n dist) (slotsIn at own first s) x)

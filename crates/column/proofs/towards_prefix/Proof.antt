@@ -1,4 +1,4 @@
--- `distance::towards_prefix` meets its contract. The cells are read where both tests pass.
+-- `column::towards_prefix` meets its contract. The cells are read where both tests pass.
 -- Assumes nothing.
 use mathlib.Core.Path.{_≡_, sym, _∙_}
 use mathlib.Core.Bool.{true}
@@ -8,9 +8,9 @@ use borrow.Author.Tests.{not-true, not-false}
 use borrow.Author.Needs.{needs}
 use Rattle.metric.specs.Fit.{SlotsWithin, cellsFit}
 use Rattle.metric.specs.Laws.Fit.{cells-give, slots-give}
-use Rattle.distance.proofs.CallLaws.{prefix-none, prefix-found}
-use Rattle.distance.proofs.towards_prefix.Statement.{statement}
-use Rattle.distance.proofs.towards_prefix.Tie as tie
+use Rattle.column.proofs.CallLaws.{prefix-none, prefix-found}
+use Rattle.column.proofs.towards_prefix.Statement.{statement}
+use Rattle.column.proofs.towards_prefix.Tie as tie
 
 cells-fit-requires : tie.Need-cells-fit-requires
 cells-fit-requires c κs = search needs

@@ -1,16 +1,17 @@
--- `distance::towards_router` meets its contract. The cells are read where both tests pass.
+-- `column::towards_router` meets its contract. The cells are read where both tests pass.
 -- Assumes nothing.
 use mathlib.Core.Path.{_≡_, sym, _∙_}
 use mathlib.Core.Bool.{true}
 use mathlib.Core.Logic.{inl, inr}
+use native.Mathlib.Omega.{arith}
 use lib.ListN.{length}
 use borrow.Author.Tests.{not-true, not-false, le-ltb}
 use borrow.Author.Needs.{needs}
 use Rattle.metric.specs.Fit.{cellsFit}
 use Rattle.metric.specs.Laws.Fit.{cells-give}
-use Rattle.distance.proofs.CallLaws.{router-none, router-found}
-use Rattle.distance.proofs.towards_router.Statement.{statement}
-use Rattle.distance.proofs.towards_router.Tie as tie
+use Rattle.column.proofs.CallLaws.{router-none, router-found}
+use Rattle.column.proofs.towards_router.Statement.{statement}
+use Rattle.column.proofs.towards_router.Tie as tie
 
 cells-fit-requires : tie.Need-cells-fit-requires
 cells-fit-requires c κs = search needs
@@ -19,7 +20,9 @@ returns : tie.Need-returns
 returns c = router-none _ _ _ (inl (sym (c .before .cells-fit .ensures) ∙ not-true _ (c .if1 .taken)))
 
 returns-2 : tie.Need-returns-2
-returns-2 c = router-none _ _ _ (inr (le-ltb _ _ (c .if2 .taken)))
+returns-2 c =
+    let a = c .before .before .before .before .args in
+    router-none _ _ _ (inr (le-ltb (a .t) (a .n) (omega arith)))
 
 -- the first test passed
 fits : (c : tie.Else1) → cellsFit (c .before .before .before .args .n) (length (c .before .before .before .args .dist .now)) ≡ true

@@ -1,4 +1,4 @@
--- `distance::column::router_column` meets its contract. The loop's invariant: the cells before x hold the distances to the router.
+-- `column::router_column` meets its contract. The loop's invariant: the cells before x hold the distances to the router.
 -- Assumes nothing.
 use Prim.Native.Nat.{ℕ, _-_, _≤_}
 use mathlib.Core.Path.{_≡_, sym, ap, _∙_}
@@ -7,10 +7,11 @@ use borrow.Author.Needs.{needs}
 use Rattle.lfa.specs.Network.{router}
 use Rattle.lfa.specs.Distance.{towards}
 use Rattle.lfa.specs.Laws.Target.{towards-router}
-use Rattle.distance.specs.Area.{held, column}
-use Rattle.distance.proofs.AreaLaws.{column-none, column-more}
-use Rattle.distance.proofs.column.router_column.Statement.{statement}
-use Rattle.distance.proofs.column.router_column.Tie as tie
+use Rattle.distance.specs.Area.{held}
+use Rattle.column.specs.Column.{column}
+use Rattle.column.proofs.ColumnLaws.{column-none, column-more}
+use Rattle.column.proofs.router_column.Statement.{statement}
+use Rattle.column.proofs.router_column.Tie as tie
 
 abbrev Inv-loop : tie.InvT-loop
 Inv-loop dist n t to₀ x₀ to x = (x ≤ n) × (to ≡ column x (towards (held n dist) (router t)))
@@ -22,7 +23,7 @@ loop-holds : tie.Need-loop-holds Inv-loop μ-loop
 loop-holds c = (omega arith, column-none _)
 
 cell-requires : tie.Need-cell-requires Inv-loop μ-loop
-cell-requires c κs = (c .before .before .before .pre .1, c .loop-test .taken, c .before .before .before .pre .2)
+cell-requires c κs = search needs
 
 mul-to : tie.Need-mul-to Inv-loop μ-loop
 mul-to c = search needs

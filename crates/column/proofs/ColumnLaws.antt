@@ -12,11 +12,12 @@ use Rattle.lfa.specs.Network.{Attachment, at, Target}
 use Rattle.lfa.specs.Distance.{unreachable, least, costOver, towards}
 use Rattle.lfa.specs.Laws.Target.{towards-most}
 use Rattle.lfa.specs.Laws.Counting.{length-map-below}
-use Rattle.distance.specs.Area.{column, slotsIn}
+use Rattle.column.specs.Column.{column, slotsIn}
 use Rattle.distance.specs.Laws.List.{map-below-more}
 
 -- ---- columns
 
+-- no cell yet
 pub column-none : (f : ℕ → ℕ) → replicate 64 0 ≡ column 0 f
 unfolding column pad below countUp
 column-none f = refl

@@ -1,14 +1,15 @@
--- `distance::column::prefix_column` meets its contract. The loop's invariant: the cells before x hold the distances to the prefix.
+-- `column::prefix_column` meets its contract. The loop's invariant: the cells before x hold the distances to the prefix.
 -- Assumes nothing.
 use Prim.Native.Nat.{ℕ, _-_, _≤_}
 use mathlib.Core.Path.{_≡_, ap, _∙_}
 use native.Mathlib.Omega.{arith}
 use borrow.Author.Needs.{needs}
 use Rattle.lfa.specs.Distance.{towards}
-use Rattle.distance.specs.Area.{held, column, slotsIn}
-use Rattle.distance.proofs.AreaLaws.{column-none, column-more}
-use Rattle.distance.proofs.column.prefix_column.Statement.{statement}
-use Rattle.distance.proofs.column.prefix_column.Tie as tie
+use Rattle.distance.specs.Area.{held}
+use Rattle.column.specs.Column.{column, slotsIn}
+use Rattle.column.proofs.ColumnLaws.{column-none, column-more}
+use Rattle.column.proofs.prefix_column.Statement.{statement}
+use Rattle.column.proofs.prefix_column.Tie as tie
 
 abbrev Inv-loop : tie.InvT-loop
 Inv-loop dist n at own first count to₀ x₀ to x = (x ≤ n) × (to ≡ column x (towards (held n dist) (slotsIn at own first count)))

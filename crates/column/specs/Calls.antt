@@ -1,0 +1,21 @@
+-- What the public functions answer for any numbers: where these are not those of a network, a column is all zeros.
+-- Assumes nothing.
+use Prim.Native.Nat.{ℕ}
+use mathlib.Core.Bool.{true, false, _&&_}
+use mathlib.Core.List.{List}
+use lib.Dec.{ltb}
+use lib.ListN.{length, replicate}
+use Rattle.lfa.specs.Network.{router}
+use Rattle.lfa.specs.Distance.{towards}
+use Rattle.metric.specs.Fit.{cellsFit, slotsFit}
+use Rattle.distance.specs.Area.{held}
+use Rattle.column.specs.Column.{column, slotsIn}
+
+-- the distances to router t, from each of the n routers
+unfoldable pub routerColumn : (n t : ℕ) → (area : List ℕ) → List ℕ
+routerColumn n t area = elim (cellsFit n (length area) && ltb t n) [ true ↦ column n (towards (held n area) (router t)) | false ↦ replicate 64 0 ]
+
+-- the distances to the prefix whose attachments start at slot `first`, from each of the n routers
+unfoldable pub prefixColumn : (n : ℕ) → (routers costs : List ℕ) → (first count : ℕ) → (area : List ℕ) → List ℕ
+prefixColumn n routers costs first count area =
+    elim (cellsFit n (length area) && slotsFit n first count routers) [ true ↦ column n (towards (held n area) (slotsIn routers costs first count)) | false ↦ replicate 64 0 ]
