@@ -60,19 +60,43 @@ fn print_repair(answer: Repair) {
     }
 }
 
-// The spaces and the link repair of one link and end.
-fn print_link(file: &[u8], link: usize, side: usize) {
-    let mut work = [7u32; 4096];
+// The line of P.
+fn print_p(file: &[u8], link: usize, side: usize) {
     print_question(b"p", link, side);
+    let mut work = [7u32; 4096];
     print_space(repair::p_space(file, &mut work, link, side));
+}
+
+// The line of extended P.
+fn print_extended_p(file: &[u8], link: usize, side: usize) {
     print_question(b"extended-p", link, side);
+    let mut work = [7u32; 4096];
     print_space(repair::extended_p_space(file, &mut work, link, side));
+}
+
+// The line of Q.
+fn print_q(file: &[u8], link: usize, side: usize) {
     print_question(b"q", link, side);
+    let mut work = [7u32; 4096];
     print_space(repair::q_space(file, &mut work, link, side));
+}
+
+// The line of the link repair.
+fn print_link_repair(file: &[u8], link: usize, side: usize) {
     print_question(b"link-repair", link, side);
+    let mut work = [7u32; 4096];
     print_repair(repair::link_repair(file, &mut work, link, side));
 }
 
+// The spaces and the link repair of one link and end.
+fn print_link(file: &[u8], link: usize, side: usize) {
+    print_p(file, link, side);
+    print_extended_p(file, link, side);
+    print_q(file, link, side);
+    print_link_repair(file, link, side);
+}
+
+// The line of a prefix repair.
 fn print_prefix(file: &[u8], link: usize, side: usize, prefix: usize) {
     print_question(b"prefix-repair", link, side);
     number(prefix);
@@ -80,6 +104,7 @@ fn print_prefix(file: &[u8], link: usize, side: usize, prefix: usize) {
     print_repair(repair::prefix_repair(file, &mut work, link, side, prefix));
 }
 
+// The lines of the prefix repairs of one link and end.
 fn print_prefixes(file: &[u8], link: usize, side: usize, prefixes: usize) {
     let mut prefix: usize = 0;
     while prefix < prefixes {
@@ -134,6 +159,7 @@ fn check_sum(file: &[u8], link: usize, side: usize, prefixes: usize) -> u64 {
     sum
 }
 
+// The line of the check sum.
 fn print_sum(file: &[u8], link: usize, side: usize, prefixes: usize) {
     print_question(b"prefix-repairs", link, side);
     let sum = check_sum(file, link, side, prefixes);
@@ -141,7 +167,7 @@ fn print_sum(file: &[u8], link: usize, side: usize, prefixes: usize) {
     end();
 }
 
-// All questions of one link and end; of a network that is not to be printed whole the prefix repairs only by their check sum.
+// All questions of one link and end; the prefix repairs of a network that is not printed whole only by their check sum.
 fn print_side(file: &[u8], link: usize, side: usize, prefixes: usize, whole: bool) {
     print_link(file, link, side);
     if whole {
