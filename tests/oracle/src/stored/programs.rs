@@ -42,12 +42,13 @@ const REPAIRS: Section = Section { name: "repairs", lines: repairs::lines };
 const ROUTES: Section = Section { name: "routes", lines: routes::lines };
 const PLAN: Section = Section { name: "plan", lines: plan_text };
 
-/// The sections about a stored case, in their order.
+/// The sections about a stored case.
 pub const SECTIONS: &[Section] = &[READING, DISTANCES, REPAIRS, ROUTES];
 
 /// All programs.
 pub const PROGRAMS: &[Program] = &[
-    Program { name: "stored_cases", reads: Reads::Cases, sections: SECTIONS },
+    Program { name: "stored_answers", reads: Reads::Cases, sections: &[READING, REPAIRS] },
+    Program { name: "stored_buffers", reads: Reads::Cases, sections: &[DISTANCES, ROUTES] },
     Program { name: "plan", reads: Reads::Example("ring4"), sections: &[PLAN] },
 ];
 

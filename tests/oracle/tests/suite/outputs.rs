@@ -20,37 +20,54 @@ fn prints(name: &str, file: &[u8]) -> String {
     (section.lines)(&Context::sound(), file)
 }
 
+/// The programs that read the stored cases, with their sections in order.
+const OVER_CASES: [(&str, [&str; 2]); 2] =
+    [("stored_answers", ["reading", "repairs"]), ("stored_buffers", ["distances", "routes"])];
+
 #[test]
 fn an_input_holds_each_file_after_its_length() {
     let cases = stored_cases();
-    let program = program("stored_cases");
-    let chosen = program.chosen(&cases).expect("cases");
-    let input = program.input(&chosen).expect("an input");
-    let mut rest = input.as_slice();
-    for case in &chosen {
-        let length = usize::from(rest[0]) + 256 * usize::from(rest[1]);
-        assert_eq!(rest[2..2 + length], case.file, "{}", case.name);
-        rest = &rest[2 + length..];
+    for (name, _) in OVER_CASES {
+        let program = program(name);
+        let chosen = program.chosen(&cases).expect("cases");
+        let input = program.input(&chosen).expect("an input");
+        let mut rest = input.as_slice();
+        for case in &chosen {
+            let length = usize::from(rest[0]) + 256 * usize::from(rest[1]);
+            assert_eq!(rest[2..2 + length], case.file, "{}", case.name);
+            rest = &rest[2 + length..];
+        }
+        assert!(rest.is_empty());
     }
-    assert!(rest.is_empty());
 }
 
 #[test]
 fn every_text_is_a_case_and_the_networks_come_first() {
     let cases = stored_cases();
-    let chosen = program("stored_cases").chosen(&cases).expect("cases");
     let texts: Vec<&Case> = cases.networks.iter().chain(&cases.reader).collect();
-    assert_eq!(chosen, texts);
+    for (name, _) in OVER_CASES {
+        assert_eq!(program(name).chosen(&cases), Ok(texts.clone()));
+    }
 }
 
 #[test]
 fn an_output_numbers_its_cases_and_has_the_sections_in_their_order() {
     let case = |file: Vec<u8>| Case { name: String::new(), file };
     let (one, two) = (case(write(&ring(3))), case(Vec::new()));
-    let output = program("stored_cases").output(&Context::sound(), &[&one, &two]);
-    let names = ["reading", "distances", "repairs", "routes"];
-    let all = |file: &[u8]| names.map(|name| prints(name, file)).concat();
-    assert_eq!(output, format!("case 0\n{}case 1\n{}", all(&one.file), all(&two.file)));
+    for (name, sections) in OVER_CASES {
+        let output = program(name).output(&Context::sound(), &[&one, &two]);
+        let all = |file: &[u8]| sections.map(|section| prints(section, file)).concat();
+        assert_eq!(output, format!("case 0\n{}case 1\n{}", all(&one.file), all(&two.file)));
+    }
+}
+
+#[test]
+fn every_section_is_printed_by_one_program() {
+    let mut printed = OVER_CASES.map(|(_, sections)| sections).concat();
+    let mut named: Vec<&str> = SECTIONS.iter().map(|section| section.name).collect();
+    printed.sort();
+    named.sort();
+    assert_eq!(printed, named);
 }
 
 #[test]
@@ -319,7 +336,7 @@ fn the_sections_notice_every_fault_that_they_can_show() {
     let cases = stored_cases();
     let mut asked = Vec::new();
     for section in SECTIONS {
-        for case in program("stored_cases").chosen(&cases).expect("cases") {
+        for case in cases.networks.iter().chain(&cases.reader) {
             // The smaller files are enough for all but the reader.
             if section.name == "reading" || case.name != "largest" {
                 asked.push((section.lines, case));

@@ -36,17 +36,23 @@ fn stored(root: &Path, place: &str) -> Vec<u8> {
     fs::read(root.join(place)).unwrap_or_else(|_| panic!("{place} is not there"))
 }
 
+fn text(root: &Path, place: &str) -> String {
+    String::from_utf8(stored(root, place)).expect("text")
+}
+
 fn report(text: &str, success: bool) -> Result<Report, String> {
     Ok(Report { text: text.to_string(), success })
 }
 
 #[test]
 fn all_files_are_written_once() {
-    let root = repository("written", &["stored_cases", "plan"]);
+    let root = repository("written", &["stored_answers", "stored_buffers", "plan"]);
     let written = "\
 examples/ring4.net is written
-crates/stored_cases/stdin is written
-crates/stored_cases/stdout is written
+crates/stored_answers/stdin is written
+crates/stored_answers/stdout is written
+crates/stored_buffers/stdin is written
+crates/stored_buffers/stdout is written
 crates/plan/stdin is written
 crates/plan/stdout is written
 ";
@@ -57,40 +63,42 @@ crates/plan/stdout is written
     assert_eq!(stored(&root, "examples/ring4.net"), write(&ring_4_with_prefix()));
     assert_eq!(stored(&root, "crates/plan/stdin"), write(&ring_4_with_prefix()));
     assert!(stored(&root, "crates/plan/stdout").starts_with(b"plan 4 4 1\n"));
-    let input = stored(&root, "crates/stored_cases/stdin");
+    let input = stored(&root, "crates/stored_answers/stdin");
     assert_eq!(input[..514], [&[0, 2], write(&lone_router()).as_slice()].concat());
     assert_eq!(input[514..518], [0, 0, 0, 4]);
-    let output = String::from_utf8(stored(&root, "crates/stored_cases/stdout")).expect("text");
+    assert_eq!(stored(&root, "crates/stored_buffers/stdin"), input);
+    let output = text(&root, "crates/stored_answers/stdout");
     assert!(output.starts_with("case 0\naccepted 1 0 0\nlink-entry 0\n"));
-    assert!(
-        output.contains("\ndone\nrow 0 0\nlater 7 7\nrefused 10 1\nkept\np 0 0 refused 12 0\n")
-    );
+    assert!(output.contains("\nprefix-entry 4000000000\np 0 0 refused 12 0\n"));
     assert!(output.contains("\ncase 2\nrefused 4 1\nlink-entry 0\n"));
-    assert!(output.contains("\nrefused 4 1\nlater 7 7\nrefused 4 1\nkept\np 0 0 refused 4 1\n"));
+    assert!(output.contains("\nprefix-entry 4000000000\np 0 0 refused 4 1\n"));
+    let output = text(&root, "crates/stored_buffers/stdout");
+    assert!(output.starts_with("case 0\ndone\nrow 0 0\nlater 7 7\nrefused 10 1\nkept\n"));
+    assert!(output.contains("\ncase 2\nrefused 4 1\nlater 7 7\nrefused 4 1\nkept\nshort-route "));
 }
 
 #[test]
 fn a_program_without_a_folder_is_left_out() {
-    let root = repository("left_out", &["stored_cases"]);
+    let root = repository("left_out", &["stored_answers"]);
     assert!(run(&root, &[]).is_ok());
-    assert!(root.join("crates/stored_cases/stdout").exists());
+    assert!(root.join("crates/stored_answers/stdout").exists());
     assert!(!root.join("crates/plan").exists());
     assert_eq!(run(&root, &["--check"]), report("", true));
 }
 
 #[test]
 fn check_notices_a_changed_byte_and_a_missing_file() {
-    let root = repository("changed", &["stored_cases", "plan"]);
+    let root = repository("changed", &["stored_answers", "plan"]);
     assert!(run(&root, &[]).is_ok());
-    let mut output = stored(&root, "crates/stored_cases/stdout");
+    let mut output = stored(&root, "crates/stored_answers/stdout");
     let middle = output.len() / 2;
     output[middle] ^= 1;
-    fs::write(root.join("crates/stored_cases/stdout"), &output).expect("a file is written");
+    fs::write(root.join("crates/stored_answers/stdout"), &output).expect("a file is written");
     fs::remove_file(root.join("examples/ring4.net")).expect("a file is removed");
-    let differing = "examples/ring4.net differs\ncrates/stored_cases/stdout differs\n";
+    let differing = "examples/ring4.net differs\ncrates/stored_answers/stdout differs\n";
     assert_eq!(run(&root, &["--check"]), report(differing, false));
     // The check has written nothing; writing mends both files.
-    assert_eq!(stored(&root, "crates/stored_cases/stdout"), output);
+    assert_eq!(stored(&root, "crates/stored_answers/stdout"), output);
     assert!(!root.join("examples/ring4.net").exists());
     assert!(run(&root, &[]).is_ok());
     assert_eq!(run(&root, &["--check"]), report("", true));
@@ -98,10 +106,10 @@ fn check_notices_a_changed_byte_and_a_missing_file() {
 
 #[test]
 fn check_notices_a_changed_text() {
-    let root = repository("changed_text", &["stored_cases"]);
+    let root = repository("changed_text", &["stored_answers"]);
     assert!(run(&root, &[]).is_ok());
     store(&root, "tests/cases/one.txt", "routers 2\n");
-    let differing = "crates/stored_cases/stdin differs\ncrates/stored_cases/stdout differs\n";
+    let differing = "crates/stored_answers/stdin differs\ncrates/stored_answers/stdout differs\n";
     assert_eq!(run(&root, &["--check"]), report(differing, false));
 }
 
@@ -109,10 +117,14 @@ fn check_notices_a_changed_text() {
 fn the_list_names_the_cases() {
     let root = repository("listed", &[]);
     let listed = "\
-stored_cases 0 one
-stored_cases 1 reader/length_0
-stored_cases 2 reader/row_4_more
-stored_cases 3 reader/row_9_next
+stored_answers 0 one
+stored_answers 1 reader/length_0
+stored_answers 2 reader/row_4_more
+stored_answers 3 reader/row_9_next
+stored_buffers 0 one
+stored_buffers 1 reader/length_0
+stored_buffers 2 reader/row_4_more
+stored_buffers 3 reader/row_9_next
 plan 0 ring4
 ";
     assert_eq!(run(&root, &["--list"]), report(listed, true));
@@ -126,7 +138,7 @@ fn what_is_wrong_is_said() {
     assert!(wrong.contains("two.txt: line 2: found 2 numbers"), "{wrong}");
     fs::remove_file(root.join("tests/cases/two.txt")).expect("a file is removed");
     store(&root, "tests/cases/long.txt", "routers 1\nlength 65536\n");
-    fs::create_dir(root.join("crates/stored_cases")).expect("a folder");
+    fs::create_dir(root.join("crates/stored_answers")).expect("a folder");
     let wrong = run(&root, &[]).expect_err("a long file");
     assert_eq!(wrong, "long.txt makes a file of 65536 bytes, over 65535");
     fs::remove_file(root.join("tests/cases/long.txt")).expect("a file is removed");

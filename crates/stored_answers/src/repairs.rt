@@ -1,0 +1,214 @@
+// What the space calls and the repair calls answer to the questions about a file. Every call gets a work area that does not hold the
+// distances yet.
+use super::print::end;
+use super::print::number;
+use super::print::refused;
+use network_file::load;
+use refusal::Row;
+use refusal::question_row;
+use repair::Pair;
+use repair::Refusal;
+use repair::Repair;
+use repair::SpaceAnswer;
+
+// The start of a line: the question, its link and its end.
+fn print_question(name: &[u8], link: usize, side: usize) {
+    io::write_all(1, name);
+    number(link);
+    number(side);
+}
+
+// The rest of a line: a refusal.
+fn print_refusal(refusal: Refusal) {
+    io::write_all(1, b" ");
+    refused(question_row(refusal));
+}
+
+// The rest of a line: a set, or a refusal.
+fn print_space(answer: SpaceAnswer) {
+    match answer {
+        SpaceAnswer::Set(set) => {
+            io::write_all(1, b" set");
+            number(set as usize);
+            end();
+        }
+        SpaceAnswer::Refused(refusal) => print_refusal(refusal),
+    }
+}
+
+// The rest of a line: a pair.
+fn print_pair(pair: Pair) {
+    io::write_all(1, b" pair");
+    number(pair.first);
+    number(pair.endpoint);
+    number(pair.class as usize);
+    number(pair.cost as usize);
+    end();
+}
+
+// The rest of a line: a repair, or what is answered in its place.
+fn print_repair(answer: Repair) {
+    match answer {
+        Repair::Refused(refusal) => print_refusal(refusal),
+        Repair::Unreachable => {
+            io::write_all(1, b" unreachable\n");
+        }
+        Repair::Untouched => {
+            io::write_all(1, b" untouched\n");
+        }
+        Repair::Pair(pair) => print_pair(pair),
+    }
+}
+
+// The line of P.
+fn print_p(file: &[u8], link: usize, side: usize) {
+    print_question(b"p", link, side);
+    let mut work = [7u32; 4096];
+    print_space(repair::p_space(file, &mut work, link, side));
+}
+
+// The line of extended P.
+fn print_extended_p(file: &[u8], link: usize, side: usize) {
+    print_question(b"extended-p", link, side);
+    let mut work = [7u32; 4096];
+    print_space(repair::extended_p_space(file, &mut work, link, side));
+}
+
+// The line of Q.
+fn print_q(file: &[u8], link: usize, side: usize) {
+    print_question(b"q", link, side);
+    let mut work = [7u32; 4096];
+    print_space(repair::q_space(file, &mut work, link, side));
+}
+
+// The line of the link repair.
+fn print_link_repair(file: &[u8], link: usize, side: usize) {
+    print_question(b"link-repair", link, side);
+    let mut work = [7u32; 4096];
+    print_repair(repair::link_repair(file, &mut work, link, side));
+}
+
+// The spaces and the link repair of one link and end.
+fn print_link(file: &[u8], link: usize, side: usize) {
+    print_p(file, link, side);
+    print_extended_p(file, link, side);
+    print_q(file, link, side);
+    print_link_repair(file, link, side);
+}
+
+// The line of a prefix repair.
+fn print_prefix(file: &[u8], link: usize, side: usize, prefix: usize) {
+    print_question(b"prefix-repair", link, side);
+    number(prefix);
+    let mut work = [7u32; 4096];
+    print_repair(repair::prefix_repair(file, &mut work, link, side, prefix));
+}
+
+// The lines of the prefix repairs of one link and end.
+fn print_prefixes(file: &[u8], link: usize, side: usize, prefixes: usize) {
+    let mut prefix: usize = 0;
+    while prefix < prefixes {
+        print_prefix(file, link, side, prefix);
+        prefix += 1;
+    }
+}
+
+// A refusal as one number: 0 for number 14, the only one that a question in range gets, and 4 for the others.
+fn refusal_code(row: Row) -> u64 {
+    if row.number == 14 {
+        return 0;
+    }
+    4
+}
+
+// The answer of a prefix repair as one number, another one for another answer.
+fn code(answer: Repair) -> u64 {
+    match answer {
+        Repair::Refused(refusal) => refusal_code(question_row(refusal)),
+        Repair::Unreachable => 1,
+        Repair::Untouched => 2,
+        Repair::Pair(pair) => {
+            let hop = (pair.first as u64) << 8;
+            let endpoint = (pair.endpoint as u64) << 16;
+            let class = (pair.class as u64) << 24;
+            let cost = (pair.cost as u64) << 32;
+            hop | endpoint | class | cost | 3
+        }
+    }
+}
+
+// The code of the prefix repair of one link, end and prefix.
+fn prefix_code(file: &[u8], link: usize, side: usize, prefix: usize) -> u64 {
+    let mut work = [7u32; 4096];
+    code(repair::prefix_repair(file, &mut work, link, side, prefix))
+}
+
+// The check sum of a row of answers: 33 times the sum before, and the next code.
+fn mixed(sum: u64, code: u64) -> u64 {
+    std::num::wrapping_add_u64(std::num::wrapping_add_u64(sum << 5, sum), code)
+}
+
+// The check sum of the prefix repairs of one link and end, in the order of the prefixes.
+fn check_sum(file: &[u8], link: usize, side: usize, prefixes: usize) -> u64 {
+    let mut sum: u64 = 0;
+    let mut prefix: usize = 0;
+    while prefix < prefixes {
+        sum = mixed(sum, prefix_code(file, link, side, prefix));
+        prefix += 1;
+    }
+    sum
+}
+
+// The line of the check sum.
+fn print_sum(file: &[u8], link: usize, side: usize, prefixes: usize) {
+    print_question(b"prefix-repairs", link, side);
+    let sum = check_sum(file, link, side, prefixes);
+    number(sum as usize);
+    end();
+}
+
+// All questions of one link and end; the prefix repairs of a network that is not printed whole only by their check sum.
+fn print_side(file: &[u8], link: usize, side: usize, prefixes: usize, whole: bool) {
+    print_link(file, link, side);
+    if whole {
+        print_prefixes(file, link, side, prefixes);
+    } else {
+        print_sum(file, link, side, prefixes);
+    }
+}
+
+fn print_links(file: &[u8], links: usize, prefixes: usize, whole: bool) {
+    let mut link: usize = 0;
+    while link < links {
+        print_side(file, link, 0, prefixes, whole);
+        print_side(file, link, 1, prefixes, whole);
+        link += 1;
+    }
+}
+
+// The questions whose link, end or prefix is just too large.
+fn print_beyond(file: &[u8], links: usize, prefixes: usize) {
+    print_link(file, links, 0);
+    print_prefix(file, links, 0, 0);
+    print_link(file, 0, 2);
+    print_prefix(file, 0, 2, 0);
+    print_prefix(file, 0, 0, prefixes);
+}
+
+// Whether every prefix repair is printed: links times prefixes is at most 2,000.
+fn few(links: usize, prefixes: usize) -> bool {
+    if prefixes == 0 {
+        return true;
+    }
+    links <= 2000 / prefixes
+}
+
+// Asks every link, end and prefix of a file, and questions just out of range, and prints the answers.
+pub(crate) fn print_repairs(file: &[u8]) {
+    let loaded = load(file);
+    let network = loaded.network;
+    let links = network.links;
+    let prefixes = network.prefixes;
+    print_links(file, links, prefixes, few(links, prefixes));
+    print_beyond(file, links, prefixes);
+}
