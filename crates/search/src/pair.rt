@@ -6,13 +6,14 @@ ghost use Prim.Native.Nat.{_*_, _≤_, _<_};
 ghost use lib.ListN.{length, getD};
 ghost use Rattle.lfa.specs.Network.{Target};
 ghost use Rattle.lfa.specs.Distance.{towards};
-ghost use Rattle.lfa.specs.Repair.{key, noLater, orElse, firstPair, outcomeOf, linkOutcome, prefixOutcome};
+ghost use Rattle.lfa.specs.Repair.{firstPair, outcomeOf, linkOutcome, prefixOutcome};
 ghost use Rattle.distance.specs.Columns.{arcsIn};
 ghost use Rattle.metric.specs.Fit.{ColumnsWithin, SlotsWithin};
+ghost use Rattle.order.specs.Keys.{keysIn, foundIn};
 ghost use Rattle.distance.specs.Area.{held, column, slotsIn};
 ghost use Rattle.search.specs.Known.{Readable, Known};
 ghost use Rattle.search.specs.Spaces.{asked, HopsWithin, firstsIn};
-ghost use Rattle.search.specs.Choice.{keysIn, foundIn, outcomeFor, outcomeIn, addKeys, firstOf, classBy, keysAt, mayEnd, hopKeys, keysOver};
+ghost use Rattle.search.specs.Choice.{outcomeFor, outcomeIn, firstOf, keysAt, mayEnd, hopKeys, keysOver};
 ghost use Rattle.search.specs.Calls.{columnsOf, LinkTold, PrefixTold};
 use crate::Found;
 use crate::FoundPair;
@@ -25,71 +26,10 @@ use distance::towards_prefix;
 use distance::towards_router;
 use metric::Distance;
 use metric::fit::slots_fit;
-
-// A pair that serves: the first hop, the endpoint, the class, the tunnel cost, and the distance from S to the endpoint, by which pairs
-// of a class are ordered.
-pub(crate) struct Chosen {
-    pub(crate) hop: usize,
-    pub(crate) endpoint: usize,
-    pub(crate) class: u32,
-    pub(crate) cost: u32,
-    pub(crate) distance: u32,
-}
-
-// The earliest of the pairs that were tried, if any was.
-pub(crate) enum Best {
-    Nothing,
-    Pair(Chosen),
-}
-
-// Whether a comes no later than b: the first of class, distance, endpoint, tunnel cost and first hop in which they differ decides.
-fn no_later(a: Chosen, b: Chosen) -> bool
-    ensures { λ r. ⌜ r ≡ noLater (key (keysIn a)) (key (keysIn b)) ⌝ }
-{
-    if a.class != b.class {
-        return a.class < b.class;
-    }
-    if a.distance != b.distance {
-        return a.distance < b.distance;
-    }
-    if a.endpoint != b.endpoint {
-        return a.endpoint < b.endpoint;
-    }
-    if a.cost != b.cost {
-        return a.cost < b.cost;
-    }
-    a.hop <= b.hop
-}
-
-// The earlier of what was found and one pair more.
-fn earlier(best: Best, next: Chosen) -> Best
-    ensures { λ r. ⌜ foundIn r ≡ addKeys (foundIn best) (keysIn next) ⌝ }
-{
-    let Best::Pair(pair) = best else {
-        return Best::Pair(next);
-    };
-    if no_later(pair, next) {
-        return Best::Pair(pair);
-    }
-    Best::Pair(next)
-}
-
-// 0 where the test passes, else the number.
-fn or_else(test: bool, k: u32) -> u32
-    ensures { λ r. ⌜ (r ≡ orElse test k) × (r ≤ k) ⌝ }
-{
-    if test {
-        return 0;
-    }
-    k
-}
-
-// The class of a pair: 0 where the first hop is the endpoint, else 2, and 1 more unless the endpoint is nearer to the target than S.
-fn class_of(hop: usize, endpoint: usize, end: u32, near: u32) -> u32
-    ensures { λ r. ⌜ r ≡ classBy hop endpoint end near ⌝ }
-{
-    or_else(endpoint == hop, 2) + or_else(end < near, 1)
-}
+use order::Best;
+use order::Chosen;
+use order::class_of;
+use order::earlier;
 
 // The pair of a first hop, at a cost from S, and an endpoint.
 fn pair_of(

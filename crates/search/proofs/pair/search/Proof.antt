@@ -7,8 +7,9 @@ use native.Mathlib.Omega.{arith}
 use lib.ListN.{getD}
 use borrow.Author.Needs.{needs}
 use Rattle.distance.specs.Area.{held}
+use Rattle.order.specs.Keys.{foundIn}
 use Rattle.search.specs.Spaces.{asked, firstsIn}
-use Rattle.search.specs.Choice.{foundIn, firstOf, keysOver}
+use Rattle.search.specs.Choice.{firstOf, keysOver}
 use Rattle.search.proofs.ChoiceLaws.{none-tried, hop-tried}
 use Rattle.search.proofs.pair.search.Statement.{statement}
 use Rattle.search.proofs.pair.search.Tie as tie

@@ -1,8 +1,8 @@
--- `search::pair::no_later` meets its contract. The first number in which the two differ decides.
+-- `order::no_later` meets its contract. The first number in which the two differ decides.
 -- Assumes nothing.
-use Rattle.search.proofs.ChoiceLaws.{by-class, by-distance, by-endpoint, by-cost, by-hop}
-use Rattle.search.proofs.pair.no_later.Statement.{statement}
-use Rattle.search.proofs.pair.no_later.Tie as tie
+use Rattle.order.proofs.OrderLaws.{by-class, by-distance, by-endpoint, by-cost, by-hop}
+use Rattle.order.proofs.no_later.Statement.{statement}
+use Rattle.order.proofs.no_later.Tie as tie
 
 returns : tie.Need-returns
 returns c = by-class _ _ (c .before .before .if1 .taken)

@@ -1,9 +1,9 @@
--- `search::pair::earlier` meets its contract. One pair more takes the place of what was found where that is later.
+-- `order::earlier` meets its contract. One pair more takes the place of what was found where that is later.
 -- Assumes nothing.
 use borrow.Author.Needs.{needs}
-use Rattle.search.proofs.ChoiceLaws.{nothing-found, found-stays, found-yields}
-use Rattle.search.proofs.pair.earlier.Statement.{statement}
-use Rattle.search.proofs.pair.earlier.Tie as tie
+use Rattle.order.proofs.OrderLaws.{nothing-found, found-stays, found-yields}
+use Rattle.order.proofs.earlier.Statement.{statement}
+use Rattle.order.proofs.earlier.Tie as tie
 
 enum-known-best : tie.Need-enum-known-best
 enum-known-best c = search needs

@@ -1,10 +1,10 @@
--- `search::pair::or_else` meets its contract. By the test.
+-- `order::or_else` meets its contract. By the test.
 -- Assumes nothing.
 use mathlib.Core.Path.{refl}
 use native.Mathlib.Omega.{arith}
 use Rattle.lfa.specs.Repair.{orElse}
-use Rattle.search.proofs.pair.or_else.Statement.{statement}
-use Rattle.search.proofs.pair.or_else.Tie as tie
+use Rattle.order.proofs.or_else.Statement.{statement}
+use Rattle.order.proofs.or_else.Tie as tie
 
 returns : tie.Need-returns
 unfolding orElse
