@@ -22,8 +22,9 @@ use Rattle.order.specs.declared.Best.{Best}
 use Rattle.order.specs.declared.Best.the-variants.{Nothing, Pair as FoundPair}
 use Rattle.order.specs.Keys.{keysIn, foundIn, addKeys, classBy}
 use Rattle.order.proofs.Best.{the-type}
+use Rattle.avoid.specs.Avoiding.{clearsTo}
 use Rattle.search.specs.Choice.{outcomeFor, firstOf, keysAt, mayEnd, hopKeys, endsOf, keysOfHop, overFirst, keysOver}
-use Rattle.search.specs.Spaces.{clearsTo, sideOf, firstBy, firstsIn}
+use Rattle.search.specs.Spaces.{sideOf, firstBy, firstsIn}
 use Rattle.search.proofs.ListLaws.{flat-append}
 use Rattle.search.proofs.SpaceLaws.{firsts-more}
 

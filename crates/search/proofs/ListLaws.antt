@@ -1,18 +1,10 @@
--- Laws of the definitions that all crates share: lists made by selecting, and sets of routers.
+-- Laws of the definitions that all crates share: lists made by selecting, and a conjunction of tests.
 -- Assumes nothing.
-use Prim.Native.Nat.{ℕ, _+_, _*_, _%_, _^_, _<_}
 use mathlib.Core.Path.{_≡_, refl, sym, ap, ap₂, _∙_}
 use mathlib.Core.Bool.{Bool, true, false, _&&_}
 use mathlib.Core.List.{List, [], _∷_, _++_, map, append-assoc, map-append, List·Memᴰ, List·Memᴰ·head, List·Memᴰ·tail}
-use native.Mathlib.Numerals.{add-one}
-use native.Mathlib.Omega.{arith}
-use lib.ListN.{set}
-use lib.Pow.{shl-exact}
-use lib.Bits.{bitOr, or-shifted-r}
 use Rattle.lfa.specs.Laws.Test.{and-left, and-right, and-make, same-test}
-use Rattle.lfa.specs.Lists.{keepIf, select, flat, one}
-use Rattle.lfa.specs.Space.{setOf}
-use Rattle.lfa.specs.Laws.Set.{setOf-lt}
+use Rattle.lfa.specs.Lists.{keepIf, select, flat}
 use Rattle.distance.specs.Laws.List.{select-append}
 
 -- ---- lists, one element more
@@ -59,19 +51,6 @@ module _ {A B : Type 0} where
   unfolding flat
   map-flat g f [] = refl
   map-flat g f (x ∷ l) = map-append g (f x) (flat (map f l)) ∙ ap (λ (k : List _). map g (f x) ++ k) (map-flat g f l)
-
--- ---- sets of routers
-
--- `set | (1 << n)` puts router n in, and a set that is left as it is leaves it out
-pub put-in : {n set : ℕ} (p : ℕ → Bool) → n < 64 → set ≡ setOf n p → p n ≡ true → bitOr set ((1 * 2 ^ n) % 2 ^ 64) ≡ setOf (n + 1) p
-unfolding setOf
-put-in {n} p h s e =
-    ap (λ (x : ℕ). bitOr x ((1 * 2 ^ n) % 2 ^ 64)) s ∙ ap (bitOr (setOf n p)) (shl-exact 1 n 64 (omega arith) (omega arith)) ∙ or-shifted-r 1 n (setOf n p) (setOf-lt n p)
-    ∙ ap (λ (b : Bool). one b * 2 ^ n + setOf n p) (sym e) ∙ ap (λ (k : ℕ). setOf k p) (sym (add-one n))
-
-pub left-out : {n set : ℕ} (p : ℕ → Bool) → set ≡ setOf n p → p n ≡ false → set ≡ setOf (n + 1) p
-unfolding setOf
-left-out {n} p s e = s ∙ sym (ap (λ (k : ℕ). setOf k p) (add-one n) ∙ ap (λ (b : Bool). one b * 2 ^ n + setOf n p) e ∙ omega arith)
 
 -- ---- tests
 

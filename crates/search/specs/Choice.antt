@@ -11,9 +11,9 @@ use Rattle.lfa.specs.Distance.{unreachable}
 use Rattle.lfa.specs.Space.{Protected, FirstHop, first, has, setOf}
 use Rattle.lfa.specs.Repair.{Keys, Outcome, prefixUnreachable, prefixUntouched, noneServes, chosen}
 use Rattle.order.specs.Keys.{addKeys, classBy}
+use Rattle.avoid.specs.Avoiding.{clearsTo}
 use Rattle.search.specs.declared.Found.{Found}
 use Rattle.search.specs.declared.Found.the-variants.{Unreachable, Untouched, Nothing, Pair}
-use Rattle.search.specs.Spaces.{clearsTo}
 
 -- ---- what is answered
 

@@ -11,17 +11,21 @@ ghost use Rattle.distance.specs.Columns.{arcsIn};
 ghost use Rattle.metric.specs.Fit.{ColumnsWithin, SlotsWithin};
 ghost use Rattle.order.specs.Keys.{keysIn, foundIn};
 ghost use Rattle.distance.specs.Area.{held, column, slotsIn};
-ghost use Rattle.search.specs.Known.{Readable, Known};
-ghost use Rattle.search.specs.Spaces.{asked, HopsWithin, firstsIn};
+ghost use Rattle.avoid.specs.Avoiding.{asked};
+ghost use Rattle.avoid.specs.Calls.{Readable};
+ghost use Rattle.search.specs.Known.{Known};
+ghost use Rattle.search.specs.Spaces.{HopsWithin, firstsIn};
 ghost use Rattle.search.specs.Choice.{outcomeFor, outcomeIn, firstOf, keysAt, mayEnd, hopKeys, keysOver};
 ghost use Rattle.search.specs.Calls.{columnsOf, LinkTold, PrefixTold};
 use crate::Found;
 use crate::FoundPair;
-use crate::Link;
 use crate::protected::protect;
 use crate::protected::ready;
 use crate::space;
 use crate::space::FirstHops;
+use avoid::Link;
+use avoid::avoiding_from;
+use avoid::avoiding_to;
 use distance::towards_prefix;
 use distance::towards_router;
 use metric::Distance;
@@ -30,6 +34,14 @@ use order::Best;
 use order::Chosen;
 use order::class_of;
 use order::earlier;
+
+// D(x,t), read from the table.
+fn cell(dist: &[u32], n: usize, x: usize, t: usize) -> u32
+    requires { ⌜ (n * n ≤ length (now dist)) × (x < n) × (t < n) ⌝ }
+    ensures { λ r. ⌜ r ≡ held n (now (dist .entry)) x t ⌝ }
+{
+    dist[x * n + t]
+}
 
 // The pair of a first hop, at a cost from S, and an endpoint.
 fn pair_of(
@@ -48,8 +60,8 @@ fn pair_of(
         hop,
         endpoint,
         class: class_of(hop, endpoint, to[endpoint], to[near]),
-        cost: Distance::add(cost, space::cell(dist, n, hop, endpoint)),
-        distance: space::cell(dist, n, near, endpoint),
+        cost: Distance::add(cost, cell(dist, n, hop, endpoint)),
+        distance: cell(dist, n, near, endpoint),
     }
 }
 
@@ -113,7 +125,7 @@ pub(crate) fn search(
         let arc = hops.arcs[i];
         let hop = space::head_of(arc, from, to);
         let cost = space::price_of(arc, out, back);
-        let ends = mask & space::avoiding_from(dist, n, link, hop);
+        let ends = mask & avoiding_from(dist, n, link, hop);
         best = over_hop(dist, n, link.near, link.far, target, hop, cost, ends, best);
         i += 1;
     }
@@ -140,7 +152,7 @@ pub(crate) fn first_pair(
 {
     let hops = space::first_hops(links, from, to, link);
     let extended = space::extended_p(dist, n, from, to, link, hops);
-    let mask = extended & space::avoiding_to(dist, n, link, target);
+    let mask = extended & avoiding_to(dist, n, link, target);
     search(dist, n, from, to, out, back, link, target, hops, mask)
 }
 

@@ -12,8 +12,8 @@ use Rattle.distance.specs.Columns.{arcsIn}
 use Rattle.distance.specs.Area.{held, column, slotsIn}
 use Rattle.distance.specs.Laws.Calls.{prefix-known}
 use Rattle.order.specs.Keys.{foundIn}
-use Rattle.search.specs.Known.{Readable}
-use Rattle.search.specs.Spaces.{asked}
+use Rattle.avoid.specs.Avoiding.{asked}
+use Rattle.avoid.specs.Calls.{Readable}
 use Rattle.search.specs.Choice.{outcomeFor}
 use Rattle.search.proofs.KnownLaws.{readable, prefix-unreachable, prefix-untouched, prefix-searched}
 use Rattle.search.proofs.pair.prefix_found.Statement.{statement}

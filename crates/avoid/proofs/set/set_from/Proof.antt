@@ -1,19 +1,17 @@
--- `search::space::avoiding_from` meets its contract. The loop's invariant: the set holds the routers before r that pass the test by distances.
+-- `avoid::set::set_from` meets its contract. The loop's invariant: the set holds the routers before r that pass the test by distances.
 -- Assumes nothing.
 use Prim.Native.Nat.{ℕ, _-_, _≤_}
 use mathlib.Core.Path.{_≡_, sym, ap, _∙_}
 use mathlib.Core.Bool.{Bool}
 use mathlib.Core.Logic.{⊎-elim}
 use native.Mathlib.Omega.{arith}
-use lib.ListN.{set}
 use borrow.Author.Needs.{needs}
 use Rattle.lfa.specs.Space.{setOf}
 use Rattle.distance.specs.Area.{held}
-use Rattle.search.specs.Spaces.{asked, clearsTo}
-use Rattle.search.proofs.ListLaws.{put-in, left-out}
-use Rattle.search.proofs.SpaceLaws.{cells-clear-to}
-use Rattle.search.proofs.space.avoiding_from.Statement.{statement}
-use Rattle.search.proofs.space.avoiding_from.Tie as tie
+use Rattle.avoid.specs.Avoiding.{asked, clearsTo}
+use Rattle.avoid.proofs.SetLaws.{cells-clear-to, put-in, left-out}
+use Rattle.avoid.proofs.set.set_from.Statement.{statement}
+use Rattle.avoid.proofs.set.set_from.Tie as tie
 
 abbrev Inv-loop : tie.InvT-loop
 Inv-loop dist n link x near far x-near x-far set₀ r₀ set r = (r ≤ n) × (set ≡ setOf r (clearsTo (held n dist) (asked link) x))
@@ -70,8 +68,8 @@ returns c =
     let s = c .before .before .before .before .before in
     c .before .loop .inv .1 ∙ ap (λ (k : ℕ). setOf k (clearsTo (held (s .args .n) (s .args .dist .now)) (asked (s .args .link)) (s .args .x))) e
 
-pub avoiding-from-spec : {M : Type 1} → statement M
-avoiding-from-spec =
+pub set-from-spec : {M : Type 1} → statement M
+set-from-spec =
     tie.close
     (tie.spec
     Inv-loop

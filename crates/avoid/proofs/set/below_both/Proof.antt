@@ -1,9 +1,9 @@
--- `search::space::below_both` meets its contract. The second sum is tried where the distance is below the first.
+-- `avoid::set::below_both` meets its contract. The second sum is tried where the distance is below the first.
 -- Assumes nothing.
 use borrow.Author.Needs.{needs}
-use Rattle.search.proofs.SpaceLaws.{second-tried, first-fails}
-use Rattle.search.proofs.space.below_both.Statement.{statement}
-use Rattle.search.proofs.space.below_both.Tie as tie
+use Rattle.avoid.proofs.SetLaws.{second-tried, first-fails}
+use Rattle.avoid.proofs.set.below_both.Statement.{statement}
+use Rattle.avoid.proofs.set.below_both.Tie as tie
 
 add3-requires : tie.Need-add3-requires
 add3-requires c κs = search needs

@@ -1,12 +1,12 @@
--- `search::space::cell` meets its contract. The cell of two routers is in the table, and holds their distance.
+-- `avoid::set::cell` meets its contract. The cell of two routers is in the table, and holds their distance.
 -- Assumes nothing.
 use Prim.Native.Nat.{_+_, _*_, _<_}
 use mathlib.Core.Path.{sym}
 use native.Mathlib.Omega.{arith}
 use lib.ListN.{length}
 use Rattle.distance.specs.Laws.Area.{cell-in, held-cell}
-use Rattle.search.proofs.space.cell.Statement.{statement}
-use Rattle.search.proofs.space.cell.Tie as tie
+use Rattle.avoid.proofs.set.cell.Statement.{statement}
+use Rattle.avoid.proofs.set.cell.Tie as tie
 
 -- the cell is in the table
 inside : (c : tie.Start) → c .args .x * c .args .n + c .args .t < length (c .args .dist .now)

@@ -1,19 +1,18 @@
--- `search::space::avoiding_to` meets its contract. The loop's invariant: the set holds the routers before x that pass the test by distances.
+-- `avoid::set::set_to` meets its contract. The loop's invariant: the set holds the routers before x that pass the test by distances.
 -- Assumes nothing.
 use Prim.Native.Nat.{ℕ, _-_, _≤_}
 use mathlib.Core.Path.{_≡_, refl, sym, ap, _∙_}
 use mathlib.Core.Bool.{Bool}
 use mathlib.Core.Logic.{⊎-elim}
 use native.Mathlib.Omega.{arith}
-use lib.ListN.{getD, set}
+use lib.ListN.{getD}
 use borrow.Author.Needs.{needs}
 use Rattle.lfa.specs.Space.{setOf}
 use Rattle.distance.specs.Area.{held}
-use Rattle.search.specs.Spaces.{asked, clears}
-use Rattle.search.proofs.ListLaws.{put-in, left-out}
-use Rattle.search.proofs.SpaceLaws.{cells-clear}
-use Rattle.search.proofs.space.avoiding_to.Statement.{statement}
-use Rattle.search.proofs.space.avoiding_to.Tie as tie
+use Rattle.avoid.specs.Avoiding.{asked, clears}
+use Rattle.avoid.proofs.SetLaws.{cells-clear, put-in, left-out}
+use Rattle.avoid.proofs.set.set_to.Statement.{statement}
+use Rattle.avoid.proofs.set.set_to.Tie as tie
 
 abbrev Inv-loop : tie.InvT-loop
 Inv-loop dist n link to near far to-near to-far set₀ x₀ set x = (x ≤ n) × (set ≡ setOf x (clears (held n dist) (asked link) (λ x. getD to x 0)))
@@ -79,8 +78,8 @@ returns c =
     let e : c .before .loop .x ≡ s .args .n = omega arith in
     c .before .loop .inv .1 ∙ ap (λ (k : ℕ). setOf k (clears (held (s .args .n) (s .args .dist .now)) (asked (s .args .link)) (λ x. getD (s .args .to .now) x 0))) e
 
-pub avoiding-to-spec : {M : Type 1} → statement M
-avoiding-to-spec =
+pub set-to-spec : {M : Type 1} → statement M
+set-to-spec =
     tie.close
     (tie.spec
     Inv-loop
