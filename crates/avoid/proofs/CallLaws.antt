@@ -30,6 +30,7 @@ module _ (n : ℕ) (q : Protected) (cells : ℕ) where
 -- ---- the answers
 
 module _ (n : ℕ) (q : Protected) (area : List ℕ) where
+  -- the test tells that the distances can be read
   pub reads : readable n q (length area) ≡ true → Readable n q area
   unfolding readable
   reads t =
@@ -37,6 +38,7 @@ module _ (n : ℕ) (q : Protected) (area : List ℕ) where
       let ends = and-right (cellsFit n (length area)) _ t in
       record { few = cells .0; long = cells .1; near-in = ltb-true (q .near) n (and-left _ _ ends); far-in = ltb-true (q .far) n (and-right (ltb (q .near) n) _ ends) }
 
+  -- the set is empty where a test fails
   pub to-none : (h : ℕ → ℕ) → readable n q (length area) ≡ false → 0 ≡ avoidingTo n q area h
   unfolding avoidingTo
   to-none h f = rw (f, avoidingTo)
@@ -49,6 +51,7 @@ module _ (n : ℕ) (q : Protected) (area : List ℕ) where
   unfolding avoidingFrom
   from-beyond x h = rw (fails-right (readable n q (length area)) _ (le-ltb x n h), avoidingFrom)
 
+  -- and else the one that was made
   pub to-found : {set : ℕ} (h : ℕ → ℕ) → readable n q (length area) ≡ true → set ≡ setOf n (clears (held n area) q h) → set ≡ avoidingTo n q area h
   to-found h t e = e ∙ sym (to-known (reads t) h refl)
 

@@ -13,6 +13,7 @@ use Rattle.order.specs.declared.Best.the-variants.{Nothing, Pair}
 abbrev pub keysIn : Chosen → Keys
 keysIn p = record { class = p .class; distance = p .distance; endpoint = p .endpoint; tunnel = p .cost; hop = p .hop }
 
+-- the keys of what was found, if any pair was
 abbrev pub foundIn : Best → Option Keys
 foundIn Nothing = none
 foundIn (Pair p) = some (keysIn p)

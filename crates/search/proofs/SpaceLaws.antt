@@ -18,7 +18,7 @@ use Rattle.lfa.specs.Distance.{unreachable}
 use Rattle.lfa.specs.Laws.List.{mem-below, below-mem, select-gives, map-make}
 use Rattle.lfa.specs.Laws.Counting.{map-below-same}
 use Rattle.lfa.specs.Laws.Set.{setOf-same}
-use Rattle.lfa.specs.Space.{Protected, FirstHop, first, hopRouter, isFirst, firstOver, firstHops, setOf}
+use Rattle.lfa.specs.Space.{Protected, FirstHop, hopRouter, isFirst, firstOver, firstHops, setOf}
 use Rattle.metric.specs.Fit.{ColumnsWithin}
 use Rattle.distance.specs.Columns.{linksIn, arcsIn}
 use Rattle.distance.specs.Laws.List.{below-more, map-below-more, select-append, any-more}

@@ -29,8 +29,9 @@ outcomeIn Untouched = prefixUntouched
 outcomeIn Nothing = noneServes
 outcomeIn (Pair p) = chosen (p .first) (p .endpoint) (p .class) (p .cost)
 
--- ---- the first of some keys, tried one after the other
+-- ---- the first of some keys
 
+-- the earliest of what was found and of some keys, tried one after the other
 unfoldable pub firstOf : Option Keys → List Keys → Option Keys
 firstOf o [] = o
 firstOf o (k ∷ ks) = firstOf (addKeys o k) ks

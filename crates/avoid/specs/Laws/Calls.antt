@@ -14,10 +14,12 @@ use Rattle.avoid.specs.Avoiding.{clears, clearsTo}
 use Rattle.avoid.specs.Calls.{Readable, readable, avoidingTo, avoidingFrom}
 
 module _ {n : ℕ} {q : Protected} {area : List ℕ} (r : Readable n q area) where
+  -- the test passes
   passes : readable n q (length area) ≡ true
   unfolding readable
   passes = and-make _ _ (cells-fit n (length area) (r .few) (r .long)) (and-make _ _ (lt-ltb (q .near) n (r .near-in)) (lt-ltb (q .far) n (r .far-in)))
 
+  -- the set is that of the routers that pass the test by distances
   pub to-known : {set : ℕ} (h : ℕ → ℕ) → set ≡ avoidingTo n q area h → set ≡ setOf n (clears (held n area) q h)
   unfolding avoidingTo
   to-known h e = e ∙ rw (passes, avoidingTo)
