@@ -1,11 +1,10 @@
--- Laws of the search: the code's comparison is that of the keys, and the first of the keys that are tried is the pair that is chosen.
+-- Laws of the search: the first of the keys that are tried is the pair that is chosen.
 -- Assumes nothing.
 use Prim.Native.Nat.{ℕ, _+_, min}
 use mathlib.Core.Path.{_≡_, refl, sym, ap, ap₂, _∙_}
 use mathlib.Core.Bool.{Bool, true, false, true≢false}
 use mathlib.Core.Option.{Option, none, some}
 use mathlib.Core.List.{List, [], _∷_, _++_, map, map-append, append-nil}
-use lib.Dec.{ltb, leb}
 use lib.ListN.{getD}
 use lib.Bits.{bitAnd}
 use types.Run.{OneOf}
@@ -18,45 +17,18 @@ use Rattle.lfa.specs.Laws.Order.{later-gives, later-make, later-trans, later-to
 use Rattle.lfa.specs.Distance.{unreachable}
 use Rattle.lfa.specs.Space.{Protected, setOf}
 use Rattle.distance.specs.Laws.List.{below-more, select-append}
-use Rattle.search.specs.declared.pair.Chosen.{Chosen}
-use Rattle.search.specs.declared.pair.Best.{Best}
-use Rattle.search.specs.declared.pair.Best.the-variants.{Nothing, Pair as FoundPair}
-use Rattle.search.specs.Choice.{keysIn, foundIn, outcomeFor, addKeys, firstOf, classBy, keysAt, mayEnd, hopKeys, endsOf, keysOfHop, overFirst, keysOver}
-use Rattle.search.specs.Spaces.{clearsTo, sideOf, firstBy, firstsIn}
-use Rattle.search.proofs.ListLaws.{later-differ, later-equal, later-last, flat-append}
+use Rattle.order.specs.declared.Chosen.{Chosen}
+use Rattle.order.specs.declared.Best.{Best}
+use Rattle.order.specs.declared.Best.the-variants.{Nothing, Pair as FoundPair}
+use Rattle.order.specs.Keys.{keysIn, foundIn, addKeys, classBy}
+use Rattle.order.proofs.Best.{the-type}
+use Rattle.avoid.specs.Avoiding.{clearsTo}
+use Rattle.search.specs.Choice.{outcomeFor, firstOf, keysAt, mayEnd, hopKeys, endsOf, keysOfHop, overFirst, keysOver}
+use Rattle.search.specs.Spaces.{sideOf, firstBy, firstsIn}
+use Rattle.search.proofs.ListLaws.{flat-append}
 use Rattle.search.proofs.SpaceLaws.{firsts-more}
-use Rattle.search.proofs.pair.Best.{the-type}
 
--- ---- comparison
-
--- the pair with the five numbers in the order in which they are compared
-module _ (p q : Chosen) where
-  pub by-class : (p .class ≡ q .class → ⊥) → ltb (p .class) (q .class) ≡ noLater (key (keysIn p)) (key (keysIn q))
-  unfolding key
-  by-class h = later-differ _ _ h
-
-  pub by-distance : p .class ≡ q .class → (p .distance ≡ q .distance → ⊥) → ltb (p .distance) (q .distance) ≡ noLater (key (keysIn p)) (key (keysIn q))
-  unfolding key
-  by-distance e₁ h = later-differ _ _ h ∙ later-equal _ _ e₁
-
-  pub by-endpoint : p .class ≡ q .class → p .distance ≡ q .distance → (p .endpoint ≡ q .endpoint → ⊥) → ltb (p .endpoint) (q .endpoint) ≡ noLater (key (keysIn p)) (key (keysIn q))
-  unfolding key
-  by-endpoint e₁ e₂ h = later-differ _ _ h ∙ later-equal _ _ e₂ ∙ later-equal _ _ e₁
-
-  pub by-cost : p .class ≡ q .class → p .distance ≡ q .distance → p .endpoint ≡ q .endpoint → (p .cost ≡ q .cost → ⊥) → ltb (p .cost) (q .cost) ≡ noLater (key (keysIn p)) (key (keysIn q))
-  unfolding key
-  by-cost e₁ e₂ e₃ h = later-differ _ _ h ∙ later-equal _ _ e₃ ∙ later-equal _ _ e₂ ∙ later-equal _ _ e₁
-
-  pub by-hop : p .class ≡ q .class → p .distance ≡ q .distance → p .endpoint ≡ q .endpoint → p .cost ≡ q .cost → leb (p .hop) (q .hop) ≡ noLater (key (keysIn p)) (key (keysIn q))
-  unfolding key
-  by-hop e₁ e₂ e₃ e₄ = later-last (p .hop) (q .hop) ∙ later-equal _ _ e₄ ∙ later-equal _ _ e₃ ∙ later-equal _ _ e₂ ∙ later-equal _ _ e₁
-
--- ---- the earlier of what was found and one more
-
-pub nothing-found : (r : Best) (k : Keys) → OneOf (0 ∷ []) (tagOf the-type r) → some k ≡ addKeys (foundIn r) k
-unfolding addKeys
-nothing-found Nothing k t = refl
-nothing-found (FoundPair p) k t = absurd (eqb-false 1 0 refl t)
+-- ---- the pair that was found
 
 -- what was found, passed on
 pub nothing-outcome : {o : Outcome} (r : Best) → OneOf (0 ∷ []) (tagOf the-type r) → outcomeFor (foundIn r) ≡ o → noneServes ≡ o
@@ -65,14 +37,6 @@ nothing-outcome (FoundPair p) t e = absurd (eqb-false 1 0 refl t)
 
 pub pair-outcome : {o : Outcome} {r : Best} {p : Chosen} → r ≡ FoundPair p → outcomeFor (foundIn r) ≡ o → outcomeFor (some (keysIn p)) ≡ o
 pair-outcome e f = rw e at f
-
-pub found-stays : {r : Best} {p : Chosen} {b : Bool} (q : Chosen) → r ≡ FoundPair p → b ≡ noLater (key (keysIn p)) (key (keysIn q)) → b ≡ true → some (keysIn p) ≡ addKeys (foundIn r) (keysIn q)
-unfolding addKeys
-found-stays {p} q e s t = let n : noLater (key (keysIn p)) (key (keysIn q)) ≡ true = sym s ∙ t in rw (e, addKeys, n)
-
-pub found-yields : {r : Best} {p : Chosen} {b : Bool} (q : Chosen) → r ≡ FoundPair p → b ≡ noLater (key (keysIn p)) (key (keysIn q)) → b ≡ false → some (keysIn q) ≡ addKeys (foundIn r) (keysIn q)
-unfolding addKeys
-found-yields {p} q e s t = let n : noLater (key (keysIn p)) (key (keysIn q)) ≡ false = sym s ∙ t in rw (e, addKeys, n)
 
 -- the keys of the pair that is made of the cells that were read
 pub keys-made : {class cost distance dn : ℕ} (d : ℕ → ℕ → ℕ) (near : ℕ) (h : ℕ → ℕ) (n c y : ℕ) → class ≡ classBy n y (h y) (h near) → dn ≡ d n y → cost ≡ min (c + dn) unreachable → distance ≡ d near y →

@@ -31,8 +31,10 @@ use Rattle.distance.specs.Area.{held}
 use Rattle.column.specs.Column.{column}
 use Rattle.column.specs.Laws.Column.{column-at}
 use Rattle.distance.specs.Laws.List.{any-same, select-same}
-use Rattle.search.specs.Known.{Readable, Known}
-use Rattle.search.specs.Spaces.{clears, clearsTo, someClears, crossesOut}
+use Rattle.avoid.specs.Avoiding.{clears, clearsTo}
+use Rattle.avoid.specs.Calls.{Readable}
+use Rattle.search.specs.Known.{Known}
+use Rattle.search.specs.Spaces.{someClears, crossesOut}
 use Rattle.search.specs.Choice.{outcomeFor, firstOf, keysAt, mayEnd, hopKeys, endsOf, keysOfHop, overFirst, keysOver}
 use Rattle.search.proofs.ListLaws.{and-reorder, select-select, select-map, map-same, select-flat, map-flat}
 use Rattle.search.proofs.ChoiceLaws.{first-chosen}

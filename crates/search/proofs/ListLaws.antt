@@ -1,21 +1,10 @@
--- Laws of the definitions that all crates share: lists made by selecting, sets of routers, and the choice of the first key.
+-- Laws of the definitions that all crates share: lists made by selecting, and a conjunction of tests.
 -- Assumes nothing.
-use Prim.Native.Nat.{ℕ, _+_, _*_, _%_, _^_, _<_}
 use mathlib.Core.Path.{_≡_, refl, sym, ap, ap₂, _∙_}
-use mathlib.Core.Bool.{Bool, true, false, _&&_, _||_}
+use mathlib.Core.Bool.{Bool, true, false, _&&_}
 use mathlib.Core.List.{List, [], _∷_, _++_, map, append-assoc, map-append, List·Memᴰ, List·Memᴰ·head, List·Memᴰ·tail}
-use native.Mathlib.Numerals.{add-one}
-use native.Mathlib.Omega.{arith}
-use lib.Dec.{eqb, ltb, leb}
-use lib.ListN.{set}
-use lib.Pow.{shl-exact}
-use lib.Bits.{bitOr, or-shifted-r}
-use borrow.Author.Tests.{le-ltb, eq-eqb, ne-eqb, le-leb, lt-leb, ltb-true, ltb-false, eqb-true, eqb-false}
 use Rattle.lfa.specs.Laws.Test.{and-left, and-right, and-make, same-test}
-use Rattle.lfa.specs.Repair.{noLater}
-use Rattle.lfa.specs.Lists.{keepIf, select, flat, one}
-use Rattle.lfa.specs.Space.{setOf}
-use Rattle.lfa.specs.Laws.Set.{setOf-lt}
+use Rattle.lfa.specs.Lists.{keepIf, select, flat}
 use Rattle.distance.specs.Laws.List.{select-append}
 
 -- ---- lists, one element more
@@ -62,42 +51,6 @@ module _ {A B : Type 0} where
   unfolding flat
   map-flat g f [] = refl
   map-flat g f (x ∷ l) = map-append g (f x) (flat (map f l)) ∙ ap (λ (k : List _). map g (f x) ++ k) (map-flat g f l)
-
--- ---- sets of routers
-
--- `set | (1 << n)` puts router n in, and a set that is left as it is leaves it out
-pub put-in : {n set : ℕ} (p : ℕ → Bool) → n < 64 → set ≡ setOf n p → p n ≡ true → bitOr set ((1 * 2 ^ n) % 2 ^ 64) ≡ setOf (n + 1) p
-unfolding setOf
-put-in {n} p h s e =
-    ap (λ (x : ℕ). bitOr x ((1 * 2 ^ n) % 2 ^ 64)) s ∙ ap (bitOr (setOf n p)) (shl-exact 1 n 64 (omega arith) (omega arith)) ∙ or-shifted-r 1 n (setOf n p) (setOf-lt n p)
-    ∙ ap (λ (b : Bool). one b * 2 ^ n + setOf n p) (sym e) ∙ ap (λ (k : ℕ). setOf k p) (sym (add-one n))
-
-pub left-out : {n set : ℕ} (p : ℕ → Bool) → set ≡ setOf n p → p n ≡ false → set ≡ setOf (n + 1) p
-unfolding setOf
-left-out {n} p s e = s ∙ sym (ap (λ (k : ℕ). setOf k p) (add-one n) ∙ ap (λ (b : Bool). one b * 2 ^ n + setOf n p) e ∙ omega arith)
-
--- ---- lists of keys, compared from the front
-
-pub later-differ : {x y : ℕ} (a b : List ℕ) → (x ≡ y → ⊥) → ltb x y ≡ noLater (x ∷ a) (y ∷ b)
-unfolding noLater
-later-differ {x} {y} a b h = rw (ne-eqb x y h) (go (ltb x y))
-  where
-    go : (t : Bool) → t ≡ (t || false)
-    go true = refl
-    go false = refl
-
-pub later-equal : {x y : ℕ} (a b : List ℕ) → x ≡ y → noLater a b ≡ noLater (x ∷ a) (y ∷ b)
-unfolding noLater
-later-equal {x} {y} a b e = rw (le-ltb x y (omega arith), eq-eqb x y e)
-
-pub later-last : (x y : ℕ) → leb x y ≡ noLater (x ∷ []) (y ∷ [])
-unfolding noLater
-later-last x y = go (ltb x y) refl (eqb x y) refl
-  where
-    go : (t : Bool) → ltb x y ≡ t → (u : Bool) → eqb x y ≡ u → leb x y ≡ (t || (u && true))
-    go true e u f = le-leb x y (omega (arith, ltb-true))
-    go false e true f = le-leb x y (omega (arith, eqb-true))
-    go false e false f = let ne : x ≡ y → ⊥ = eqb-false x y f in lt-leb x y (omega (arith, ltb-false))
 
 -- ---- tests
 

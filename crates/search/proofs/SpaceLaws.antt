@@ -3,7 +3,7 @@
 -- Assumes nothing.
 use Prim.Native.Nat.{ℕ, zero, suc, _+_, _*_, _/_, _%_, _≤_, _<_, min}
 use mathlib.Core.Path.{_≡_, refl, sym, ap, ap₂, _∙_}
-use mathlib.Core.Bool.{Bool, true, false, not, _&&_}
+use mathlib.Core.Bool.{Bool, true, false, not}
 use mathlib.Core.List.{List, [], _∷_, _++_, map, map-map, append-nil, append-assoc, List·Memᴰ}
 use native.Mathlib.Numerals.{add-one}
 use native.Mathlib.Omega.{arith}
@@ -18,35 +18,15 @@ use Rattle.lfa.specs.Distance.{unreachable}
 use Rattle.lfa.specs.Laws.List.{mem-below, below-mem, select-gives, map-make}
 use Rattle.lfa.specs.Laws.Counting.{map-below-same}
 use Rattle.lfa.specs.Laws.Set.{setOf-same}
-use Rattle.lfa.specs.Space.{Protected, FirstHop, first, hopRouter, isFirst, firstOver, firstHops, setOf}
+use Rattle.lfa.specs.Space.{Protected, FirstHop, hopRouter, isFirst, firstOver, firstHops, setOf}
 use Rattle.metric.specs.Fit.{ColumnsWithin}
 use Rattle.distance.specs.Columns.{linksIn, arcsIn}
 use Rattle.distance.specs.Laws.List.{below-more, map-below-more, select-append, any-more}
 use Rattle.distance.specs.Laws.Set.{or-setOf, setOf-none}
 use Rattle.distance.specs.Laws.Columns.{arcsIn-more}
-use Rattle.search.specs.Spaces.{belowBoth, clears, clearsTo, sideOf, leavesNear, arcsListed, Listed, HopsWithin, firstBy, firstsIn, someClears, crossesOut}
+use Rattle.avoid.specs.Avoiding.{clearsTo}
+use Rattle.search.specs.Spaces.{sideOf, leavesNear, arcsListed, Listed, HopsWithin, firstBy, firstsIn, someClears, crossesOut}
 use Rattle.search.proofs.ListLaws.{select-map}
-
--- ---- two tests, the second tried where the first passes
-
-pub second-tried : {own r₁ s₁ r₂ s₂ : ℕ} → own < r₁ → r₁ ≡ s₁ → r₂ ≡ s₂ → ltb own r₂ ≡ (ltb own s₁ && ltb own s₂)
-second-tried {own} {r₁} h e₁ e₂ = rw (← e₁, ← e₂, lt-ltb own r₁ h)
-
-pub first-fails : {own r₁ s₁ : ℕ} (s₂ : ℕ) → r₁ ≤ own → r₁ ≡ s₁ → ltb own r₁ ≡ (ltb own s₁ && ltb own s₂)
-first-fails {own} {r₁} s₂ h e₁ = rw (← e₁, le-ltb own r₁ h)
-
--- ---- the test by distances
-
--- the test of the cells that were read is the test of the distances
-pub cells-clear : {own near far s e : ℕ} {b : Bool} (d : ℕ → ℕ → ℕ) (q : Protected) (h : ℕ → ℕ) (x : ℕ) →
-    own ≡ h x → near ≡ d x (q .near) → far ≡ d x (q .far) → s ≡ h (q .near) → e ≡ h (q .far) → b ≡ belowBoth own near far (q .out) (q .back) s e → b ≡ clears d q h x
-unfolding clears
-cells-clear d q h x o n g s e r = rw (← o, ← n, ← g, ← s, ← e) r
-
-pub cells-clear-to : {own near far s e : ℕ} {b : Bool} (d : ℕ → ℕ → ℕ) (q : Protected) (x r : ℕ) →
-    own ≡ d x r → near ≡ d x (q .near) → far ≡ d x (q .far) → s ≡ d (q .near) r → e ≡ d (q .far) r → b ≡ belowBoth own near far (q .out) (q .back) s e → b ≡ clearsTo d q x r
-unfolding clearsTo
-cells-clear-to d q x r = cells-clear d q (λ z. d z r) x
 
 -- ---- arcs by their numbers
 

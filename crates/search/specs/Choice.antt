@@ -1,31 +1,21 @@
 -- What the search computes: the keys of pairs, the first of them, and what is found.
 -- Assumes nothing.
 use Prim.Native.Nat.{ℕ, _+_, min}
-use mathlib.Core.Bool.{Bool, true, false, not, _&&_}
+use mathlib.Core.Bool.{Bool, not, _&&_}
 use mathlib.Core.Option.{Option, none, some}
 use mathlib.Core.List.{List, [], _∷_, map}
-use lib.Dec.{eqb, ltb}
+use lib.Dec.{eqb}
 use lib.Bits.{bitAnd}
 use Rattle.lfa.specs.Lists.{below, select, flat}
 use Rattle.lfa.specs.Distance.{unreachable}
 use Rattle.lfa.specs.Space.{Protected, FirstHop, first, has, setOf}
-use Rattle.lfa.specs.Repair.{Keys, key, noLater, orElse, Outcome, prefixUnreachable, prefixUntouched, noneServes, chosen}
-use Rattle.search.specs.declared.pair.Chosen.{Chosen}
-use Rattle.search.specs.declared.pair.Best.{Best}
-use Rattle.search.specs.declared.pair.Best.the-variants.{Nothing, Pair}
+use Rattle.lfa.specs.Repair.{Keys, Outcome, prefixUnreachable, prefixUntouched, noneServes, chosen}
+use Rattle.order.specs.Keys.{addKeys, classBy}
+use Rattle.avoid.specs.Avoiding.{clearsTo}
 use Rattle.search.specs.declared.Found.{Found}
-use Rattle.search.specs.declared.Found.the-variants.{Unreachable, Untouched, Nothing as None, Pair as Serving}
-use Rattle.search.specs.Spaces.{clearsTo}
+use Rattle.search.specs.declared.Found.the-variants.{Unreachable, Untouched, Nothing, Pair}
 
--- ---- what the code holds
-
--- what the order looks at in a pair
-abbrev pub keysIn : Chosen → Keys
-keysIn p = record { class = p .class; distance = p .distance; endpoint = p .endpoint; tunnel = p .cost; hop = p .hop }
-
-abbrev pub foundIn : Best → Option Keys
-foundIn Nothing = none
-foundIn (Pair p) = some (keysIn p)
+-- ---- what is answered
 
 -- what a search that found these keys answers
 abbrev pub outcomeFor : Option Keys → Outcome
@@ -36,25 +26,17 @@ outcomeFor (some k) = chosen (k .hop) (k .endpoint) (k .class) (k .tunnel)
 abbrev pub outcomeIn : Found → Outcome
 outcomeIn Unreachable = prefixUnreachable
 outcomeIn Untouched = prefixUntouched
-outcomeIn None = noneServes
-outcomeIn (Serving p) = chosen (p .first) (p .endpoint) (p .class) (p .cost)
+outcomeIn Nothing = noneServes
+outcomeIn (Pair p) = chosen (p .first) (p .endpoint) (p .class) (p .cost)
 
--- ---- the first of some keys, tried one after the other
+-- ---- the first of some keys
 
--- the earlier of what was found and one more
-unfoldable pub addKeys : Option Keys → Keys → Option Keys
-addKeys none k = some k
-addKeys (some b) k = elim (noLater (key b) (key k)) [ true ↦ some b | false ↦ some k ]
-
+-- the earliest of what was found and of some keys, tried one after the other
 unfoldable pub firstOf : Option Keys → List Keys → Option Keys
 firstOf o [] = o
 firstOf o (k ∷ ks) = firstOf (addKeys o k) ks
 
 -- ---- the pairs that are tried
-
--- the class of a pair whose endpoint is at distance `end` from the target, S being at distance `near`
-abbrev pub classBy : (n y end near : ℕ) → ℕ
-classBy n y end near = orElse (eqb y n) 2 + orElse (ltb end near) 1
 
 -- the keys of the pair of first hop n, at cost c from S, and endpoint y; h gives the distances to the target
 unfoldable pub keysAt : (ℕ → ℕ → ℕ) → (near : ℕ) → (h : ℕ → ℕ) → (n c y : ℕ) → Keys

@@ -1,6 +1,6 @@
 -- What spaces and repairs need to know of the distances that the work area holds.
 -- Assumes nothing.
-use Prim.Native.Nat.{ℕ, _*_, _≤_, _<_}
+use Prim.Native.Nat.{ℕ, _*_, _≤_}
 use mathlib.Core.List.{List}
 use lib.ListN.{length}
 use Rattle.lfa.specs.Network.{Arc}
@@ -9,13 +9,6 @@ use Rattle.lfa.specs.Space.{Protected}
 use Rattle.lfa.specs.Laws.Bound.{Sound}
 use Rattle.lfa.specs.Laws.Avoid.{Named}
 use Rattle.distance.specs.Area.{held}
-
--- the area has a cell for each two of at most 64 routers, and the ends of the protected link are routers
-pub record Readable (n : ℕ) (q : Protected) (area : List ℕ) : Type 0 where
-  pub few : n ≤ 64
-  pub long : n * n ≤ length area
-  pub near-in : q .near < n
-  pub far-in : q .far < n
 
 -- the area holds the distances of a sound network, in which the arcs over the protected link are its two directions
 pub record Known (n : ℕ) (hops : List Arc) (q : Protected) (area : List ℕ) : Type 0 where

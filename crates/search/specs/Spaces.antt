@@ -1,4 +1,4 @@
--- The tests that the code computes for spaces: the protected link, avoiding by distances, and the first hops in a column.
+-- What the code computes for spaces: the protected link, the first hops in a column, and the tests over them.
 -- Assumes nothing.
 use Prim.Native.Nat.{ℕ, _+_, _*_, _/_, _%_, _≤_, _<_, min}
 use mathlib.Core.Path.{_≡_}
@@ -10,29 +10,13 @@ use Rattle.lfa.specs.Lists.{below, select, anyOf}
 use Rattle.lfa.specs.Distance.{unreachable}
 use Rattle.lfa.specs.Network.{link}
 use Rattle.lfa.specs.Space.{Protected, protectedBy, FirstHop, first, hopRouter, Space, pSpace, extendedP, qSpace}
-use Rattle.search.specs.declared.Link.{Link}
+use Rattle.avoid.specs.Avoiding.{clearsTo}
 use Rattle.search.specs.declared.Which.{Which}
 use Rattle.search.specs.declared.Which.the-variants.{P, ExtendedP, Q}
-
--- the protected link that a value names
-abbrev pub asked : Link → Protected
-asked p = record { number = p .number; near = p .near; far = p .far; out = p .out; back = p .back }
 
 -- link l of the columns, seen from an end
 unfoldable pub protectedIn : (from to out back : List ℕ) → (l e : ℕ) → Protected
 protectedIn from to out back l e = protectedBy l e (link (getD from l 0) (getD to l 0) (getD out l 0) (getD back l 0))
-
--- a distance is below the costs over the link in both directions: `near` and `far` lead to S and E, `toNear` and `toFar` from there
-abbrev pub belowBoth : (own near far out back toNear toFar : ℕ) → Bool
-belowBoth own near far out back toNear toFar = ltb own (min (near + out + toFar) unreachable) && ltb own (min (far + back + toNear) unreachable)
-
--- router x avoids the link on the way to a target, by the distances: h gives those to the target
-unfoldable pub clears : (ℕ → ℕ → ℕ) → Protected → (h : ℕ → ℕ) → ℕ → Bool
-clears d q h x = belowBoth (h x) (d x (q .near)) (d x (q .far)) (q .out) (q .back) (h (q .near)) (h (q .far))
-
--- router x avoids the link on the way to router r, by the distances
-unfoldable pub clearsTo : (ℕ → ℕ → ℕ) → Protected → (x r : ℕ) → Bool
-clearsTo d q x r = clears d q (λ z. d z r) x
 
 -- What two columns hold for an arc: arc 2k leads over link k from its first router to its second and reads the first column, arc
 -- 2k + 1 leads the other way and reads the second.

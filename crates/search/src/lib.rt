@@ -18,16 +18,6 @@ mod pair;
 mod protected;
 mod space;
 
-// The protected link, seen from the end that the question names: its number, the repairing router S (near), the far router E (far),
-// and the costs from S to E (out) and from E to S (back).
-pub(crate) struct Link {
-    pub(crate) number: usize,
-    pub(crate) near: usize,
-    pub(crate) far: usize,
-    pub(crate) out: u32,
-    pub(crate) back: u32,
-}
-
 // One of the three spaces.
 pub enum Which {
     P,

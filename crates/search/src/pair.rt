@@ -6,90 +6,42 @@ ghost use Prim.Native.Nat.{_*_, _≤_, _<_};
 ghost use lib.ListN.{length, getD};
 ghost use Rattle.lfa.specs.Network.{Target};
 ghost use Rattle.lfa.specs.Distance.{towards};
-ghost use Rattle.lfa.specs.Repair.{key, noLater, orElse, firstPair, outcomeOf, linkOutcome, prefixOutcome};
+ghost use Rattle.lfa.specs.Repair.{firstPair, outcomeOf, linkOutcome, prefixOutcome};
 ghost use Rattle.distance.specs.Columns.{arcsIn};
 ghost use Rattle.metric.specs.Fit.{ColumnsWithin, SlotsWithin};
+ghost use Rattle.order.specs.Keys.{keysIn, foundIn};
 ghost use Rattle.distance.specs.Area.{held};
 ghost use Rattle.column.specs.Column.{column, slotsIn};
-ghost use Rattle.search.specs.Known.{Readable, Known};
-ghost use Rattle.search.specs.Spaces.{asked, HopsWithin, firstsIn};
-ghost use Rattle.search.specs.Choice.{keysIn, foundIn, outcomeFor, outcomeIn, addKeys, firstOf, classBy, keysAt, mayEnd, hopKeys, keysOver};
+ghost use Rattle.avoid.specs.Avoiding.{asked};
+ghost use Rattle.avoid.specs.Calls.{Readable};
+ghost use Rattle.search.specs.Known.{Known};
+ghost use Rattle.search.specs.Spaces.{HopsWithin, firstsIn};
+ghost use Rattle.search.specs.Choice.{outcomeFor, outcomeIn, firstOf, keysAt, mayEnd, hopKeys, keysOver};
 ghost use Rattle.search.specs.Calls.{columnsOf, LinkTold, PrefixTold};
 use crate::Found;
 use crate::FoundPair;
-use crate::Link;
 use crate::protected::protect;
 use crate::protected::ready;
 use crate::space;
 use crate::space::FirstHops;
+use avoid::Link;
+use avoid::avoiding_from;
+use avoid::avoiding_to;
 use column::towards_prefix;
 use column::towards_router;
 use metric::Distance;
 use metric::fit::slots_fit;
+use order::Best;
+use order::Chosen;
+use order::class_of;
+use order::earlier;
 
-// A pair that serves: the first hop, the endpoint, the class, the tunnel cost, and the distance from S to the endpoint, by which pairs
-// of a class are ordered.
-pub(crate) struct Chosen {
-    pub(crate) hop: usize,
-    pub(crate) endpoint: usize,
-    pub(crate) class: u32,
-    pub(crate) cost: u32,
-    pub(crate) distance: u32,
-}
-
-// The earliest of the pairs that were tried, if any was.
-pub(crate) enum Best {
-    Nothing,
-    Pair(Chosen),
-}
-
-// Whether a comes no later than b: the first of class, distance, endpoint, tunnel cost and first hop in which they differ decides.
-fn no_later(a: Chosen, b: Chosen) -> bool
-    ensures { λ r. ⌜ r ≡ noLater (key (keysIn a)) (key (keysIn b)) ⌝ }
+// D(x,t), read from the table.
+fn cell(dist: &[u32], n: usize, x: usize, t: usize) -> u32
+    requires { ⌜ (n * n ≤ length (now dist)) × (x < n) × (t < n) ⌝ }
+    ensures { λ r. ⌜ r ≡ held n (now (dist .entry)) x t ⌝ }
 {
-    if a.class != b.class {
-        return a.class < b.class;
-    }
-    if a.distance != b.distance {
-        return a.distance < b.distance;
-    }
-    if a.endpoint != b.endpoint {
-        return a.endpoint < b.endpoint;
-    }
-    if a.cost != b.cost {
-        return a.cost < b.cost;
-    }
-    a.hop <= b.hop
-}
-
-// The earlier of what was found and one pair more.
-fn earlier(best: Best, next: Chosen) -> Best
-    ensures { λ r. ⌜ foundIn r ≡ addKeys (foundIn best) (keysIn next) ⌝ }
-{
-    let Best::Pair(pair) = best else {
-        return Best::Pair(next);
-    };
-    if no_later(pair, next) {
-        return Best::Pair(pair);
-    }
-    Best::Pair(next)
-}
-
-// 0 where the test passes, else the number.
-fn or_else(test: bool, k: u32) -> u32
-    ensures { λ r. ⌜ (r ≡ orElse test k) × (r ≤ k) ⌝ }
-{
-    if test {
-        return 0;
-    }
-    k
-}
-
-// The class of a pair: 0 where the first hop is the endpoint, else 2, and 1 more unless the endpoint is nearer to the target than S.
-fn class_of(hop: usize, endpoint: usize, end: u32, near: u32) -> u32
-    ensures { λ r. ⌜ r ≡ classBy hop endpoint end near ⌝ }
-{
-    or_else(endpoint == hop, 2) + or_else(end < near, 1)
+    dist[x * n + t]
 }
 
 // The pair of a first hop, at a cost from S, and an endpoint.
@@ -109,8 +61,8 @@ fn pair_of(
         hop,
         endpoint,
         class: class_of(hop, endpoint, to[endpoint], to[near]),
-        cost: Distance::add(cost, space::cell(dist, n, hop, endpoint)),
-        distance: space::cell(dist, n, near, endpoint),
+        cost: Distance::add(cost, cell(dist, n, hop, endpoint)),
+        distance: cell(dist, n, near, endpoint),
     }
 }
 
@@ -174,7 +126,7 @@ pub(crate) fn search(
         let arc = hops.arcs[i];
         let hop = space::head_of(arc, from, to);
         let cost = space::price_of(arc, out, back);
-        let ends = mask & space::avoiding_from(dist, n, link, hop);
+        let ends = mask & avoiding_from(dist, n, link, hop);
         best = over_hop(dist, n, link.near, link.far, target, hop, cost, ends, best);
         i += 1;
     }
@@ -201,7 +153,7 @@ pub(crate) fn first_pair(
 {
     let hops = space::first_hops(links, from, to, link);
     let extended = space::extended_p(dist, n, from, to, link, hops);
-    let mask = extended & space::avoiding_to(dist, n, link, target);
+    let mask = extended & avoiding_to(dist, n, link, target);
     search(dist, n, from, to, out, back, link, target, hops, mask)
 }
 

@@ -1,8 +1,8 @@
 // The protected link, and the area that is filled with the distances before a search.
-use crate::Link;
 use crate::fit::answers;
 use crate::space::cost_of;
 use crate::space::wide;
+use avoid::Link;
 use distance::fill;
 ghost use mathlib.Core.Path.{_≡_};
 ghost use mathlib.Core.List.{[]};
@@ -10,7 +10,8 @@ ghost use Prim.Native.Nat.{_<_};
 ghost use lib.ListN.{length};
 ghost use Rattle.lfa.specs.Network.{link};
 ghost use Rattle.lfa.specs.Space.{protectedBy};
-ghost use Rattle.search.specs.Spaces.{protectedIn, asked};
+ghost use Rattle.avoid.specs.Avoiding.{asked};
+ghost use Rattle.search.specs.Spaces.{protectedIn};
 ghost use Rattle.search.specs.Calls.{columnsOf, answered, areaBy};
 
 // Link number l from a to b, seen from its end.

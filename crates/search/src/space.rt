@@ -1,30 +1,26 @@
-// The sets of routers that avoid the protected link.
+// The three spaces, and whether traffic may cross the protected link.
 ghost use mathlib.Core.Path.{_≡_};
 ghost use mathlib.Core.List.{List, []};
-ghost use Prim.Native.Nat.{ℕ, _*_, _≤_, _<_};
-ghost use lib.ListN.{length, getD};
+ghost use Prim.Native.Nat.{ℕ, _≤_, _<_};
+ghost use lib.ListN.{getD};
 ghost use Rattle.lfa.specs.Network.{Arc};
 ghost use Rattle.lfa.specs.Space.{pSpace, qSpace, spaceOf, setOf};
 ghost use Rattle.metric.specs.Fit.{ColumnsWithin};
 ghost use Rattle.distance.specs.Columns.{arcsIn};
 ghost use Rattle.distance.specs.Area.{held};
-ghost use Rattle.search.specs.Known.{Readable, Known};
-ghost use Rattle.search.specs.Spaces.{asked, belowBoth, clears, clearsTo, sideOf, leavesNear, Listed, HopsWithin, firstsIn, someClears, crossesOut, spaceNamed};
+ghost use Rattle.avoid.specs.Avoiding.{asked};
+ghost use Rattle.avoid.specs.Calls.{Readable};
+ghost use Rattle.search.specs.Known.{Known};
+ghost use Rattle.search.specs.Spaces.{sideOf, leavesNear, Listed, HopsWithin, firstsIn, someClears, crossesOut, spaceNamed};
 ghost use Rattle.search.specs.Calls.{columnsOf, SpaceTold};
-use crate::Link;
 use crate::Which;
 use crate::protected::protect;
 use crate::protected::ready;
+use avoid::Link;
+use avoid::avoiding_from;
+use avoid::avoiding_to;
 use column::towards_router;
 use metric::Distance;
-
-// D(x,t), read from the table.
-pub(crate) fn cell(dist: &[u32], n: usize, x: usize, t: usize) -> u32
-    requires { ⌜ (n * n ≤ length (now dist)) × (x < n) × (t < n) ⌝ }
-    ensures { λ r. ⌜ r ≡ held n (now (dist .entry)) x t ⌝ }
-{
-    dist[x * n + t]
-}
 
 // A router's number as an index.
 pub(crate) fn wide(x: u8) -> usize
@@ -38,59 +34,6 @@ pub(crate) fn cost_of(c: u16) -> u32
     ensures { λ r. ⌜ r ≡ c ⌝ }
 {
     c as u32
-}
-
-// Whether a distance is below the costs over the link in both directions: near and far lead from x to S and E, s and e from
-// S and E to the target. Such a distance is finite, since a sum is at most unreachable.
-pub(crate) fn below_both(own: u32, near: u32, far: u32, link: Link, s: u32, e: u32) -> bool
-    ensures { λ r. ⌜ r ≡ belowBoth own near far (link .out) (link .back) s e ⌝ }
-{
-    own < Distance::add3(near, link.out, e) && own < Distance::add3(far, link.back, s)
-}
-
-// The routers x that avoid the link on the way to a target, `to` holding the distances to it.
-pub(crate) fn avoiding_to(dist: &[u32], n: usize, link: Link, to: &[u32; 64]) -> u64
-    requires { ⌜ Readable n (asked link) (now dist) ⌝ }
-    ensures { λ r. ⌜ r ≡ setOf n (clears (held n (now (dist .entry))) (asked link) (λ x. getD (now (to .entry)) x 0)) ⌝ }
-{
-    let near = link.near;
-    let far = link.far;
-    let to_near = to[near];
-    let to_far = to[far];
-    let mut set: u64 = 0;
-    let mut x = 0;
-    while x < n {
-        let x_near = cell(dist, n, x, near);
-        let x_far = cell(dist, n, x, far);
-        if below_both(to[x], x_near, x_far, link, to_near, to_far) {
-            set = set | (1u64 << x);
-        }
-        x += 1;
-    }
-    set
-}
-
-// The routers that x avoids the link on the way to.
-pub(crate) fn avoiding_from(dist: &[u32], n: usize, link: Link, x: usize) -> u64
-    requires { ⌜ Readable n (asked link) (now dist) × (x < n) ⌝ }
-    ensures { λ s. ⌜ s ≡ setOf n (clearsTo (held n (now (dist .entry))) (asked link) x) ⌝ }
-{
-    let near = link.near;
-    let far = link.far;
-    let x_near = cell(dist, n, x, near);
-    let x_far = cell(dist, n, x, far);
-    let mut set: u64 = 0;
-    let mut r = 0;
-    while r < n {
-        let own = cell(dist, n, x, r);
-        let to_near = cell(dist, n, near, r);
-        let to_far = cell(dist, n, far, r);
-        if below_both(own, x_near, x_far, link, to_near, to_far) {
-            set = set | (1u64 << r);
-        }
-        r += 1;
-    }
-    set
 }
 
 // The router that an arc leads to. Arc 2k leads over link k from its first router to its second, and arc 2k + 1 the other way; the

@@ -7,8 +7,8 @@ use Rattle.lfa.specs.Network.{Arc, router}
 use Rattle.lfa.specs.Repair.{linkOutcome}
 use Rattle.distance.specs.Columns.{arcsIn}
 use Rattle.column.specs.Laws.Calls.{router-known}
-use Rattle.search.specs.Known.{Readable}
-use Rattle.search.specs.Spaces.{asked}
+use Rattle.avoid.specs.Avoiding.{asked}
+use Rattle.avoid.specs.Calls.{Readable}
 use Rattle.search.proofs.KnownLaws.{readable}
 use Rattle.search.proofs.pair.link_found.Statement.{statement}
 use Rattle.search.proofs.pair.link_found.Tie as tie

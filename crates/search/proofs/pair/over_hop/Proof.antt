@@ -8,7 +8,8 @@ use lib.ListN.{getD}
 use borrow.Author.Needs.{needs}
 use Rattle.lfa.specs.Lists.{countUp, below, select}
 use Rattle.distance.specs.Area.{held}
-use Rattle.search.specs.Choice.{foundIn, firstOf, hopKeys, mayEnd}
+use Rattle.order.specs.Keys.{foundIn}
+use Rattle.search.specs.Choice.{firstOf, hopKeys, mayEnd}
 use Rattle.search.proofs.ChoiceLaws.{end-more, end-same}
 use Rattle.search.proofs.pair.over_hop.Statement.{statement}
 use Rattle.search.proofs.pair.over_hop.Tie as tie

@@ -12,9 +12,10 @@ use Rattle.distance.specs.Columns.{arcsIn}
 use Rattle.distance.specs.Area.{held}
 use Rattle.column.specs.Column.{column, slotsIn}
 use Rattle.column.specs.Laws.Calls.{prefix-known}
-use Rattle.search.specs.Known.{Readable}
-use Rattle.search.specs.Spaces.{asked}
-use Rattle.search.specs.Choice.{foundIn, outcomeFor}
+use Rattle.order.specs.Keys.{foundIn}
+use Rattle.avoid.specs.Avoiding.{asked}
+use Rattle.avoid.specs.Calls.{Readable}
+use Rattle.search.specs.Choice.{outcomeFor}
 use Rattle.search.proofs.KnownLaws.{readable, prefix-unreachable, prefix-untouched, prefix-searched}
 use Rattle.search.proofs.pair.prefix_found.Statement.{statement}
 use Rattle.search.proofs.pair.prefix_found.Tie as tie

@@ -1,14 +1,17 @@
 -- `search::pair::search` meets its contract. The loop's invariant: `best` is the first of the pairs of the first hops passed.
 -- Assumes nothing.
-use Prim.Native.Nat.{ℕ, _-_, _≤_}
+use Prim.Native.Nat.{ℕ, _-_, _≤_, _<_}
 use mathlib.Core.Path.{_≡_, refl, ap, _∙_}
 use mathlib.Core.Option.{none}
 use native.Mathlib.Omega.{arith}
 use lib.ListN.{getD}
 use borrow.Author.Needs.{needs}
 use Rattle.distance.specs.Area.{held}
-use Rattle.search.specs.Spaces.{asked, firstsIn}
-use Rattle.search.specs.Choice.{foundIn, firstOf, keysOver}
+use Rattle.order.specs.Keys.{foundIn}
+use Rattle.avoid.specs.Avoiding.{asked}
+use Rattle.avoid.specs.Laws.Calls.{from-known}
+use Rattle.search.specs.Spaces.{firstsIn}
+use Rattle.search.specs.Choice.{firstOf, keysOver}
 use Rattle.search.proofs.ChoiceLaws.{none-tried, hop-tried}
 use Rattle.search.proofs.pair.search.Statement.{statement}
 use Rattle.search.proofs.pair.search.Tie as tie
@@ -33,16 +36,19 @@ price-of-requires : tie.Need-price-of-requires Inv-loop μ-loop
 price-of-requires c κs = search needs
 
 avoiding-from-requires : tie.Need-avoiding-from-requires Inv-loop μ-loop
-avoiding-from-requires c κs =
-    let in-loop = c .before .before .before in
+avoiding-from-requires c κs = search needs
+
+-- the first hop is a router
+hop-in : (c : tie.After-head-of Inv-loop μ-loop) → c .head-of .result < c .before .before .before .before .before .args .n
+hop-in c =
+    let in-loop = c .before .before in
     let p = in-loop .before .before .before .pre in
-    (p .0, omega (arith, c .before .head-of .ensures, p .1 .head-in (in-loop .before .loop .i) (in-loop .loop-test .taken)))
+    omega (arith, c .head-of .ensures, p .1 .head-in (in-loop .before .loop .i) (in-loop .loop-test .taken))
 
 over-hop-requires : tie.Need-over-hop-requires Inv-loop μ-loop
 over-hop-requires c κs =
-    let in-loop = c .before .before .before .before in
-    let p = in-loop .before .before .before .pre in
-    (p .0 .few, p .0 .long, p .0 .near-in, omega (arith, c .before .before .head-of .ensures, p .1 .head-in (in-loop .before .loop .i) (in-loop .loop-test .taken)))
+    let p = c .before .before .before .before .before .before .before .pre in
+    (p .0 .few, p .0 .long, p .0 .near-in, hop-in (c .before .before))
 
 add-i : tie.Need-add-i Inv-loop μ-loop
 add-i c = search needs
@@ -53,10 +59,11 @@ loop-less c = search needs
 loop-again : tie.Need-loop-again Inv-loop μ-loop
 loop-again c =
     let at-loop = c .before .before .before .before .before .before in
+    let p = at-loop .before .before .pre in
     let a = at-loop .before .before .args in (
       omega arith,
       hop-tried (held (a .n) (a .dist .now)) (asked (a .link)) (λ x. getD (a .target .now) x 0) (a .mask) (a .n) (a .from .now) (a .to .now) (a .out .now) (a .back .now) (a .t9 .arcs) (at-loop .loop .i)
-          (at-loop .loop .inv .1) (c .before .before .before .head-of .ensures) (c .before .before .price-of .ensures) (c .before .avoiding-from .ensures) refl (c .over-hop .ensures),
+          (at-loop .loop .inv .1) (c .before .before .before .head-of .ensures) (c .before .before .price-of .ensures) (from-known (p .0) _ (hop-in (c .before .before .before)) (c .before .avoiding-from .ensures)) refl (c .over-hop .ensures),
     )
 
 returns : tie.Need-returns Inv-loop μ-loop

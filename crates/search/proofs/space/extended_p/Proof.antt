@@ -1,13 +1,15 @@
 -- `search::space::extended_p` meets its contract. The loop's invariant: the set holds the routers that one of the first hops passed avoids to.
 -- Assumes nothing.
-use Prim.Native.Nat.{ℕ, _-_, _≤_}
+use Prim.Native.Nat.{ℕ, _-_, _≤_, _<_}
 use mathlib.Core.Path.{_≡_, ap, _∙_}
 use mathlib.Core.List.{List}
 use native.Mathlib.Omega.{arith}
 use borrow.Author.Needs.{needs}
 use Rattle.lfa.specs.Space.{setOf}
 use Rattle.distance.specs.Area.{held}
-use Rattle.search.specs.Spaces.{asked, firstsIn, someClears}
+use Rattle.avoid.specs.Avoiding.{asked}
+use Rattle.avoid.specs.Laws.Calls.{from-known}
+use Rattle.search.specs.Spaces.{firstsIn, someClears}
 use Rattle.search.proofs.SpaceLaws.{no-hops, hop-more}
 use Rattle.search.proofs.space.extended_p.Statement.{statement}
 use Rattle.search.proofs.space.extended_p.Tie as tie
@@ -28,10 +30,7 @@ head-of-requires : tie.Need-head-of-requires Inv-loop μ-loop
 head-of-requires c κs = search needs
 
 avoiding-from-requires : tie.Need-avoiding-from-requires Inv-loop μ-loop
-avoiding-from-requires c κs =
-    let in-loop = c .before .before in
-    let p = in-loop .before .before .before .pre in
-    (p .0, omega (arith, c .head-of .ensures, p .1 .head-in (in-loop .before .loop .i) (in-loop .loop-test .taken)))
+avoiding-from-requires c κs = search needs
 
 add-i : tie.Need-add-i Inv-loop μ-loop
 add-i c = search needs
@@ -41,11 +40,14 @@ loop-less c = search needs
 
 loop-again : tie.Need-loop-again Inv-loop μ-loop
 loop-again c =
-    let at-loop = c .before .before .before .before in
-    let a = at-loop .before .before .args in (
+    let in-loop = c .before .before .before in
+    let at-loop = in-loop .before in
+    let p = at-loop .before .before .pre in
+    let a = at-loop .before .before .args in
+    let hop-in : c .before .head-of .result < a .n = omega (arith, c .before .head-of .ensures, p .1 .head-in (at-loop .loop .i) (in-loop .loop-test .taken)) in (
       omega arith,
       λ out back. hop-more (a .n) (held (a .n) (a .dist .now)) (asked (a .link)) (a .from .now) (a .to .now) (a .t6 .arcs) out back (at-loop .loop .i) (at-loop .loop .inv .1 out back)
-          (c .before .head-of .ensures) (c .avoiding-from .ensures),
+          (c .before .head-of .ensures) (from-known (p .0) _ hop-in (c .avoiding-from .ensures)),
     )
 
 returns : tie.Need-returns Inv-loop μ-loop

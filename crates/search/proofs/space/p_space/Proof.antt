@@ -1,7 +1,9 @@
 -- `search::space::p_space` meets its contract. By distances S avoids to just the routers of P.
 -- Assumes nothing.
-use Rattle.search.specs.Known.{Readable}
-use Rattle.search.specs.Spaces.{asked}
+use borrow.Author.Needs.{needs}
+use Rattle.avoid.specs.Avoiding.{asked}
+use Rattle.avoid.specs.Calls.{Readable}
+use Rattle.avoid.specs.Laws.Calls.{from-known}
 use Rattle.search.proofs.KnownLaws.{readable, p-space}
 use Rattle.search.proofs.space.p_space.Statement.{statement}
 use Rattle.search.proofs.space.p_space.Tie as tie
@@ -11,10 +13,10 @@ known : (s : tie.Start) → Readable (s .args .n) (asked (s .args .link)) (s .ar
 known s = readable (s .args .n) (s .pre .0) (asked (s .args .link)) (s .args .dist .now) (s .pre .1)
 
 avoiding-from-requires : tie.Need-avoiding-from-requires
-avoiding-from-requires c κs = (known (c .before), known (c .before) .near-in)
+avoiding-from-requires c κs = search needs
 
 returns : tie.Need-returns
-returns c = λ hops k. p-space _ hops _ _ k (c .avoiding-from .ensures)
+returns c = λ hops k. let r = known (c .before .before) in p-space _ hops _ _ k (from-known r _ (r .near-in) (c .avoiding-from .ensures))
 
 pub p-space-spec : {M : Type 1} → statement M
 p-space-spec = tie.close (tie.spec avoiding-from-requires returns)

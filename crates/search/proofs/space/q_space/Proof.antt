@@ -2,8 +2,9 @@
 -- Assumes nothing.
 use borrow.Author.Needs.{needs}
 use Rattle.column.specs.Laws.Calls.{router-known}
-use Rattle.search.specs.Known.{Readable}
-use Rattle.search.specs.Spaces.{asked}
+use Rattle.avoid.specs.Avoiding.{asked}
+use Rattle.avoid.specs.Calls.{Readable}
+use Rattle.avoid.specs.Laws.Calls.{to-known}
 use Rattle.search.proofs.KnownLaws.{readable, q-space}
 use Rattle.search.proofs.space.q_space.Statement.{statement}
 use Rattle.search.proofs.space.q_space.Tie as tie
@@ -16,13 +17,13 @@ towards-router-requires : tie.Need-towards-router-requires
 towards-router-requires c κs = search needs
 
 avoiding-to-requires : tie.Need-avoiding-to-requires
-avoiding-to-requires c κs = known (c .before .before .before)
+avoiding-to-requires c κs = search needs
 
 returns : tie.Need-returns
 returns c = λ hops k.
     let r = known (c .before .before .before .before) in
     let to = c .before .before .towards-router in
-    q-space _ hops _ _ k (to .result) (router-known _ _ (r .few) (r .long) _ (r .far-in) (to .ensures)) (c .avoiding-to .ensures)
+    q-space _ hops _ _ k (to .result) (router-known _ _ (r .few) (r .long) _ (r .far-in) (to .ensures)) (to-known r _ (c .avoiding-to .ensures))
 
 pub q-space-spec : {M : Type 1} → statement M
 q-space-spec = tie.close (tie.spec towards-router-requires avoiding-to-requires returns)

@@ -2,8 +2,8 @@
 -- Assumes nothing.
 use borrow.Author.Needs.{needs}
 use Rattle.distance.specs.Columns.{arcsIn}
-use Rattle.search.specs.Known.{Readable}
-use Rattle.search.specs.Spaces.{asked}
+use Rattle.avoid.specs.Avoiding.{asked}
+use Rattle.avoid.specs.Calls.{Readable}
 use Rattle.search.proofs.KnownLaws.{readable, extended-space}
 use Rattle.search.proofs.SpaceLaws.{listed-firsts, listed-within}
 use Rattle.search.proofs.space.space_of.Statement.{statement}

@@ -1,0 +1,88 @@
+-- `avoid::set::set_from` meets its contract. The loop's invariant: the set holds the routers before r that pass the test by distances.
+-- Assumes nothing.
+use Prim.Native.Nat.{ℕ, _-_, _≤_}
+use mathlib.Core.Path.{_≡_, sym, ap, _∙_}
+use mathlib.Core.Bool.{Bool}
+use mathlib.Core.Logic.{⊎-elim}
+use native.Mathlib.Omega.{arith}
+use borrow.Author.Needs.{needs}
+use Rattle.lfa.specs.Space.{setOf}
+use Rattle.distance.specs.Area.{held}
+use Rattle.avoid.specs.Avoiding.{asked, clearsTo}
+use Rattle.avoid.proofs.SetLaws.{cells-clear-to, put-in, left-out}
+use Rattle.avoid.proofs.set.set_from.Statement.{statement}
+use Rattle.avoid.proofs.set.set_from.Tie as tie
+
+abbrev Inv-loop : tie.InvT-loop
+Inv-loop dist n link x near far x-near x-far set₀ r₀ set r = (r ≤ n) × (set ≡ setOf r (clearsTo (held n dist) (asked link) x))
+
+abbrev μ-loop : tie.MeasureT-loop
+μ-loop dist n link x near far x-near x-far set₀ r₀ set r = n - r
+
+cell-requires : tie.Need-cell-requires Inv-loop μ-loop
+cell-requires c κs = search needs
+
+cell-requires-2 : tie.Need-cell-requires-2 Inv-loop μ-loop
+cell-requires-2 c κs = search needs
+
+loop-holds : tie.Need-loop-holds Inv-loop μ-loop
+unfolding setOf
+loop-holds c = search needs
+
+cell-requires-3 : tie.Need-cell-requires-3 Inv-loop μ-loop
+cell-requires-3 c κs = search needs
+
+cell-requires-4 : tie.Need-cell-requires-4 Inv-loop μ-loop
+cell-requires-4 c κs = search needs
+
+cell-requires-5 : tie.Need-cell-requires-5 Inv-loop μ-loop
+cell-requires-5 c κs = search needs
+
+below-both-requires : tie.Need-below-both-requires Inv-loop μ-loop
+below-both-requires c κs = search needs
+
+shl-set : tie.Need-shl-set Inv-loop μ-loop
+shl-set c = search needs
+
+add-r : tie.Need-add-r Inv-loop μ-loop
+add-r c = search needs
+
+loop-less : tie.Need-loop-less Inv-loop μ-loop
+loop-less c = search needs
+
+loop-again : tie.Need-loop-again Inv-loop μ-loop
+loop-again c =
+    let at-loop = c .before .before .before .before .before .before in
+    let s = at-loop .before .before .before .before in
+    let i = at-loop .loop .r in
+    let d = held (s .args .n) (s .args .dist .now) in
+    let p : ℕ → Bool = clearsTo d (asked (s .args .link)) (s .args .x) in
+    let e : c .before .below-both .result ≡ p i =
+    cells-clear-to d (asked (s .args .link)) (s .args .x) i (c .before .before .before .before .cell3 .ensures) (at-loop .before .before .cell .ensures) (at-loop .before .cell2 .ensures)
+    (c .before .before .before .cell4 .ensures) (c .before .before .cell5 .ensures) (c .before .below-both .ensures) in
+    (omega arith, ⊎-elim (λ w. w .1 ∙ put-in p (omega arith) (at-loop .loop .inv .1) (sym e ∙ w .0 .taken)) (λ w. w .1 ∙ left-out p (at-loop .loop .inv .1) (sym e ∙ w .0 .left)) (c .if1 .came))
+
+returns : tie.Need-returns Inv-loop μ-loop
+returns c =
+    let e : c .before .loop .r ≡ c .before .before .before .before .before .args .n = omega arith in
+    let s = c .before .before .before .before .before in
+    c .before .loop .inv .1 ∙ ap (λ (k : ℕ). setOf k (clearsTo (held (s .args .n) (s .args .dist .now)) (asked (s .args .link)) (s .args .x))) e
+
+pub set-from-spec : {M : Type 1} → statement M
+set-from-spec =
+    tie.close
+    (tie.spec
+    Inv-loop
+    μ-loop
+    cell-requires
+    cell-requires-2
+    loop-holds
+    cell-requires-3
+    cell-requires-4
+    cell-requires-5
+    below-both-requires
+    shl-set
+    add-r
+    loop-less
+    loop-again
+    returns)

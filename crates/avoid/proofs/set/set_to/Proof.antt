@@ -1,0 +1,101 @@
+-- `avoid::set::set_to` meets its contract. The loop's invariant: the set holds the routers before x that pass the test by distances.
+-- Assumes nothing.
+use Prim.Native.Nat.{ℕ, _-_, _≤_}
+use mathlib.Core.Path.{_≡_, refl, sym, ap, _∙_}
+use mathlib.Core.Bool.{Bool}
+use mathlib.Core.Logic.{⊎-elim}
+use native.Mathlib.Omega.{arith}
+use lib.ListN.{getD}
+use borrow.Author.Needs.{needs}
+use Rattle.lfa.specs.Space.{setOf}
+use Rattle.distance.specs.Area.{held}
+use Rattle.avoid.specs.Avoiding.{asked, clears}
+use Rattle.avoid.proofs.SetLaws.{cells-clear, put-in, left-out}
+use Rattle.avoid.proofs.set.set_to.Statement.{statement}
+use Rattle.avoid.proofs.set.set_to.Tie as tie
+
+abbrev Inv-loop : tie.InvT-loop
+Inv-loop dist n link to near far to-near to-far set₀ x₀ set x = (x ≤ n) × (set ≡ setOf x (clears (held n dist) (asked link) (λ x. getD to x 0)))
+
+abbrev μ-loop : tie.MeasureT-loop
+μ-loop dist n link to near far to-near to-far set₀ x₀ set x = n - x
+
+mul-to-near : tie.Need-mul-to-near Inv-loop μ-loop
+mul-to-near c = search needs
+
+element-copy-out-to-near : tie.Need-element-copy-out-to-near Inv-loop μ-loop
+element-copy-out-to-near c = search needs
+
+mul-to-far : tie.Need-mul-to-far Inv-loop μ-loop
+mul-to-far c = search needs
+
+element-copy-out-to-far : tie.Need-element-copy-out-to-far Inv-loop μ-loop
+element-copy-out-to-far c = search needs
+
+loop-holds : tie.Need-loop-holds Inv-loop μ-loop
+unfolding setOf
+loop-holds c = search needs
+
+cell-requires : tie.Need-cell-requires Inv-loop μ-loop
+cell-requires c κs = search needs
+
+cell-requires-2 : tie.Need-cell-requires-2 Inv-loop μ-loop
+cell-requires-2 c κs = search needs
+
+mul-below-both : tie.Need-mul-below-both Inv-loop μ-loop
+mul-below-both c = search needs
+
+element-copy-out-below-both : tie.Need-element-copy-out-below-both Inv-loop μ-loop
+element-copy-out-below-both c = search needs
+
+below-both-requires : tie.Need-below-both-requires Inv-loop μ-loop
+below-both-requires c κs = search needs
+
+shl-set : tie.Need-shl-set Inv-loop μ-loop
+shl-set c = search needs
+
+add-x : tie.Need-add-x Inv-loop μ-loop
+add-x c = search needs
+
+loop-less : tie.Need-loop-less Inv-loop μ-loop
+loop-less c = search needs
+
+loop-again : tie.Need-loop-again Inv-loop μ-loop
+loop-again c =
+    let at-loop = c .before .before .before .before .before .before in
+    let s = at-loop .before .before .before .before in
+    let i = at-loop .loop .x in
+    let d = held (s .args .n) (s .args .dist .now) in
+    let q = asked (s .args .link) in
+    let h : ℕ → ℕ = λ x. getD (s .args .to .now) x 0 in
+    let p : ℕ → Bool = clears d q h in
+    let e : c .before .below-both .result ≡ p i = cells-clear d q h i refl (c .before .before .before .before .cell .ensures) (c .before .before .before .cell2 .ensures) refl refl (c .before .below-both .ensures) in
+    (omega arith, ⊎-elim (λ w. w .1 ∙ put-in p (omega arith) (at-loop .loop .inv .1) (sym e ∙ w .0 .taken)) (λ w. w .1 ∙ left-out p (at-loop .loop .inv .1) (sym e ∙ w .0 .left)) (c .if1 .came))
+
+returns : tie.Need-returns Inv-loop μ-loop
+returns c =
+    let s = c .before .before .before .before .before in
+    let e : c .before .loop .x ≡ s .args .n = omega arith in
+    c .before .loop .inv .1 ∙ ap (λ (k : ℕ). setOf k (clears (held (s .args .n) (s .args .dist .now)) (asked (s .args .link)) (λ x. getD (s .args .to .now) x 0))) e
+
+pub set-to-spec : {M : Type 1} → statement M
+set-to-spec =
+    tie.close
+    (tie.spec
+    Inv-loop
+    μ-loop
+    mul-to-near
+    element-copy-out-to-near
+    mul-to-far
+    element-copy-out-to-far
+    loop-holds
+    cell-requires
+    cell-requires-2
+    mul-below-both
+    element-copy-out-below-both
+    below-both-requires
+    shl-set
+    add-x
+    loop-less
+    loop-again
+    returns)

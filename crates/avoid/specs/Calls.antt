@@ -1,0 +1,30 @@
+-- What the public functions answer for any numbers: where no distances can be read for them, the set is empty.
+-- Assumes nothing.
+use Prim.Native.Nat.{ℕ, _*_, _≤_, _<_}
+use mathlib.Core.Bool.{Bool, true, false, _&&_}
+use mathlib.Core.List.{List}
+use lib.Dec.{ltb}
+use lib.ListN.{length}
+use Rattle.lfa.specs.Space.{Protected, setOf}
+use Rattle.metric.specs.Fit.{cellsFit}
+use Rattle.distance.specs.Area.{held}
+use Rattle.avoid.specs.Avoiding.{clears, clearsTo}
+
+-- the area has a cell for each two of at most 64 routers, and the ends of the protected link are routers
+pub record Readable (n : ℕ) (q : Protected) (area : List ℕ) : Type 0 where
+  pub few : n ≤ 64
+  pub long : n * n ≤ length area
+  pub near-in : q .near < n
+  pub far-in : q .far < n
+
+-- and the test of it, by the number of cells
+unfoldable pub readable : (n : ℕ) → Protected → (cells : ℕ) → Bool
+readable n q cells = cellsFit n cells && (ltb (q .near) n && ltb (q .far) n)
+
+-- the routers that avoid the link on the way to a target; h gives the distances to it
+unfoldable pub avoidingTo : (n : ℕ) → Protected → (area : List ℕ) → (h : ℕ → ℕ) → ℕ
+avoidingTo n q area h = elim (readable n q (length area)) [ true ↦ setOf n (clears (held n area) q h) | false ↦ 0 ]
+
+-- the routers that x avoids the link on the way to
+unfoldable pub avoidingFrom : (n : ℕ) → Protected → (area : List ℕ) → (x : ℕ) → ℕ
+avoidingFrom n q area x = elim (readable n q (length area) && ltb x n) [ true ↦ setOf n (clearsTo (held n area) q x) | false ↦ 0 ]

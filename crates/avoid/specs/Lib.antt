@@ -1,0 +1,3 @@
+pub mod Avoiding
+pub mod Calls
+pub mod Laws
