@@ -1,3 +1,4 @@
 pub mod Avoiding
 pub mod Calls
+pub mod Known
 pub mod Laws

@@ -10,7 +10,7 @@ use Rattle.lfa.specs.Space.{protected}
 use Rattle.lfa.specs.Laws.Network.{LinksSound, limits-sound, limits-distances, limits-named}
 use Rattle.lfa.specs.Laws.Work.{work-length}
 use Rattle.distance.specs.Laws.Area.{held-filled}
-use Rattle.search.specs.Known.{Known}
+use Rattle.avoid.specs.Known.{Known}
 
 -- Of a network with sound links and of one of them, all is known that spaces and repairs need.
 pub known-filled : (net : Network) → LinksSound net → (area : List ℕ) → net .routers * net .routers ≤ length area → (l e : ℕ) → l < length (net .links) →

@@ -24,7 +24,7 @@ use Rattle.distance.specs.Columns.{linksIn, arcsIn, InColumns}
 use Rattle.distance.specs.Area.{held}
 use Rattle.distance.specs.Laws.Columns.{arcs-columns}
 use Rattle.distance.specs.Laws.Area.{held-filled}
-use Rattle.search.specs.Known.{Known}
+use Rattle.avoid.specs.Known.{Known}
 use Rattle.search.specs.Spaces.{protectedIn}
 use Rattle.search.specs.Calls.{priced, linkPriced, linksPriced, linkCosts, costsFit, answered, prefixHeld, prefixAnswered, heldBy, targetIn, areaBy, spaceBy, linkBy, prefixBy, SpaceTold, LinkTold, PrefixTold}
 use Rattle.search.proofs.AreaLaws.{known-filled}

@@ -32,8 +32,8 @@ use Rattle.column.specs.Column.{column}
 use Rattle.column.specs.Laws.Column.{column-at}
 use Rattle.distance.specs.Laws.List.{any-same, select-same}
 use Rattle.avoid.specs.Avoiding.{clears, clearsTo}
-use Rattle.avoid.specs.Calls.{Readable}
-use Rattle.search.specs.Known.{Known}
+use Rattle.avoid.specs.Known.{Known}
+use Rattle.avoid.specs.Laws.Known.{can-read, clears-avoids, clearsTo-avoids}
 use Rattle.search.specs.Spaces.{someClears, crossesOut}
 use Rattle.search.specs.Choice.{outcomeFor, firstOf, keysAt, mayEnd, hopKeys, endsOf, keysOfHop, overFirst, keysOver}
 use Rattle.search.proofs.ListLaws.{and-reorder, select-select, select-map, map-same, select-flat, map-flat}
@@ -44,55 +44,20 @@ module _ (n : ℕ) (hops : List Arc) (q : Protected) (area : List ℕ) (known : 
   d = held n area
 
   near-in : q .near < n
-  near-in = known .sound .within .from (known .named .outward)
+  near-in = can-read n hops q area known .near-in
 
   far-in : q .far < n
-  far-in = known .sound .within .to (known .named .outward)
-
-  pub readable : Readable n q area
-  readable = record { few = known .sound .few; long = known .long; near-in = near-in; far-in = far-in }
-
-  -- ---- avoiding
-
-  -- The test by distances decides avoiding: the sums are at most unreachable, so a distance below them is finite.
-  module _ (to : Target) (h : ℕ → ℕ) (same : (z : ℕ) → z < n → h z ≡ towards d to z) where
-    pub clears-avoids : (x : ℕ) → x < n → clears d q h x ≡ avoids n hops d to (q .number) x
-    unfolding clears
-    clears-avoids x i = same-test _ _ there back
-      where
-        there : clears d q h x ≡ true → avoids n hops d to (q .number) x ≡ true
-        there t =
-            let out : h x < min (d x (q .near) + q .out + h (q .far)) unreachable = search (ltb-true, and-left) in
-            let back : h x < min (d x (q .far) + q .back + h (q .near)) unreachable = search (ltb-true, and-right) in
-            let ex = same x i in
-            let es = same (q .near) near-in in
-            let ee = same (q .far) far-in in
-            avoids-make n hops d to (q .number) x (below-avoids hops d to q (known .costs) (known .named) x (record { finite = omega arith; out = omega arith; back = omega arith }))
-
-        back : avoids n hops d to (q .number) x ≡ true → clears d q h x ≡ true
-        back t =
-            let g = known .sound .falls d to in
-            let b = avoids-below hops d to q (known .costs) (known .named) x (avoids-gives n hops d to (g .0) (known .sound .within) (g .1) (q .number) x i t) in
-            let ex = same x i in
-            let es = same (q .near) near-in in
-            let ee = same (q .far) far-in in
-            let out : h x < min (d x (q .near) + q .out + h (q .far)) unreachable = omega (arith, b .finite, b .out) in
-            let back : h x < min (d x (q .far) + q .back + h (q .near)) unreachable = omega (arith, b .finite, b .back) in
-            and-make _ _ (lt-ltb _ _ out) (lt-ltb _ _ back)
-
-  pub clearsTo-avoids : (x r : ℕ) → x < n → clearsTo d q x r ≡ avoids n hops d (router r) (q .number) x
-  unfolding clearsTo
-  clearsTo-avoids x r i = clears-avoids (router r) (λ z. d z r) (λ z k. sym (towards-router d r z (known .costs .most z r))) x i
+  far-in = can-read n hops q area known .far-in
 
   -- ---- the spaces
 
   -- the routers that avoid to a target, from a column of distances to it
   pub avoiding-set : {set : ℕ} (to : Target) (l : List ℕ) → l ≡ column n (towards d to) → set ≡ setOf n (clears d q (λ x. getD l x 0)) → set ≡ setOf n (avoids n hops d to (q .number))
-  avoiding-set to l e s = s ∙ setOf-same n _ _ (clears-avoids to (λ x. getD l x 0) (λ z k. rw e (column-at n (towards d to) z k)))
+  avoiding-set to l e s = s ∙ setOf-same n _ _ (clears-avoids n hops q area known to (λ x. getD l x 0) (λ z k. rw e (column-at n (towards d to) z k)))
 
   pub p-space : {set : ℕ} → set ≡ setOf n (clearsTo d q (q .near)) → set ≡ spaceOf pSpace n hops d q
   unfolding spaceOf inSpace
-  p-space s = s ∙ setOf-same n _ _ (λ r k. clearsTo-avoids (q .near) r near-in)
+  p-space s = s ∙ setOf-same n _ _ (λ r k. clearsTo-avoids n hops q area known (q .near) r near-in)
 
   pub q-space : {set : ℕ} (l : List ℕ) → l ≡ column n (towards d (router (q .far))) → set ≡ setOf n (clears d q (λ x. getD l x 0)) → set ≡ spaceOf qSpace n hops d q
   unfolding spaceOf inSpace
@@ -103,7 +68,7 @@ module _ (n : ℕ) (hops : List Arc) (q : Protected) (area : List ℕ) (known : 
   extended-space s = s ∙ setOf-same n _ _ λ r k. any-same (λ f. clearsTo d q (hopRouter f) r) (λ f. avoids n hops d (router r) (q .number) (hopRouter f)) (firstHops q hops) (by r)
     where
       by : (r : ℕ) (f : FirstHop) → List·Memᴰ f (firstHops q hops) → clearsTo d q (hopRouter f) r ≡ avoids n hops d (router r) (q .number) (hopRouter f)
-      by r (first m c l) j = clearsTo-avoids m r (known .sound .within .to (firsts-give q hops m c l j .0))
+      by r (first m c l) j = clearsTo-avoids n hops q area known m r (known .sound .within .to (firsts-give q hops m c l j .0))
 
   -- ---- crossing
 
@@ -173,7 +138,7 @@ module _ (n : ℕ) (hops : List Arc) (q : Protected) (area : List ℕ) (known : 
           ∙ ap₂ (λ (u v : Bool). u && v) (in-extended y k) (has-setOf n (avoids n hops d to (q .number)) y k) in
           let in-ends : has (bitAnd both (setOf n (clearsTo d q m))) y ≡ ((e && t) && a) =
           has-and both (setOf n (clearsTo d q m)) y
-          ∙ ap₂ (λ (u v : Bool). u && v) in-both (has-setOf n (clearsTo d q m) y k ∙ clearsTo-avoids m y (known .sound .within .to joined)) in
+          ∙ ap₂ (λ (u v : Bool). u && v) in-both (has-setOf n (clearsTo d q m) y k ∙ clearsTo-avoids n hops q area known m y (known .sound .within .to joined)) in
           ap (λ (b : Bool). b && (not (eqb y (q .near)) && not (eqb y (q .far)))) in-ends
           ∙ and-reorder e t a (not (eqb y (q .near)) && not (eqb y (q .far))) (first-extends y)
 

@@ -1,4 +1,3 @@
-pub mod Known
 pub mod Spaces
 pub mod Choice
 pub mod Calls

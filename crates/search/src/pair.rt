@@ -14,7 +14,7 @@ ghost use Rattle.distance.specs.Area.{held};
 ghost use Rattle.column.specs.Column.{column, slotsIn};
 ghost use Rattle.avoid.specs.Avoiding.{asked};
 ghost use Rattle.avoid.specs.Calls.{Readable};
-ghost use Rattle.search.specs.Known.{Known};
+ghost use Rattle.avoid.specs.Known.{Known};
 ghost use Rattle.search.specs.Spaces.{HopsWithin, firstsIn};
 ghost use Rattle.search.specs.Choice.{outcomeFor, outcomeIn, firstOf, keysAt, mayEnd, hopKeys, keysOver};
 ghost use Rattle.search.specs.Calls.{columnsOf, LinkTold, PrefixTold};

@@ -10,7 +10,7 @@ ghost use Rattle.distance.specs.Columns.{arcsIn};
 ghost use Rattle.distance.specs.Area.{held};
 ghost use Rattle.avoid.specs.Avoiding.{asked};
 ghost use Rattle.avoid.specs.Calls.{Readable};
-ghost use Rattle.search.specs.Known.{Known};
+ghost use Rattle.avoid.specs.Known.{Known};
 ghost use Rattle.search.specs.Spaces.{sideOf, leavesNear, Listed, HopsWithin, firstsIn, someClears, crossesOut, spaceNamed};
 ghost use Rattle.search.specs.Calls.{columnsOf, SpaceTold};
 use crate::Which;

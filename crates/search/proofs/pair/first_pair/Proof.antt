@@ -7,7 +7,8 @@ use Rattle.distance.specs.Columns.{arcsIn}
 use Rattle.avoid.specs.Avoiding.{asked}
 use Rattle.avoid.specs.Calls.{Readable}
 use Rattle.avoid.specs.Laws.Calls.{to-known}
-use Rattle.search.proofs.KnownLaws.{readable, found-outcome}
+use Rattle.avoid.specs.Laws.Known.{can-read}
+use Rattle.search.proofs.KnownLaws.{found-outcome}
 use Rattle.search.proofs.SpaceLaws.{listed-firsts, listed-within}
 use Rattle.search.proofs.pair.first_pair.Statement.{statement}
 use Rattle.search.proofs.pair.first_pair.Tie as tie
@@ -18,7 +19,7 @@ hops s = arcsIn (s .args .from .now) (s .args .to .now) (s .args .out .now) (s .
 
 -- the table can be read
 known : (s : tie.Start) → Readable (s .args .n) (asked (s .args .link)) (s .args .dist .now)
-known s = readable (s .args .n) (hops s) (asked (s .args .link)) (s .args .dist .now) (s .pre .1)
+known s = can-read (s .args .n) (hops s) (asked (s .args .link)) (s .args .dist .now) (s .pre .1)
 
 first-hops-requires : tie.Need-first-hops-requires
 first-hops-requires c κs = c .before .pre .0 .few-links

@@ -9,7 +9,7 @@ use Rattle.distance.specs.Columns.{arcsIn}
 use Rattle.column.specs.Laws.Calls.{router-known}
 use Rattle.avoid.specs.Avoiding.{asked}
 use Rattle.avoid.specs.Calls.{Readable}
-use Rattle.search.proofs.KnownLaws.{readable}
+use Rattle.avoid.specs.Laws.Known.{can-read}
 use Rattle.search.proofs.pair.link_found.Statement.{statement}
 use Rattle.search.proofs.pair.link_found.Tie as tie
 
@@ -19,7 +19,7 @@ hops s = arcsIn (s .args .from .now) (s .args .to .now) (s .args .out .now) (s .
 
 -- the table can be read
 known : (s : tie.Start) → Readable (s .args .n) (asked (s .args .link)) (s .args .dist .now)
-known s = readable (s .args .n) (hops s) (asked (s .args .link)) (s .args .dist .now) (s .pre .1)
+known s = can-read (s .args .n) (hops s) (asked (s .args .link)) (s .args .dist .now) (s .pre .1)
 
 towards-router-requires : tie.Need-towards-router-requires
 towards-router-requires c κs = search needs

@@ -16,7 +16,8 @@ use Rattle.order.specs.Keys.{foundIn}
 use Rattle.avoid.specs.Avoiding.{asked}
 use Rattle.avoid.specs.Calls.{Readable}
 use Rattle.search.specs.Choice.{outcomeFor}
-use Rattle.search.proofs.KnownLaws.{readable, prefix-unreachable, prefix-untouched, prefix-searched}
+use Rattle.avoid.specs.Laws.Known.{can-read}
+use Rattle.search.proofs.KnownLaws.{prefix-unreachable, prefix-untouched, prefix-searched}
 use Rattle.search.proofs.pair.prefix_found.Statement.{statement}
 use Rattle.search.proofs.pair.prefix_found.Tie as tie
 
@@ -26,7 +27,7 @@ hops s = arcsIn (s .args .from .now) (s .args .to .now) (s .args .out .now) (s .
 
 -- the table can be read
 known : (s : tie.Start) → Readable (s .args .n) (asked (s .args .link)) (s .args .dist .now)
-known s = readable (s .args .n) (hops s) (asked (s .args .link)) (s .args .dist .now) (s .pre .1)
+known s = can-read (s .args .n) (hops s) (asked (s .args .link)) (s .args .dist .now) (s .pre .1)
 
 -- the attachments of the prefix
 abbrev target : tie.Start → Target

@@ -4,13 +4,14 @@ use borrow.Author.Needs.{needs}
 use Rattle.avoid.specs.Avoiding.{asked}
 use Rattle.avoid.specs.Calls.{Readable}
 use Rattle.avoid.specs.Laws.Calls.{from-known}
-use Rattle.search.proofs.KnownLaws.{readable, p-space}
+use Rattle.avoid.specs.Laws.Known.{can-read}
+use Rattle.search.proofs.KnownLaws.{p-space}
 use Rattle.search.proofs.space.p_space.Statement.{statement}
 use Rattle.search.proofs.space.p_space.Tie as tie
 
 -- the table can be read
 known : (s : tie.Start) → Readable (s .args .n) (asked (s .args .link)) (s .args .dist .now)
-known s = readable (s .args .n) (s .pre .0) (asked (s .args .link)) (s .args .dist .now) (s .pre .1)
+known s = can-read (s .args .n) (s .pre .0) (asked (s .args .link)) (s .args .dist .now) (s .pre .1)
 
 avoiding-from-requires : tie.Need-avoiding-from-requires
 avoiding-from-requires c κs = search needs

@@ -5,13 +5,14 @@ use Rattle.column.specs.Laws.Calls.{router-known}
 use Rattle.avoid.specs.Avoiding.{asked}
 use Rattle.avoid.specs.Calls.{Readable}
 use Rattle.avoid.specs.Laws.Calls.{to-known}
-use Rattle.search.proofs.KnownLaws.{readable, q-space}
+use Rattle.avoid.specs.Laws.Known.{can-read}
+use Rattle.search.proofs.KnownLaws.{q-space}
 use Rattle.search.proofs.space.q_space.Statement.{statement}
 use Rattle.search.proofs.space.q_space.Tie as tie
 
 -- the table can be read
 known : (s : tie.Start) → Readable (s .args .n) (asked (s .args .link)) (s .args .dist .now)
-known s = readable (s .args .n) (s .pre .0) (asked (s .args .link)) (s .args .dist .now) (s .pre .1)
+known s = can-read (s .args .n) (s .pre .0) (asked (s .args .link)) (s .args .dist .now) (s .pre .1)
 
 towards-router-requires : tie.Need-towards-router-requires
 towards-router-requires c κs = search needs

@@ -4,14 +4,15 @@ use borrow.Author.Needs.{needs}
 use Rattle.distance.specs.Columns.{arcsIn}
 use Rattle.avoid.specs.Avoiding.{asked}
 use Rattle.avoid.specs.Calls.{Readable}
-use Rattle.search.proofs.KnownLaws.{readable, extended-space}
+use Rattle.avoid.specs.Laws.Known.{can-read}
+use Rattle.search.proofs.KnownLaws.{extended-space}
 use Rattle.search.proofs.SpaceLaws.{listed-firsts, listed-within}
 use Rattle.search.proofs.space.space_of.Statement.{statement}
 use Rattle.search.proofs.space.space_of.Tie as tie
 
 -- the table can be read
 known : (s : tie.Start) → Readable (s .args .n) (asked (s .args .link)) (s .args .dist .now)
-known s = readable (s .args .n) (arcsIn (s .args .from .now) (s .args .to .now) (s .pre .1 .0) (s .pre .1 .1) (s .args .links)) (asked (s .args .link)) (s .args .dist .now) (s .pre .1 .2)
+known s = can-read (s .args .n) (arcsIn (s .args .from .now) (s .args .to .now) (s .pre .1 .0) (s .pre .1 .1) (s .args .links)) (asked (s .args .link)) (s .args .dist .now) (s .pre .1 .2)
 
 enum-told : tie.Need-enum-told
 enum-told c = search needs

@@ -1,4 +1,4 @@
--- What spaces and repairs need to know of the distances that the work area holds.
+-- What is to be known of an area, so that the sets read from it are those of the routers that avoid the link by walks.
 -- Assumes nothing.
 use Prim.Native.Nat.{ℕ, _*_, _≤_}
 use mathlib.Core.List.{List}

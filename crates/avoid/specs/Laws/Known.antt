@@ -1,0 +1,72 @@
+-- What the sets mean: where the area holds the distances of a network, they are the sets of the routers that avoid the link as document
+-- 01 says it, by every walk.
+-- Assumes nothing.
+use Prim.Native.Nat.{ℕ, _+_, _<_, min}
+use mathlib.Core.Path.{_≡_, refl, sym, _∙_}
+use mathlib.Core.Bool.{true}
+use mathlib.Core.List.{List}
+use native.Mathlib.Omega.{arith}
+use borrow.Author.Tests.{ltb-true, lt-ltb}
+use Rattle.lfa.specs.Network.{Arc, Target, router}
+use Rattle.lfa.specs.Distance.{unreachable, towards}
+use Rattle.lfa.specs.Walk.{avoids}
+use Rattle.lfa.specs.Space.{Protected, setOf}
+use Rattle.lfa.specs.Laws.Test.{and-left, and-right, and-make, same-test}
+use Rattle.lfa.specs.Laws.Set.{setOf-same}
+use Rattle.lfa.specs.Laws.Target.{towards-router}
+use Rattle.lfa.specs.Laws.Avoid.{avoids-gives, avoids-make, avoids-below, below-avoids}
+use Rattle.distance.specs.Area.{held}
+use Rattle.avoid.specs.Avoiding.{clears, clearsTo}
+use Rattle.avoid.specs.Calls.{Readable, avoidingTo, avoidingFrom}
+use Rattle.avoid.specs.Known.{Known}
+use Rattle.avoid.specs.Laws.Calls.{to-known, from-known}
+
+module _ (n : ℕ) (hops : List Arc) (q : Protected) (area : List ℕ) (known : Known n hops q area) where
+  abbrev d : ℕ → ℕ → ℕ
+  d = held n area
+
+  near-in : q .near < n
+  near-in = known .sound .within .from (known .named .outward)
+
+  far-in : q .far < n
+  far-in = known .sound .within .to (known .named .outward)
+
+  pub can-read : Readable n q area
+  can-read = record { few = known .sound .few; long = known .long; near-in = near-in; far-in = far-in }
+
+  -- The test by distances decides avoiding: the sums are at most unreachable, so a distance below them is finite.
+  module _ (to : Target) (h : ℕ → ℕ) (same : (z : ℕ) → z < n → h z ≡ towards d to z) where
+    pub clears-avoids : (x : ℕ) → x < n → clears d q h x ≡ avoids n hops d to (q .number) x
+    unfolding clears
+    clears-avoids x i = same-test _ _ there back
+      where
+        there : clears d q h x ≡ true → avoids n hops d to (q .number) x ≡ true
+        there t =
+            let out : h x < min (d x (q .near) + q .out + h (q .far)) unreachable = search (ltb-true, and-left) in
+            let back : h x < min (d x (q .far) + q .back + h (q .near)) unreachable = search (ltb-true, and-right) in
+            let ex = same x i in
+            let es = same (q .near) near-in in
+            let ee = same (q .far) far-in in
+            avoids-make n hops d to (q .number) x (below-avoids hops d to q (known .costs) (known .named) x (record { finite = omega arith; out = omega arith; back = omega arith }))
+
+        back : avoids n hops d to (q .number) x ≡ true → clears d q h x ≡ true
+        back t =
+            let g = known .sound .falls d to in
+            let b = avoids-below hops d to q (known .costs) (known .named) x (avoids-gives n hops d to (g .0) (known .sound .within) (g .1) (q .number) x i t) in
+            let ex = same x i in
+            let es = same (q .near) near-in in
+            let ee = same (q .far) far-in in
+            let out : h x < min (d x (q .near) + q .out + h (q .far)) unreachable = omega (arith, b .finite, b .out) in
+            let back : h x < min (d x (q .far) + q .back + h (q .near)) unreachable = omega (arith, b .finite, b .back) in
+            and-make _ _ (lt-ltb _ _ out) (lt-ltb _ _ back)
+
+  pub clearsTo-avoids : (x r : ℕ) → x < n → clearsTo d q x r ≡ avoids n hops d (router r) (q .number) x
+  unfolding clearsTo
+  clearsTo-avoids x r i = clears-avoids (router r) (λ z. d z r) (λ z k. sym (towards-router d r z (known .costs .most z r))) x i
+
+  -- The answers of the two public functions, by walks.
+  pub avoiding-to : (to : Target) (h : ℕ → ℕ) → ((z : ℕ) → z < n → h z ≡ towards d to z) → avoidingTo n q area h ≡ setOf n (avoids n hops d to (q .number))
+  avoiding-to to h same = to-known can-read h refl ∙ setOf-same n _ _ (clears-avoids to h same)
+
+  pub avoiding-from : (x : ℕ) → x < n → avoidingFrom n q area x ≡ setOf n (λ r. avoids n hops d (router r) (q .number) x)
+  avoiding-from x i = from-known can-read x i refl ∙ setOf-same n _ _ (λ r k. clearsTo-avoids x r i)
