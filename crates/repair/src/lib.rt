@@ -97,8 +97,8 @@ pub fn link_repair(file: &[u8], work: &mut [u32], link: usize, end: usize) -> Re
     if !named(links, link, end) {
         return Repair::Refused(Refusal::NoSuchLink(links));
     }
-    let found = link_pair(network, link, end, work);
-    repair_answer(found)
+    let serving = link_pair(network, link, end, work);
+    repair_answer(serving)
 }
 
 // The pair that repairs the traffic to a prefix, where it may cross the link.
