@@ -24,7 +24,6 @@ use Rattle.lfa.specs.Laws.Set.{setOf-same, has-setOf, has-and}
 use Rattle.lfa.specs.Laws.Target.{towards-router, towards-most}
 use Rattle.lfa.specs.Laws.Bound.{distance-small}
 use Rattle.lfa.specs.Laws.Walk.{equation-crossing}
-use Rattle.lfa.specs.Laws.Avoid.{avoids-gives, avoids-make, avoids-below, below-avoids}
 use Rattle.lfa.specs.Laws.Pair.{firsts-give}
 use Rattle.lfa.specs.Laws.Repair.{may-gives, may-make}
 use Rattle.distance.specs.Area.{held}
