@@ -11,7 +11,7 @@ use borrow.Author.Tests.{eq-eqb, ne-eqb}
 use Rattle.lfa.specs.Lists.{firstFailing}
 use Rattle.lfa.specs.File.{Bytes, blocksIn, linksOf, prefixesOf, blocksNeeded}
 use Rattle.lfa.specs.File.{lengthGood, checkGood, headGood, blockCountGood, blockGood}
-use Rattle.lfa.specs.Refusal.{badLength, badCheck, badHead, badBlockCount, badBlock, returned, loading, decided, firstRow}
+use Rattle.lfa.specs.Refusal.{fileReturned, badLength, badCheck, badHead, badBlockCount, badBlock, decided, firstRow}
 use Rattle.lfa.specs.Laws.List.{unless-good}
 use Rattle.block.specs.First.{firstOr}
 use Rattle.block.specs.Laws.First.{answer-found, answer-none}
@@ -24,50 +24,50 @@ module _ (b : Bytes) (n links prefixes needed : ℕ) (all : n ≡ blocksIn b) (l
   follows : needed ≡ blocksNeeded (linksOf b) (prefixesOf b)
   follows = rw (l, p) at e
 
-  pub count-decides : (n ≡ needed → ⊥) → some (decided badBlockCount needed) ≡ firstRow (returned (loading b)) laterRows
-  unfolding returned loading laterRows blockCountGood
+  pub count-decides : (n ≡ needed → ⊥) → some (decided badBlockCount needed) ≡ firstRow (fileReturned b) laterRows
+  unfolding fileReturned laterRows blockCountGood
   count-decides h =
       let bad : blockCountGood b ≡ false = ne-eqb _ _ (λ f. h (all ∙ f ∙ sym follows)) in
-      first-here (returned (loading b)) badBlockCount _ needed (unless-bad _ _ bad ∙ ap some (sym follows))
+      first-here (fileReturned b) badBlockCount _ needed (unless-bad _ _ bad ∙ ap some (sym follows))
 
   module _ (h : n ≡ needed) (bad : ℕ) (found : bad ≡ firstOr n (firstFailing (blockGood b) 1 (n - 1))) where
-    count-passed : firstRow (returned (loading b)) (badBlock ∷ []) ≡ firstRow (returned (loading b)) laterRows
-    unfolding returned loading laterRows blockCountGood
-    count-passed = first-next (returned (loading b)) badBlockCount _ (unless-good _ _ (eq-eqb _ _ (sym all ∙ h ∙ follows)))
+    count-passed : firstRow (fileReturned b) (badBlock ∷ []) ≡ firstRow (fileReturned b) laterRows
+    unfolding fileReturned laterRows blockCountGood
+    count-passed = first-next (fileReturned b) badBlockCount _ (unless-good _ _ (eq-eqb _ _ (sym all ∙ h ∙ follows)))
 
-    pub block-decides : bad < n → some (decided badBlock bad) ≡ firstRow (returned (loading b)) laterRows
-    unfolding returned loading
-    block-decides k = first-here (returned (loading b)) badBlock [] bad (rw all at (answer-found (blockGood b) 1 (n - 1) n bad found k)) ∙ count-passed
+    pub block-decides : bad < n → some (decided badBlock bad) ≡ firstRow (fileReturned b) laterRows
+    unfolding fileReturned
+    block-decides k = first-here (fileReturned b) badBlock [] bad (rw all at (answer-found (blockGood b) 1 (n - 1) n bad found k)) ∙ count-passed
 
-    pub later-passed : 1 ≤ n → n ≤ bad → none ≡ firstRow (returned (loading b)) laterRows
-    unfolding returned loading firstRow
-    later-passed m k = first-next (returned (loading b)) badBlock [] (rw all at (answer-none (blockGood b) 1 (n - 1) n bad (omega arith) found k)) ∙ count-passed
+    pub later-passed : 1 ≤ n → n ≤ bad → none ≡ firstRow (fileReturned b) laterRows
+    unfolding fileReturned firstRow
+    later-passed m k = first-next (fileReturned b) badBlock [] (rw all at (answer-none (blockGood b) 1 (n - 1) n bad (omega arith) found k)) ∙ count-passed
 
 -- ---- rows 1 to 3
 
 module _ (b : Bytes) where
-  pub length-decides : lengthGood b ≡ false → some (decided badLength 0) ≡ firstRow (returned (loading b)) blockRows
-  unfolding returned loading blockRows
-  length-decides e = first-here (returned (loading b)) badLength _ 0 (unless-bad _ _ e)
+  pub length-decides : lengthGood b ≡ false → some (decided badLength 0) ≡ firstRow (fileReturned b) blockRows
+  unfolding fileReturned blockRows
+  length-decides e = first-here (fileReturned b) badLength _ 0 (unless-bad _ _ e)
 
   module _ (e : lengthGood b ≡ true) (bad : ℕ) (found : bad ≡ firstOr (length b / 512) (firstFailing (checkGood b) 0 (length b / 512))) where
-    length-passed : firstRow (returned (loading b)) (badCheck ∷ badHead ∷ laterRows) ≡ firstRow (returned (loading b)) blockRows
-    unfolding returned loading blockRows
-    length-passed = first-next (returned (loading b)) badLength _ (unless-good _ _ e)
+    length-passed : firstRow (fileReturned b) (badCheck ∷ badHead ∷ laterRows) ≡ firstRow (fileReturned b) blockRows
+    unfolding fileReturned blockRows
+    length-passed = first-next (fileReturned b) badLength _ (unless-good _ _ e)
 
-    pub check-decides : bad < length b / 512 → some (decided badCheck bad) ≡ firstRow (returned (loading b)) blockRows
-    unfolding returned loading blocksIn
-    check-decides k = first-here (returned (loading b)) badCheck _ bad (answer-found (checkGood b) 0 (length b / 512) (length b / 512) bad found k) ∙ length-passed
+    pub check-decides : bad < length b / 512 → some (decided badCheck bad) ≡ firstRow (fileReturned b) blockRows
+    unfolding fileReturned blocksIn
+    check-decides k = first-here (fileReturned b) badCheck _ bad (answer-found (checkGood b) 0 (length b / 512) (length b / 512) bad found k) ∙ length-passed
 
     module _ (k : length b / 512 ≤ bad) where
-      check-passed : firstRow (returned (loading b)) (badHead ∷ laterRows) ≡ firstRow (returned (loading b)) blockRows
-      unfolding returned loading blocksIn
-      check-passed = first-next (returned (loading b)) badCheck _ (answer-none (checkGood b) 0 (length b / 512) (length b / 512) bad (omega arith) found k) ∙ length-passed
+      check-passed : firstRow (fileReturned b) (badHead ∷ laterRows) ≡ firstRow (fileReturned b) blockRows
+      unfolding fileReturned blocksIn
+      check-passed = first-next (fileReturned b) badCheck _ (answer-none (checkGood b) 0 (length b / 512) (length b / 512) bad (omega arith) found k) ∙ length-passed
 
-      pub head-decides : headGood b ≡ false → some (decided badHead 0) ≡ firstRow (returned (loading b)) blockRows
-      unfolding returned loading
-      head-decides g = first-here (returned (loading b)) badHead _ 0 (unless-bad _ _ g) ∙ check-passed
+      pub head-decides : headGood b ≡ false → some (decided badHead 0) ≡ firstRow (fileReturned b) blockRows
+      unfolding fileReturned
+      head-decides g = first-here (fileReturned b) badHead _ 0 (unless-bad _ _ g) ∙ check-passed
 
-      pub head-passed : headGood b ≡ true → firstRow (returned (loading b)) laterRows ≡ firstRow (returned (loading b)) blockRows
-      unfolding returned loading
-      head-passed g = first-next (returned (loading b)) badHead _ (unless-good _ _ g) ∙ check-passed
+      pub head-passed : headGood b ≡ true → firstRow (fileReturned b) laterRows ≡ firstRow (fileReturned b) blockRows
+      unfolding fileReturned
+      head-passed g = first-next (fileReturned b) badHead _ (unless-good _ _ g) ∙ check-passed

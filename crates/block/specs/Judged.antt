@@ -7,19 +7,19 @@ use mathlib.Core.Option.{Option, none, some}
 use mathlib.Core.List.{List, [], _∷_}
 use lib.ListN.{length}
 use Rattle.lfa.specs.File.{Bytes, routersOf, linksOf, prefixesOf, blocksNeeded}
-use Rattle.lfa.specs.Refusal.{Row, badLength, badCheck, badHead, badBlockCount, badBlock, Decided, decided}
+use Rattle.lfa.specs.Refusal.{FileRow, badLength, badCheck, badHead, badBlockCount, badBlock, Decided, decided}
 use Rattle.block.specs.declared.Blocks.{Blocks}
 use Rattle.block.specs.declared.Blocks.the-variants.{BadLength, BadCheck, BadHead, BadBlockCount, BadBlock, Passed}
 
 -- the rows that speak of blocks, and those of them that come after the head's
-unfoldable pub laterRows : List Row
+unfoldable pub laterRows : List FileRow
 laterRows = badBlockCount ∷ badBlock ∷ []
 
-unfoldable pub blockRows : List Row
+unfoldable pub blockRows : List FileRow
 blockRows = badLength ∷ badCheck ∷ badHead ∷ laterRows
 
 -- the row that decides, with the value that it returns, for each case of the enum
-unfoldable pub blocksDecided : Blocks → Option Decided
+unfoldable pub blocksDecided : Blocks → Option (Decided FileRow)
 blocksDecided BadLength = some (decided badLength 0)
 blocksDecided (BadCheck k) = some (decided badCheck k)
 blocksDecided BadHead = some (decided badHead 0)

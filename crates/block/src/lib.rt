@@ -9,7 +9,7 @@ ghost use mathlib.Core.Path.{_≡_};
 ghost use Prim.Native.Nat.{_*_, _≤_};
 ghost use lib.ListN.{length};
 ghost use Rattle.lfa.specs.File.{blocksIn};
-ghost use Rattle.lfa.specs.Refusal.{returned, loading, firstRow};
+ghost use Rattle.lfa.specs.Refusal.{fileReturned, firstRow};
 ghost use Rattle.block.specs.Judged.{laterRows, blockRows, blocksDecided};
 
 mod check;
@@ -29,7 +29,7 @@ pub enum Blocks {
 // Rows 4 and 5, for a file of n whole blocks.
 fn judge_later(file: &[u8], n: usize) -> Blocks
     requires { ⌜ (n ≡ blocksIn (now file)) × (1 ≤ n) × (n ≤ 13) × (512 * n ≤ length (now file)) ⌝ }
-    ensures { λ r. ⌜ blocksDecided r ≡ firstRow (returned (loading (now (file .entry)))) laterRows ⌝ }
+    ensures { λ r. ⌜ blocksDecided r ≡ firstRow (fileReturned (now (file .entry))) laterRows ⌝ }
 {
     let links = word_at(file, 6) as usize;
     let prefixes = word_at(file, 8) as usize;
@@ -46,7 +46,7 @@ fn judge_later(file: &[u8], n: usize) -> Blocks
 
 // Rows 1 to 5, each over the whole file before the next.
 pub fn judge_blocks(file: &[u8]) -> Blocks
-    ensures { λ r. ⌜ blocksDecided r ≡ firstRow (returned (loading (now (file .entry)))) blockRows ⌝ }
+    ensures { λ r. ⌜ blocksDecided r ≡ firstRow (fileReturned (now (file .entry))) blockRows ⌝ }
 {
     if !length_good(file) {
         return Blocks::BadLength;

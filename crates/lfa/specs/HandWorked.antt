@@ -2,10 +2,10 @@
 -- asked through the definitions that the public contracts cite, from the bytes of its network's file.
 -- Assumes nothing.
 use Prim.Native.Nat.{ℕ, zero, suc, _+_, _^_, _≤_}
-use mathlib.Core.Path.{_≡_, refl, ap, _∙_}
-use mathlib.Core.Option.{none, some}
-use mathlib.Core.List.{List, [], _∷_, _++_}
-use borrow.Author.Tests.{le-ltb}
+use mathlib.Core.Path.{_≡_, refl}
+use mathlib.Core.Logic.{inl}
+use mathlib.Core.Option.{none}
+use mathlib.Core.List.{List, [], _∷_}
 use native.Mathlib.Omega.{arith}
 use Rattle.lfa.specs.Lists.{countUp, below, select, anyOf, everyBelow, memberOf, flat, count, firstFailing, unless, table, cell}
 use Rattle.lfa.specs.Network.{Network, Link, link, Target, at, router, arcs, arcsFrom}
@@ -13,12 +13,14 @@ use Rattle.lfa.specs.File.{byteAt, wordAt, partOf, allZero, blocksIn, bl
 use Rattle.lfa.specs.FileOf.{fileOf, blocksOf, prefixBlock, linkBlock, entriesBlock, prefixBytes, slotBytes, linkBytes, headBlock, blockBytes, pad, wordBytes}
 use Rattle.lfa.specs.Distance.{least, costOver, towards, hopCost, direct, through, stage, distances, distanceIn}
 use Rattle.lfa.specs.Walk.{isStep, leads, takers, over, overFrom, avoids, crosses}
-use Rattle.lfa.specs.Space.{Space, pSpace, extendedP, qSpace, protectedBy, protected, isFirst, firstOver, firstHops, hopRouter, inSpace, setOf, spaceOf}
-use Rattle.lfa.specs.Repair.{isEndpoint, withEndpoint, pairsOf, pairs, serves, mayCross, orElse, classOf, tunnelCost, keysOf, key, noLater, earlier, choose, pairKey, firstPair, outcomeOf, linkOutcome, prefixOutcome}
+use Rattle.lfa.specs.Space.{Protected, pSpace, extendedP, qSpace, protectedBy, protected, isFirst, firstOver, firstHops, hopRouter, inSpace, setOf, spaceOf}
+use Rattle.lfa.specs.Repair.{pair, isEndpoint, withEndpoint, pairsOf, pairs, serves, mayCross, orElse, classOf, tunnelCost, keysOf, key, noLater, earlier, choose, pairKey, firstPair, outcomeOf, linkOutcome, prefixOutcome}
 use Rattle.lfa.specs.Route.{isStepTo, nextRouters, attachedAt, delivers, movesOf, options, choiceAt, optionTaken, playTo, playOn, routeOf}
-use Rattle.lfa.specs.Laws.Rows.{NoneApply, nothing, also, passed-over, loaded-rows}
-use Rattle.lfa.specs.Laws.Asked.{area-enough, buffer-enough}
-use Rattle.lfa.specs.Refusal.{Row, noPair, noSuchLink, noSuchPrefix, shortArea, shortBuffer, Question, Answer, refused, accepted, set, repair, played, untouched, answerTo, routePlayed, loading, askSpace, askLink, askPrefix, askRoute, networkAsked, linkAsked, prefixAsked, withDistances, linkFound, prefixFound, searched, ifNone, returned, leavesAll, entryOf, fileRows, questionRows, rowsTried, firstRow, refusalOf, refusal, routeFor, repairAnswer, routeAnswer, computed}
+use Rattle.lfa.specs.Laws.Turned.{no-such-link}
+use mathlib.Core.Bool.{true}
+use Rattle.lfa.specs.Question.{Question, workArea, routeBuffer, aLink, lent, inputsOf, inputNumber, hasInput, HasInput, loading, askSpace, askLink, askPrefix, askRoute, networkAsked, linkAsked, prefixAsked, withDistances, linkFound, prefixFound, searched}
+use Rattle.lfa.specs.Refusal.{ifNone, fileReturned, returned, fileNumber, entryOf, fileRows, questionRows, allRows, tries, rowsTried, firstRow, inFile, fileRefusal, refusalOf}
+use Rattle.lfa.specs.Answer.{Answer, refused, accepted, set, repair, played, untouched, refusal, routeFor, routePlayed, repairAnswer, routeAnswer, computed, answerTo}
 
 -- ---- the networks
 
@@ -98,7 +100,7 @@ yieldedAll (w ∷ ws) = yielded w ∷ yieldedAll ws
 
 -- to unfold this is to unfold every definition that an answer rests on
 unfoldable opened : Unit {0}
-unfolding countUp below select anyOf everyBelow memberOf flat count firstFailing unless table cell router arcs arcsFrom byteAt wordAt partOf allZero blocksIn blockOf sumWords checkOf routersOf linksOf prefixesOf ceil linkBlocks prefixBlocks blocksNeeded linkEntry linkIn prefixEntry attachments slotRouter slot prefixIn linkOf prefixOf networkOf lengthGood checkGood headGood blockCountGood laterGood entriesIn soundBlock blockGood soundLink linkGood joinSame linkNew slotGood soundPrefix prefixGood slotNew routersNew fileOf blocksOf prefixBlock linkBlock entriesBlock prefixBytes slotBytes linkBytes headBlock blockBytes pad wordBytes least costOver towards hopCost direct through stage distances distanceIn isStep leads takers over overFrom avoids crosses protectedBy protected isFirst firstOver firstHops hopRouter inSpace setOf spaceOf isEndpoint withEndpoint pairsOf pairs serves mayCross orElse classOf tunnelCost keysOf key noLater earlier choose pairKey firstPair outcomeOf linkOutcome prefixOutcome isStepTo nextRouters attachedAt delivers movesOf options choiceAt optionTaken playTo playOn routeOf answerTo routePlayed loading askSpace askLink askPrefix askRoute networkAsked linkAsked prefixAsked withDistances linkFound prefixFound searched ifNone returned leavesAll entryOf fileRows questionRows rowsTried firstRow refusalOf refusal routeFor repairAnswer routeAnswer computed
+unfolding countUp below select anyOf everyBelow memberOf flat count firstFailing unless table cell router arcs arcsFrom byteAt wordAt partOf allZero blocksIn blockOf sumWords checkOf routersOf linksOf prefixesOf ceil linkBlocks prefixBlocks blocksNeeded linkEntry linkIn prefixEntry attachments slotRouter slot prefixIn linkOf prefixOf networkOf lengthGood checkGood headGood blockCountGood laterGood entriesIn soundBlock blockGood soundLink linkGood joinSame linkNew slotGood soundPrefix prefixGood slotNew routersNew fileOf blocksOf prefixBlock linkBlock entriesBlock prefixBytes slotBytes linkBytes headBlock blockBytes pad wordBytes least costOver towards hopCost direct through stage distances distanceIn isStep leads takers over overFrom avoids crosses protectedBy protected isFirst firstOver firstHops hopRouter inSpace setOf spaceOf isEndpoint withEndpoint pairsOf pairs serves mayCross orElse classOf tunnelCost keysOf key noLater earlier choose pairKey firstPair outcomeOf linkOutcome prefixOutcome isStepTo nextRouters attachedAt delivers movesOf options choiceAt optionTaken playTo playOn routeOf answerTo routePlayed loading askSpace askLink askPrefix askRoute networkAsked linkAsked prefixAsked withDistances linkFound prefixFound searched inputsOf inputNumber hasInput ifNone fileReturned returned fileNumber entryOf fileRows questionRows allRows tries rowsTried firstRow inFile fileRefusal refusalOf refusal routeFor repairAnswer routeAnswer computed
 opened = tt
 
 -- every row but the last
@@ -108,7 +110,7 @@ rows-yielded = refl
 
 -- ---- "One router alone: accepted; any link question 12, value 0."
 
-lone-loaded : refusalOf (loading (fileOf oneRouter)) ≡ none
+lone-loaded : fileRefusal (fileOf oneRouter) ≡ none
 unfolding opened oneRouter
 lone-loaded = refl
 
@@ -116,42 +118,32 @@ lone-counts : (routersOf (fileOf oneRouter) ≡ 1) × (linksOf (fileOf oneRouter
 unfolding opened oneRouter
 lone-counts = (refl, refl)
 
--- a question about the lone router: where the rows before row 12 do not apply, row 12 does
-module _ (q : Question) (about : q .file ≡ fileOf oneRouter) where
-  area-passes : 1 ≤ q .area → returned q shortArea ≡ none
-  area-passes h = area-enough q (rw (ap routersOf about ∙ lone-counts .0) (omega arith))
-
-  buffer-passes : 2 ≤ q .buffer → returned q shortBuffer ≡ none
-  buffer-passes h = buffer-enough q (rw (ap routersOf about ∙ lone-counts .0) (omega arith))
-
-  no-link : returned q noSuchLink ≡ some 0
-  unfolding returned unless
-  no-link = rw (ap linksOf about ∙ lone-counts .1) (rw (le-ltb (q .link) 0 (omega arith)))
-
-  lone-refused : {before : List Row} (after : List Row) → NoneApply (returned q) before → questionRows (q .call) ≡ before ++ noSuchLink ∷ after → answerTo q ≡ refused 12 0
-  unfolding answerTo refusal entryOf leavesAll firstRow
-  lone-refused after passed e =
-      rw (loaded-rows q (rw about lone-loaded), answerTo) (rw (e, passed-over (returned q) (noSuchLink ∷ after) passed) (rw (no-link, firstRow)))
+-- a question about the lone router: where the buffers are long enough, row 12 decides
+lone-refused : (q : Question) → q .file ≡ fileOf oneRouter → (HasInput q (lent workArea) → 1 ≤ q .area) → (HasInput q (lent routeBuffer) → 2 ≤ q .buffer) → HasInput q aLink → answerTo q ≡ refused 12 0
+lone-refused q about area buffer h =
+    let counts : (routersOf (q .file) ≡ 1) × (linksOf (q .file) ≡ 0) = rw about lone-counts in
+    rw (counts .1) at
+    (no-such-link q (rw about lone-loaded) (λ i. rw (counts .0) (omega (arith, area i))) (λ i. rw (counts .0) (omega (arith, buffer i))) h (inl (rw (counts .1) (omega arith))) .answered)
 
 -- ---- the lone theorem
 
+-- the distances of ring 5, and the question about its link 0, end 0
+unfoldable pub ring5d : ℕ → ℕ → ℕ
+ring5d = distanceIn (distances (ring 5 []))
+
+unfoldable pub ring5link : Protected
+ring5link = protected (ring 5 []) 0 0
+
 -- The definitions yield every starred row: those of the table by computing them, and those of the lone router for every link, end,
--- prefix and call, since row 12 is the first that applies where there is no link.
+-- prefix and call, since row 12 is the first that applies where there is no link. Of ring 5's link repair, hop 4 and endpoint 2, "3 ties
+-- on distance": hop 4 with endpoint 3 serves too, in the same class and at the same distance.
 pub record Yielded : Type 0 where
   pub rows : yieldedAll starred ≡ starred
-  pub lone-space : (s : Space) (area l e : ℕ) → 1 ≤ area → answerTo (askSpace s (fileOf oneRouter) area l e) ≡ refused 12 0
-  pub lone-link : (area l e : ℕ) → 1 ≤ area → answerTo (askLink (fileOf oneRouter) area l e) ≡ refused 12 0
-  pub lone-prefix : (area l e p : ℕ) → 1 ≤ area → answerTo (askPrefix (fileOf oneRouter) area l e p) ≡ refused 12 0
-  pub lone-route : (area buffer l e p : ℕ) (choices : List ℕ) → 1 ≤ area → 2 ≤ buffer → answerTo (askRoute (fileOf oneRouter) area buffer l e p choices) ≡ refused 12 0
+  pub ring-5-tie : (serves 5 (arcs (ring 5 [])) ring5d ring5link (router 1) (pair 4 1 4 3) ≡ true)
+      × (keysOf ring5d ring5link (router 1) (pair 4 1 4 3) .class ≡ keysOf ring5d ring5link (router 1) (pair 4 1 4 2) .class)
+      × (keysOf ring5d ring5link (router 1) (pair 4 1 4 3) .distance ≡ keysOf ring5d ring5link (router 1) (pair 4 1 4 2) .distance)
+  pub lone : (q : Question) → q .file ≡ fileOf oneRouter → (HasInput q (lent workArea) → 1 ≤ q .area) → (HasInput q (lent routeBuffer) → 2 ≤ q .buffer) → HasInput q aLink → answerTo q ≡ refused 12 0
 
 pub hand-worked : Yielded
-unfolding askSpace askLink askPrefix askRoute questionRows
-hand-worked = record {
-  rows = rows-yielded;
-  lone-space = λ s area l e h. let q = askSpace s (fileOf oneRouter) area l e in lone-refused q refl [] (also (area-passes q refl h) nothing) refl;
-  lone-link = λ area l e h. let q = askLink (fileOf oneRouter) area l e in lone-refused q refl (noPair ∷ []) (also (area-passes q refl h) nothing) refl;
-  lone-prefix = λ area l e p h. let q = askPrefix (fileOf oneRouter) area l e p in lone-refused q refl (noSuchPrefix ∷ noPair ∷ []) (also (area-passes q refl h) nothing) refl;
-  lone-route = λ area buffer l e p choices h k.
-      let q = askRoute (fileOf oneRouter) area buffer l e p choices in
-      lone-refused q refl (noSuchPrefix ∷ noPair ∷ []) (also (area-passes q refl h) (also (buffer-passes q refl k) nothing)) refl;
-}
+unfolding opened ringFrom ring ring5d ring5link
+hand-worked = record { rows = rows-yielded; ring-5-tie = (refl, refl, refl); lone = lone-refused }

@@ -7,7 +7,9 @@ pub mod Walk
 pub mod Space
 pub mod Repair
 pub mod Route
+pub mod Question
 pub mod Refusal
+pub mod Answer
 pub mod HandWorked
 pub mod Demands
 pub mod Laws

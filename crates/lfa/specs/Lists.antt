@@ -1,6 +1,7 @@
 -- Lists and tests that the definitions compute with.
 -- Assumes nothing.
-use Prim.Native.Nat.{ℕ, zero, suc, _+_}
+use Prim.Native.Nat.{ℕ, zero, suc, _+_, _≤_, _<_}
+use mathlib.Core.Path.{_≡_}
 use mathlib.Core.Bool.{Bool, true, false, _&&_, _||_}
 use mathlib.Core.Option.{Option, none, some}
 use mathlib.Core.List.{List, [], _∷_, _++_, map}
@@ -55,10 +56,23 @@ unfoldable pub count : (ℕ → Bool) → ℕ → ℕ
 count p zero = 0
 count p (suc n) = one (p n) + count p n
 
+-- k of the numbers below n have a property
+pub data HowMany (P : ℕ → Type 0) : ℕ → ℕ → Type 0 where
+  nothing : HowMany P 0 0
+  one-more : {n k : ℕ} → P n → HowMany P n k → HowMany P (suc n) (suc k)
+  no-more : {n k : ℕ} → (P n → ⊥) → HowMany P n k → HowMany P (suc n) k
+
 -- the first of n numbers, counting from i, at which a test fails
 unfoldable pub firstFailing : (ℕ → Bool) → ℕ → ℕ → Option ℕ
 firstFailing good i zero = none
 firstFailing good i (suc n) = elim (good i) [ true ↦ firstFailing good (suc i) n | false ↦ some i ]
+
+-- k is the first of n numbers, counting from i, at which a test fails
+pub record FirstFails (good : ℕ → Bool) (i n k : ℕ) : Type 0 where
+  pub from : i ≤ k
+  pub to : k < i + n
+  pub fails : good k ≡ false
+  pub before : (j : ℕ) → i ≤ j → j < k → good j ≡ true
 
 -- the value, unless the test passes
 unfoldable pub unless : Bool → ℕ → Option ℕ

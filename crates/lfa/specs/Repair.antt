@@ -2,6 +2,7 @@
 -- Assumes nothing.
 use Prim.Native.Nat.{ℕ, _+_, _≤_, _<_}
 use mathlib.Core.Path.{_≡_}
+use mathlib.Core.Logic.{_⊎_}
 use mathlib.Core.Bool.{Bool, true, false, not, _&&_, _||_}
 use mathlib.Core.Option.{Option, none, some}
 use mathlib.Core.List.{List, [], _∷_, map, List·Memᴰ}
@@ -102,6 +103,18 @@ pub data Precedes (a b : Keys) : Type 0 where
   by-endpoint : a .class ≡ b .class → a .distance ≡ b .distance → a .endpoint < b .endpoint → Precedes a b
   by-tunnel : a .class ≡ b .class → a .distance ≡ b .distance → a .endpoint ≡ b .endpoint → a .tunnel < b .tunnel → Precedes a b
   by-hop : a .class ≡ b .class → a .distance ≡ b .distance → a .endpoint ≡ b .endpoint → a .tunnel ≡ b .tunnel → a .hop < b .hop → Precedes a b
+
+-- the same five keys
+pub record SameKeys (a b : Keys) : Type 0 where
+  pub class : a .class ≡ b .class
+  pub distance : a .distance ≡ b .distance
+  pub endpoint : a .endpoint ≡ b .endpoint
+  pub tunnel : a .tunnel ≡ b .tunnel
+  pub hop : a .hop ≡ b .hop
+
+-- no key of b is before a: a precedes b, or the two have the same keys
+abbrev pub First : Keys → Keys → Type 0
+First a b = Precedes a b ⊎ SameKeys a b
 
 -- ---- the computation: the pair whose list of keys comes first
 

@@ -1,13 +1,14 @@
 -- "Spaces": P, extended P and Q, each as one 64-bit set.
 -- Assumes nothing.
 use Prim.Native.Nat.{ℕ, zero, suc, _+_, _*_, _/_, _%_, _^_}
+use mathlib.Core.Path.{_≡_}
 use mathlib.Core.Bool.{Bool, not, _&&_}
-use mathlib.Core.List.{List, map}
+use mathlib.Core.List.{List, map, List·Memᴰ}
 use lib.Dec.{eqb}
 use lib.ListN.{getD}
 use Rattle.lfa.specs.Lists.{anyOf, one, count, select}
 use Rattle.lfa.specs.Network.{Link, link, Arc, arc, Network, router}
-use Rattle.lfa.specs.Walk.{avoids}
+use Rattle.lfa.specs.Walk.{Avoids, avoids}
 
 -- ---- the question
 
@@ -53,8 +54,23 @@ hopRouter (first m c l) = m
 pub data Space : Type 0 where
   pSpace extendedP qSpace : Space
 
--- whether router r is in the space. P: "routers that S avoids to". Extended P: "routers that some neighbour of S other than E
+-- some neighbour of S other than E avoids to router r
+pub record NeighbourAvoids (hops : List Arc) (d : ℕ → ℕ → ℕ) (q : Protected) (r : ℕ) : Type 0 where
+  pub neighbour : ℕ
+  pub cost : ℕ
+  pub over : ℕ
+  pub joined : List·Memᴰ (arc (q .near) neighbour cost over) hops
+  pub not-far : neighbour ≡ q .far → ⊥
+  pub avoids-to : Avoids hops d (router r) (q .number) neighbour
+
+-- the members of each space, by walks. P: "routers that S avoids to". Extended P: "routers that some neighbour of S other than E
 -- avoids to". Q: "routers that avoid to E".
+abbrev pub Member : Space → List Arc → (ℕ → ℕ → ℕ) → Protected → ℕ → Type 0
+Member pSpace hops d q r = Avoids hops d (router r) (q .number) (q .near)
+Member extendedP hops d q r = NeighbourAvoids hops d q r
+Member qSpace hops d q r = Avoids hops d (router (q .far)) (q .number) r
+
+-- whether router r is in the space
 unfoldable pub inSpace : Space → ℕ → List Arc → (ℕ → ℕ → ℕ) → Protected → ℕ → Bool
 inSpace pSpace n hops d q r = avoids n hops d (router r) (q .number) (q .near)
 inSpace extendedP n hops d q r = anyOf (λ f. avoids n hops d (router r) (q .number) (hopRouter f)) (firstHops q hops)

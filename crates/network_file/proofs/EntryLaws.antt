@@ -9,7 +9,7 @@ use native.Mathlib.Omega.{arith}
 use lib.ListN.{length}
 use Rattle.lfa.specs.Lists.{firstFailing}
 use Rattle.lfa.specs.File.{Bytes, wordAt, routersOf, linksOf, prefixesOf, linkOf, linkIn, prefixOf, networkOf, linkGood, linkNew, prefixGood, routersNew, blocksNeeded}
-use Rattle.lfa.specs.Refusal.{badLink, parallelLink, badPrefix, routerTwice, returned, loading, decided, firstRow}
+use Rattle.lfa.specs.Refusal.{fileReturned, badLink, parallelLink, badPrefix, routerTwice, decided, firstRow}
 use Rattle.lfa.specs.Laws.List.{getD-in, none-failing}
 use Rattle.lfa.specs.Laws.Counting.{length-map-below}
 use Rattle.lfa.specs.Laws.Rows.{none-decides}
@@ -48,9 +48,9 @@ module _ (good : ℕ → Bool) (n m r : ℕ) (right : n ≡ m) (e : r ≡ firstO
 
 -- ---- rows 6 and 7
 module _ (b : Bytes) (links : ℕ) (right : links ≡ linksOf b) (r6 : ℕ) (e6 : r6 ≡ firstOr links (firstFailing (linkGood b) 0 links)) where
-  pub bad-link-decides : r6 < links → some (decided badLink r6) ≡ firstRow (returned (loading b)) linkRows
-  unfolding returned loading linkRows
-  bad-link-decides h = first-here (returned (loading b)) badLink _ r6 (applies (linkGood b) links _ r6 right e6 h)
+  pub bad-link-decides : r6 < links → some (decided badLink r6) ≡ firstRow (fileReturned b) linkRows
+  unfolding fileReturned linkRows
+  bad-link-decides h = first-here (fileReturned b) badLink _ r6 (applies (linkGood b) links _ r6 right e6 h)
 
   module _ (h6 : links ≤ r6) where
     -- row 6 passes, so both routers of each link are below N
@@ -60,49 +60,49 @@ module _ (b : Bytes) (links : ℕ) (right : links ≡ linksOf b) (r6 : ℕ) (e6 
         let f = link-facts _ _ _ _ _ (none-failing (linkGood b) 0 links (passes (linkGood b) links links r6 refl e6 h6) k (omega arith) (omega arith)) in
         (omega (arith, f .a-in, s .few-routers), omega (arith, f .b-in, s .few-routers))
 
-    after-6 : firstRow (returned (loading b)) (parallelLink ∷ []) ≡ firstRow (returned (loading b)) linkRows
-    unfolding returned loading linkRows
-    after-6 = first-next (returned (loading b)) badLink _ (passes (linkGood b) links _ r6 right e6 h6)
+    after-6 : firstRow (fileReturned b) (parallelLink ∷ []) ≡ firstRow (fileReturned b) linkRows
+    unfolding fileReturned linkRows
+    after-6 = first-next (fileReturned b) badLink _ (passes (linkGood b) links _ r6 right e6 h6)
 
     module _ (r7 : ℕ) (e7 : r7 ≡ firstOr links (firstFailing (linkNew b) 0 links)) where
-      pub parallel-decides : r7 < links → some (decided parallelLink r7) ≡ firstRow (returned (loading b)) linkRows
-      unfolding returned loading
-      parallel-decides h = first-here (returned (loading b)) parallelLink [] r7 (applies (linkNew b) links _ r7 right e7 h) ∙ after-6
+      pub parallel-decides : r7 < links → some (decided parallelLink r7) ≡ firstRow (fileReturned b) linkRows
+      unfolding fileReturned
+      parallel-decides h = first-here (fileReturned b) parallelLink [] r7 (applies (linkNew b) links _ r7 right e7 h) ∙ after-6
 
-      pub no-link-decides : links ≤ r7 → none ≡ firstRow (returned (loading b)) linkRows
-      unfolding returned loading firstRow
-      no-link-decides h = first-next (returned (loading b)) parallelLink [] (passes (linkNew b) links _ r7 right e7 h) ∙ after-6
+      pub no-link-decides : links ≤ r7 → none ≡ firstRow (fileReturned b) linkRows
+      unfolding fileReturned firstRow
+      no-link-decides h = first-next (fileReturned b) parallelLink [] (passes (linkNew b) links _ r7 right e7 h) ∙ after-6
 
 -- ---- rows 8 and 9
 module _ (b : Bytes) (prefixes : ℕ) (right : prefixes ≡ prefixesOf b) (r8 : ℕ) (e8 : r8 ≡ firstOr prefixes (firstFailing (prefixGood b) 0 prefixes)) where
-  pub bad-prefix-decides : r8 < prefixes → some (decided badPrefix r8) ≡ firstRow (returned (loading b)) prefixRows
-  unfolding returned loading prefixRows
-  bad-prefix-decides h = first-here (returned (loading b)) badPrefix _ r8 (applies (prefixGood b) prefixes _ r8 right e8 h)
+  pub bad-prefix-decides : r8 < prefixes → some (decided badPrefix r8) ≡ firstRow (fileReturned b) prefixRows
+  unfolding fileReturned prefixRows
+  bad-prefix-decides h = first-here (fileReturned b) badPrefix _ r8 (applies (prefixGood b) prefixes _ r8 right e8 h)
 
   module _ (h8 : prefixes ≤ r8) where
     pub sound-prefixes : PrefixesSound b prefixes
     sound-prefixes p h = none-failing (prefixGood b) 0 prefixes (passes (prefixGood b) prefixes prefixes r8 refl e8 h8) p (omega arith) (omega arith)
 
-    after-8 : firstRow (returned (loading b)) (routerTwice ∷ []) ≡ firstRow (returned (loading b)) prefixRows
-    unfolding returned loading prefixRows
-    after-8 = first-next (returned (loading b)) badPrefix _ (passes (prefixGood b) prefixes _ r8 right e8 h8)
+    after-8 : firstRow (fileReturned b) (routerTwice ∷ []) ≡ firstRow (fileReturned b) prefixRows
+    unfolding fileReturned prefixRows
+    after-8 = first-next (fileReturned b) badPrefix _ (passes (prefixGood b) prefixes _ r8 right e8 h8)
 
     module _ (r9 : ℕ) (e9 : r9 ≡ firstOr prefixes (firstFailing (routersNew b) 0 prefixes)) where
-      pub twice-decides : r9 < prefixes → some (decided routerTwice r9) ≡ firstRow (returned (loading b)) prefixRows
-      unfolding returned loading
-      twice-decides h = first-here (returned (loading b)) routerTwice [] r9 (applies (routersNew b) prefixes _ r9 right e9 h) ∙ after-8
+      pub twice-decides : r9 < prefixes → some (decided routerTwice r9) ≡ firstRow (fileReturned b) prefixRows
+      unfolding fileReturned
+      twice-decides h = first-here (fileReturned b) routerTwice [] r9 (applies (routersNew b) prefixes _ r9 right e9 h) ∙ after-8
 
-      pub no-prefix-decides : prefixes ≤ r9 → none ≡ firstRow (returned (loading b)) prefixRows
-      unfolding returned loading firstRow
-      no-prefix-decides h = first-next (returned (loading b)) routerTwice [] (passes (routersNew b) prefixes _ r9 right e9 h) ∙ after-8
+      pub no-prefix-decides : prefixes ≤ r9 → none ≡ firstRow (fileReturned b) prefixRows
+      unfolding fileReturned firstRow
+      no-prefix-decides h = first-next (fileReturned b) routerTwice [] (passes (routersNew b) prefixes _ r9 right e9 h) ∙ after-8
 
 -- ---- the network by value
 
 -- where neither of rows 8 and 9 applies, row 8 passes each prefix
-pub prefixes-sound : (b : Bytes) → firstRow (returned (loading b)) prefixRows ≡ none → PrefixesSound b (prefixesOf b)
-unfolding returned loading prefixRows
+pub prefixes-sound : (b : Bytes) → firstRow (fileReturned b) prefixRows ≡ none → PrefixesSound b (prefixesOf b)
+unfolding fileReturned prefixRows
 prefixes-sound b e p h =
-    let none-applies = none-decides (returned (loading b)) prefixRows e badPrefix (getD-in prefixRows 0 badPrefix (omega arith)) in
+    let none-applies = none-decides (fileReturned b) prefixRows e badPrefix (getD-in prefixRows 0 badPrefix (omega arith)) in
     none-failing (prefixGood b) 0 (prefixesOf b) none-applies p (omega arith) (omega arith)
 
 -- The struct that the code puts together of the columns is that of the file's network.

@@ -7,18 +7,18 @@ use mathlib.Core.List.{List, [], _∷_, _++_}
 use lib.Dec.{eqb, ltb}
 use lib.ListN.{length, getD}
 use Rattle.lfa.specs.File.{Bytes, linksOf, prefixesOf, linkBlocks, linkOf, prefixGood}
-use Rattle.lfa.specs.Refusal.{Row, badLink, parallelLink, badPrefix, routerTwice}
+use Rattle.lfa.specs.Refusal.{FileRow, badLink, parallelLink, badPrefix, routerTwice}
 use Rattle.block.specs.Judged.{Sized}
 use Rattle.network_file.specs.Struct.{fromOf, toOf}
 
 -- the rows that speak of links, then those that speak of prefixes, which are tried after those of blocks
-unfoldable pub linkRows : List Row
+unfoldable pub linkRows : List FileRow
 linkRows = badLink ∷ parallelLink ∷ []
 
-unfoldable pub prefixRows : List Row
+unfoldable pub prefixRows : List FileRow
 prefixRows = badPrefix ∷ routerTwice ∷ []
 
-unfoldable pub entryRows : List Row
+unfoldable pub entryRows : List FileRow
 entryRows = linkRows ++ prefixRows
 
 -- ---- what is known when rows 6 to 9 are tried

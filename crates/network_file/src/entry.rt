@@ -12,7 +12,7 @@ use field::word_at;
 ghost use mathlib.Core.Path.{_≡_};
 ghost use mathlib.Core.Option.{none};
 ghost use Rattle.lfa.specs.File.{routersOf, networkOf};
-ghost use Rattle.lfa.specs.Refusal.{returned, loading, firstRow};
+ghost use Rattle.lfa.specs.Refusal.{fileReturned, firstRow};
 ghost use Rattle.block.specs.Judged.{Sized};
 ghost use Rattle.network_file.specs.Struct.{structOf};
 ghost use Rattle.network_file.specs.Entry.{linkRows, prefixRows, Counted};
@@ -21,7 +21,7 @@ ghost use Rattle.network_file.specs.Load.{verdictDecided};
 // Rows 6 and 7, the rows of links, each over the whole file before the next, for a file that rows 1 to 5 pass.
 pub(crate) fn judge_links(file: &[u8]) -> Verdict
     requires { ⌜ Sized (now file) ⌝ }
-    ensures { λ r. ⌜ verdictDecided r ≡ firstRow (returned (loading (now (file .entry)))) linkRows ⌝ }
+    ensures { λ r. ⌜ verdictDecided r ≡ firstRow (fileReturned (now (file .entry))) linkRows ⌝ }
 {
     let routers = file[4] as usize;
     let links = word_at(file, 6) as usize;
@@ -39,7 +39,7 @@ pub(crate) fn judge_links(file: &[u8]) -> Verdict
 // Rows 8 and 9, the rows of prefixes, in the same way.
 pub(crate) fn judge_prefixes(file: &[u8]) -> Verdict
     requires { ⌜ Sized (now file) ⌝ }
-    ensures { λ r. ⌜ verdictDecided r ≡ firstRow (returned (loading (now (file .entry)))) prefixRows ⌝ }
+    ensures { λ r. ⌜ verdictDecided r ≡ firstRow (fileReturned (now (file .entry))) prefixRows ⌝ }
 {
     let routers = file[4] as usize;
     let links = word_at(file, 6) as usize;
@@ -57,7 +57,7 @@ pub(crate) fn judge_prefixes(file: &[u8]) -> Verdict
 
 // The network of a file that rows 1 to 9 pass. An attachment is stored only here, after its count has been tested.
 pub(crate) fn network_of(file: &[u8], routers: usize, links: usize, prefixes: usize) -> Network
-    requires { ⌜ Counted (now file) links prefixes × (routers ≡ routersOf (now file)) × (firstRow (returned (loading (now file))) prefixRows ≡ none) ⌝ }
+    requires { ⌜ Counted (now file) links prefixes × (routers ≡ routersOf (now file)) × (firstRow (fileReturned (now file)) prefixRows ≡ none) ⌝ }
     ensures { λ r. ⌜ r ≡ structOf (networkOf (now (file .entry))) ⌝ }
 {
     let ends = fill_links(file, links);

@@ -13,7 +13,9 @@ use prefix::prefix_part;
 ghost use mathlib.Core.Path.{_≡_};
 ghost use mathlib.Core.Bool.{false};
 ghost use mathlib.Core.Option.{some};
-ghost use Rattle.lfa.specs.Refusal.{returned, loading, firstRow, refusalOf, answerTo, networkLoaded, linkPart, prefixPart};
+ghost use Rattle.lfa.specs.Question.{loading};
+ghost use Rattle.lfa.specs.Refusal.{fileReturned, fileRefusal, firstRow};
+ghost use Rattle.lfa.specs.Answer.{answerTo, networkLoaded, linkPart, prefixPart};
 ghost use Rattle.block.specs.Judged.{blocksDecided, Sized};
 ghost use Rattle.network_file.specs.Struct.{structOf};
 ghost use Rattle.network_file.specs.Entry.{entryRows};
@@ -76,7 +78,7 @@ fn is_accepted(verdict: Verdict) -> bool
 // Rows 6 to 9, for a file that rows 1 to 5 pass.
 fn judge_entries(file: &[u8]) -> Verdict
     requires { ⌜ Sized (now file) ⌝ }
-    ensures { λ r. ⌜ verdictDecided r ≡ firstRow (returned (loading (now (file .entry)))) entryRows ⌝ }
+    ensures { λ r. ⌜ verdictDecided r ≡ firstRow (fileReturned (now (file .entry))) entryRows ⌝ }
 {
     let verdict = judge_links(file);
     if is_accepted(verdict) {
@@ -87,7 +89,7 @@ fn judge_entries(file: &[u8]) -> Verdict
 
 // Judges a file. Rows 6 to 9 are tried only where rows 1 to 5 pass.
 fn judge(file: &[u8]) -> Verdict
-    ensures { λ r. ⌜ verdictDecided r ≡ refusalOf (loading (now (file .entry))) ⌝ }
+    ensures { λ r. ⌜ verdictDecided r ≡ fileRefusal (now (file .entry)) ⌝ }
 {
     let blocks = judge_blocks(file);
     match blocks {
@@ -98,7 +100,7 @@ fn judge(file: &[u8]) -> Verdict
 
 // The network of an accepted file, and for any other the one with nothing in it.
 fn network_if(accepted: bool, file: &[u8]) -> Network
-    requires { ⌜ accepted ≡ undecided (refusalOf (loading (now file))) ⌝ }
+    requires { ⌜ accepted ≡ undecided (fileRefusal (now file)) ⌝ }
     ensures { λ r. ⌜ r ≡ structOf (networkLoaded (now (file .entry))) ⌝ }
 {
     if !accepted {

@@ -1,7 +1,7 @@
 -- What the calls answer, as numbers for programs in other languages: one struct for every answer, and one for a network.
 -- Assumes nothing.
 use Prim.Native.Nat.{ℕ}
-use Rattle.lfa.specs.Refusal.{Answer, refused, accepted, done, untouched, unreached, set, repair, played}
+use Rattle.lfa.specs.Answer.{Answer, refused, accepted, done, untouched, unreached, set, repair, played}
 use Rattle.network_file.specs.declared.network.Network as file
 use Rattle.planner.specs.declared.answer.Numbers.{Numbers}
 use Rattle.planner.specs.declared.LoadedNetwork.{LoadedNetwork}

@@ -9,7 +9,7 @@ use repair::Repair;
 use repair::SpaceAnswer;
 use route::Played;
 ghost use mathlib.Core.Path.{_≡_};
-ghost use Rattle.lfa.specs.Refusal.{refused};
+ghost use Rattle.lfa.specs.Answer.{refused};
 ghost use Rattle.network_file.specs.Load.{answerOf};
 ghost use Rattle.repair.specs.Answer.{refusalAnswer, filledAnswer, spaceAnswer, repairOf};
 ghost use Rattle.route.specs.Answer.{playedOf};

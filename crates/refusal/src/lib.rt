@@ -2,7 +2,7 @@
 use network_file::Fault;
 use repair::Refusal;
 ghost use mathlib.Core.Path.{_≡_};
-ghost use Rattle.lfa.specs.Refusal.{refused};
+ghost use Rattle.lfa.specs.Answer.{refused};
 ghost use Rattle.network_file.specs.Load.{faultOf};
 ghost use Rattle.repair.specs.Answer.{refusalAnswer};
 

@@ -1,6 +1,7 @@
 -- What the calls of the repair part answer, in document 01's numbers and words.
 -- Assumes nothing.
-use Rattle.lfa.specs.Refusal.{shortArea, shortBuffer, noSuchLink, noSuchPrefix, noPair, decided, Answer, done, untouched, unreached, set, repair, refusal}
+use Rattle.lfa.specs.Refusal.{shortArea, shortBuffer, noSuchLink, noSuchPrefix, noPair, decided}
+use Rattle.lfa.specs.Answer.{Answer, done, untouched, unreached, set, repair, refusal}
 use Rattle.network_file.specs.Load.{faultOf}
 use Rattle.repair.specs.declared.Refusal.{Refusal}
 use Rattle.repair.specs.declared.Refusal.the-variants.{File, ShortArea, ShortBuffer, NoSuchLink, NoSuchPrefix, NoPair}

@@ -2,9 +2,9 @@
 -- Assumes nothing.
 use Prim.Native.Nat.{ℕ, _*_, _≤_}
 use mathlib.Core.Path.{_≡_}
-use mathlib.Core.List.{List, _∷_}
 use Rattle.lfa.specs.File.{Bytes, networkOf}
-use Rattle.lfa.specs.Refusal.{Question, Row, shortArea, questionRows, Accepted}
+use Rattle.lfa.specs.Question.{Question, workArea, lent, HasInput}
+use Rattle.lfa.specs.Refusal.{Accepted}
 use Rattle.lfa.specs.Laws.Turned.{TurnedAway}
 use Rattle.network_file.specs.declared.network.Network.{Network}
 use Rattle.network_file.specs.Struct.{structOf}
@@ -12,12 +12,11 @@ use Rattle.repair.specs.declared.question.Turned.{Turned}
 use Rattle.repair.specs.declared.question.Turned.the-variants.{Refused, Ready}
 use Rattle.repair.specs.Answer.{refusalAnswer}
 
--- a question about the file, with a work area of that many cells, whose call tries row 10 first of its own rows
+-- a question about the file, with a work area of that many cells
 pub record About (b : Bytes) (area : ℕ) (q : Question) : Type 0 where
   pub file-is : q .file ≡ b
   pub area-is : q .area ≡ area
-  pub later : List Row
-  pub rows-are : questionRows (q .call) ≡ shortArea ∷ later
+  pub has-area : HasInput q (lent workArea)
 
 -- an accepted file, and its network by value
 pub record Taken (b : Bytes) (network : Network) : Type 0 where

@@ -4,7 +4,7 @@ use crate::Refusal;
 use crate::Repair;
 use search::Found;
 ghost use mathlib.Core.Path.{_≡_};
-ghost use Rattle.lfa.specs.Refusal.{repairAnswer};
+ghost use Rattle.lfa.specs.Answer.{repairAnswer};
 ghost use Rattle.repair.specs.Answer.{repairOf};
 ghost use Rattle.search.specs.Choice.{outcomeIn};
 

@@ -13,7 +13,8 @@ use search::space_in;
 ghost use mathlib.Core.Path.{_≡_};
 ghost use lib.ListN.{length};
 ghost use Rattle.lfa.specs.Space.{pSpace, extendedP, qSpace, sizeOf};
-ghost use Rattle.lfa.specs.Refusal.{filling, askSpace, askLink, askPrefix, answerTo, workAfter};
+ghost use Rattle.lfa.specs.Question.{filling, askSpace, askLink, askPrefix};
+ghost use Rattle.lfa.specs.Answer.{answerTo, workAfter};
 ghost use Rattle.search.specs.Spaces.{spaceNamed};
 ghost use Rattle.repair.specs.Answer.{filledAnswer, repairOf, spaceAnswer};
 

@@ -1,6 +1,6 @@
 -- What a route call answers, in document 01's words, and the answers of the prefix repair that it passes on.
 -- Assumes nothing.
-use Rattle.lfa.specs.Refusal.{Answer, untouched, unreached, played}
+use Rattle.lfa.specs.Answer.{Answer, untouched, unreached, played}
 use Rattle.repair.specs.Answer.{refusalAnswer}
 use Rattle.repair.specs.declared.Repair.{Repair}
 use Rattle.repair.specs.declared.Repair.the-variants as repair

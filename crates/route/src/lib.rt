@@ -9,7 +9,8 @@ ghost use mathlib.Core.Path.{_≡_};
 ghost use mathlib.Core.List.{List};
 ghost use Prim.Native.Nat.{ℕ, _<_};
 ghost use lib.ListN.{length};
-ghost use Rattle.lfa.specs.Refusal.{askRoute, answerTo, workAfter, routeAfter};
+ghost use Rattle.lfa.specs.Question.{askRoute};
+ghost use Rattle.lfa.specs.Answer.{answerTo, workAfter, routeAfter};
 ghost use Rattle.search.specs.Spaces.{protectedIn};
 ghost use Rattle.route.specs.Answer.{playedOf, passedOn};
 

@@ -12,7 +12,7 @@ use lib.ListN.{getD, length}
 use borrow.Author.Tests.{leb-true, eqb-true, eqb-false, not-true}
 use Rattle.lfa.specs.File.{Bytes, blocksIn, linksOf, prefixesOf, linkBlocks, prefixBlocks, blocksNeeded}
 use Rattle.lfa.specs.File.{lengthGood}
-use Rattle.lfa.specs.Refusal.{Row, badLength, badHead, badBlockCount, returned, loading, firstRow}
+use Rattle.lfa.specs.Refusal.{fileReturned, FileRow, badLength, badHead, badBlockCount, firstRow}
 use Rattle.lfa.specs.Laws.Test.{and-left, and-right}
 use Rattle.lfa.specs.Laws.List.{getD-in, unless-none}
 use Rattle.lfa.specs.Laws.Rows.{none-decides}
@@ -44,12 +44,12 @@ unfolding blockRows laterRows
 row-in k h = getD-in blockRows k badLength h
 
 -- Row 1 gives whole blocks, row 3 the limits, row 4 that the blocks are those needed.
-pub blocks-passed : (b : Bytes) → firstRow (returned (loading b)) blockRows ≡ none → Sized b
-unfolding returned loading blockRows laterRows blocksNeeded
+pub blocks-passed : (b : Bytes) → firstRow (fileReturned b) blockRows ≡ none → Sized b
+unfolding fileReturned blockRows laterRows blocksNeeded
 blocks-passed b e = go (head-facts b (unless-none _ _ (passes badHead (row-in 2 (omega arith)))))
   where
-    passes : (r : Row) → List·Memᴰ r blockRows → returned (loading b) r ≡ none
-    passes = none-decides (returned (loading b)) blockRows e
+    passes : (r : FileRow) → List·Memᴰ r blockRows → fileReturned b r ≡ none
+    passes = none-decides (fileReturned b) blockRows e
 
     go : HeadFacts b → Sized b
     go f =

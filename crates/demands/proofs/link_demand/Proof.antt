@@ -1,5 +1,5 @@
 -- Assumes nothing.
-use Rattle.demands.specs.Demand.{link-meets}
+use Rattle.demands.specs.Demand.{answer-meets}
 use borrow.Author.Needs.{needs}
 use Rattle.demands.proofs.link_demand.Statement.{statement}
 use Rattle.demands.proofs.link_demand.Tie as tie
@@ -11,7 +11,7 @@ same-length : tie.Need-same-length
 same-length c = search needs
 
 returns : tie.Need-returns
-returns c = (link-meets _ _ _ _ _ (c .before .before .link-repair .ensures .0), c .before .before .link-repair .ensures .0, c .before .before .link-repair .ensures .1)
+returns c = (answer-meets _ _ (c .before .before .link-repair .ensures .0), c .before .before .link-repair .ensures .0, c .before .before .link-repair .ensures .1)
 
 pub link-demand-spec : {M : Type 1} → statement M
 link-demand-spec = tie.close (tie.spec link-repair-requires same-length returns)

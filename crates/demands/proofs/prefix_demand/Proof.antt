@@ -1,5 +1,5 @@
 -- Assumes nothing.
-use Rattle.demands.specs.Demand.{prefix-meets}
+use Rattle.demands.specs.Demand.{answer-meets}
 use borrow.Author.Needs.{needs}
 use Rattle.demands.proofs.prefix_demand.Statement.{statement}
 use Rattle.demands.proofs.prefix_demand.Tie as tie
@@ -11,7 +11,7 @@ same-length : tie.Need-same-length
 same-length c = search needs
 
 returns : tie.Need-returns
-returns c = (prefix-meets _ _ _ _ _ _ (c .before .before .prefix-repair .ensures .0), c .before .before .prefix-repair .ensures .0, c .before .before .prefix-repair .ensures .1)
+returns c = (answer-meets _ _ (c .before .before .prefix-repair .ensures .0), c .before .before .prefix-repair .ensures .0, c .before .before .prefix-repair .ensures .1)
 
 pub prefix-demand-spec : {M : Type 1} → statement M
 prefix-demand-spec = tie.close (tie.spec prefix-repair-requires same-length returns)

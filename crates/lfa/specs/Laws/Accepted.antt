@@ -13,12 +13,13 @@ use Rattle.lfa.specs.File.{Bytes, byteAt, linksOf, prefixesOf, linkEntry
 use Rattle.lfa.specs.FileOf.{fileOf, linkBytes, prefixBytes, WithinLimits}
 use Rattle.lfa.specs.Distance.{LeastCosts, distances, distanceIn}
 use Rattle.lfa.specs.Space.{protected}
-use Rattle.lfa.specs.Refusal.{loading, Decided, refusalOf, Accepted, networkLoaded, partIf, linkPart, prefixPart}
+use Rattle.lfa.specs.Refusal.{FileRow, Decided, fileRefusal, Accepted}
+use Rattle.lfa.specs.Answer.{networkLoaded, partIf, linkPart, prefixPart}
 use Rattle.lfa.specs.Laws.List.{getD-in}
 use Rattle.lfa.specs.Laws.Bound.{Sound, Capped}
 use Rattle.lfa.specs.Laws.Avoid.{Named}
 use Rattle.lfa.specs.Laws.Network.{limits-links, limits-sound, limits-distances, limits-named}
-use Rattle.lfa.specs.Laws.Rows.{accepted-load, accepted-passes, passes-accepted}
+use Rattle.lfa.specs.Laws.Rows.{accepted-passes-rows, accepted-passes, passes-accepted}
 use Rattle.lfa.specs.Laws.File.Passes.{AreBytes}
 use Rattle.lfa.specs.Laws.File.Within.{links-length, prefixes-length, passes-within}
 use Rattle.lfa.specs.Laws.File.ReadBack.{passes-written}
@@ -34,7 +35,7 @@ written-accepted net h = passes-accepted (fileOf net) (written-bytes net h) (wri
 -- .. and reading it gives the network back.
 pub written-loaded : (net : Network) → WithinLimits net → networkLoaded (fileOf net) ≡ net
 unfolding networkLoaded
-written-loaded net h = rw (accepted-load (fileOf net) (written-accepted net h), networkLoaded) (written-network net h)
+written-loaded net h = rw (accepted-passes-rows (fileOf net) (written-accepted net h), networkLoaded) (written-network net h)
 
 module _ (b : Bytes) (a : Accepted b) where
   bytes : AreBytes b
@@ -45,9 +46,9 @@ module _ (b : Bytes) (a : Accepted b) where
   pub accepted-written : fileOf (networkOf b) ≡ b
   accepted-written = passes-written b bytes (accepted-passes b a)
 
-  pub accepted-loaded : networkLoaded b ≡ networkOf b
+  pub accepted-passes-rowsed : networkLoaded b ≡ networkOf b
   unfolding networkLoaded
-  accepted-loaded = rw (accepted-load b a, networkLoaded)
+  accepted-passes-rowsed = rw (accepted-passes-rows b a, networkLoaded)
 
   -- ---- the network of an accepted file
 
@@ -81,29 +82,29 @@ unfolding linkPart partIf
 link-part b a k h =
     let small : k < linksOf b = rw (link-count b a) at h in
     let back = link-entry-back (networkOf b) (accepted-limits b a) k h in
-    rw (accepted-load b a, lt-ltb k (linksOf b) small) (rw (accepted-written b a) at back)
+    rw (accepted-passes-rows b a, lt-ltb k (linksOf b) small) (rw (accepted-written b a) at back)
 
 pub prefix-part : (b : Bytes) → Accepted b → (k : ℕ) → k < length (networkOf b .prefixes) → prefixPart b k ≡ prefixBytes (getD (networkOf b .prefixes) k [])
 unfolding prefixPart partIf
 prefix-part b a k h =
     let small : k < prefixesOf b = rw (prefix-count b a) at h in
     let back = prefix-entry-back (networkOf b) (accepted-limits b a) k h in
-    rw (accepted-load b a, lt-ltb k (prefixesOf b) small) (rw (accepted-written b a) at back)
+    rw (accepted-passes-rows b a, lt-ltb k (prefixesOf b) small) (rw (accepted-written b a) at back)
 
 -- .. and for a refused file or a number too large there are none.
-pub no-part : (b : Bytes) (d : Decided) (k : ℕ) → refusalOf (loading b) ≡ some d → (linkPart b k ≡ []) × (prefixPart b k ≡ [])
+pub no-part : (b : Bytes) (d : Decided FileRow) (k : ℕ) → fileRefusal b ≡ some d → (linkPart b k ≡ []) × (prefixPart b k ≡ [])
 unfolding linkPart prefixPart partIf
 no-part b d k e = (rw e, rw e)
 
-part-beyond : (o : Option Decided) (part : Bytes) → partIf o false part ≡ []
+part-beyond : (o : Option (Decided FileRow)) (part : Bytes) → partIf o false part ≡ []
 unfolding partIf
 part-beyond none part = refl
 part-beyond (some d) part = refl
 
 pub no-link-part : (b : Bytes) (k : ℕ) → linksOf b ≤ k → linkPart b k ≡ []
 unfolding linkPart
-no-link-part b k h = rw (le-ltb k (linksOf b) h) (part-beyond (refusalOf (loading b)) (linkEntry b k))
+no-link-part b k h = rw (le-ltb k (linksOf b) h) (part-beyond (fileRefusal b) (linkEntry b k))
 
 pub no-prefix-part : (b : Bytes) (k : ℕ) → prefixesOf b ≤ k → prefixPart b k ≡ []
 unfolding prefixPart
-no-prefix-part b k h = rw (le-ltb k (prefixesOf b) h) (part-beyond (refusalOf (loading b)) (prefixEntry b k))
+no-prefix-part b k h = rw (le-ltb k (prefixesOf b) h) (part-beyond (fileRefusal b) (prefixEntry b k))

@@ -1,39 +1,37 @@
--- Every answer is the table's: the first row that applies is the refusal given, nothing else is refused, and each buffer is left as
--- the table says. Nothing is asked of the question.
+-- Every answer is the table's: the row that decides is the refusal given, nothing else is refused, and each buffer is left as the
+-- table says. Nothing is asked of the question.
 -- Assumes nothing.
 use Prim.Native.Nat.{ℕ}
 use mathlib.Core.Path.{_≡_, refl, ap, _∙_}
+use mathlib.Core.Bool.{true}
 use mathlib.Core.Option.{Option, none, some}
-use mathlib.Core.List.{List, _++_, List·Memᴰ, List·Memᴰ·head, List·Memᴰ·tail, Memᴰ·append-right}
+use mathlib.Core.List.{List, List·Memᴰ}
 use native.Mathlib.Omega.{arith}
-use lib.ListN.{length, drop}
-use Rattle.lfa.specs.Distance.{filled}
+use lib.ListN.{length}
+use Rattle.lfa.specs.Lists.{memberOf, anyOf}
 use Rattle.lfa.specs.Repair.{Outcome, prefixUnreachable, prefixUntouched, noneServes, chosen}
-use Rattle.lfa.specs.Refusal.{Call, load, fill, linkRepair, prefixRepair, route, space, Question, networkAsked, linkFound, prefixFound, searched, ifNone, Row, noPair, returned, entryOf, fileRows, questionRows, rowsTried, Decided, decided, refusalOf, Answer, refused, refusal, routePlayed, repairAnswer, routeAnswer, computed, answerTo, leave, exitOf, workAfter, routeAfter}
-use Rattle.lfa.specs.Laws.Rows.{Decides, none-decides, none-applies, first-decides, decides-first}
+use Rattle.lfa.specs.Question.{Question, Call, load, fill, space, linkRepair, prefixRepair, route, Buffer, searching, inputsOf, inputNumber, hasInput, linkFound, prefixFound, searched}
+use Rattle.lfa.specs.Refusal.{Row, noPair, Applies, ifNone, returned, entryOf, rowsTried, Decides, Decided, decided, refusalOf}
+use Rattle.lfa.specs.Answer.{Answer, refused, refusal, repairAnswer, routeAnswer, routePlayed, computed, answerTo, writtenTo, leave, exitBy, exitOf}
+use Rattle.lfa.specs.Laws.Rows.{none-decides, none-applies, tried-rows}
+use Rattle.lfa.specs.Laws.Causes.{returns-none, decides-found, found-decides}
 
 -- ---- the row that decides
 
-module _ (q : Question) (r : Row) (v : ℕ) where
-  decides-refusal : Decides (returned q) (rowsTried (q .call)) r v → refusalOf q ≡ some (decided r v)
-  unfolding refusalOf
-  decides-refusal f = rw (f .tried) (decides-first (returned q) (f .before) (f .after) r v (f .passed) (f .applies))
-
-  pub refusal-given : Decides (returned q) (rowsTried (q .call)) r v → answerTo q ≡ refused (entryOf r .number) v
+module _ (q : Question) (r : Row) (v : ℕ) (f : Decides q r v) where
+  pub refusal-given : answerTo q ≡ refused (entryOf r .number) v
   unfolding answerTo refusal
-  refusal-given f = rw (decides-refusal f, answerTo)
+  refusal-given = rw (decides-found q r v f, answerTo)
 
-  pub row-leaves : Decides (returned q) (rowsTried (q .call)) r v → (area buffer : List ℕ) →
-      (workAfter q area ≡ leave (entryOf r .work) area (filled (networkAsked q) area)) × (routeAfter q buffer ≡ leave (entryOf r .buffer) buffer (routePlayed q ++ drop (length (routePlayed q)) buffer))
-  unfolding workAfter routeAfter exitOf
-  row-leaves f area buffer = (rw (decides-refusal f), rw (decides-refusal f))
+  pub row-leaves : (x : Buffer) (before : List ℕ) → exitOf q x before ≡ leave (entryOf r .left x) before (writtenTo q x before)
+  unfolding exitOf exitBy
+  row-leaves x before = rw (decides-found q r v f)
 
 -- ---- no row applies
 
-pub no-row-leaves : (q : Question) → ((r : Row) → List·Memᴰ r (rowsTried (q .call)) → returned q r ≡ none) → (area buffer : List ℕ) →
-    (workAfter q area ≡ filled (networkAsked q) area) × (routeAfter q buffer ≡ routePlayed q ++ drop (length (routePlayed q)) buffer)
-unfolding workAfter routeAfter exitOf refusalOf
-no-row-leaves q h area buffer = let e = none-applies (returned q) (rowsTried (q .call)) h in (rw e, rw e)
+pub no-row-leaves : (q : Question) → ((r : Row) (v : ℕ) → List·Memᴰ r (rowsTried (q .call)) → Applies q r v → ⊥) → (x : Buffer) (before : List ℕ) → exitOf q x before ≡ writtenTo q x before
+unfolding exitOf exitBy refusalOf
+no-row-leaves q h x before = rw (none-applies (returned q) (rowsTried (q .call)) (λ r m. returns-none q r (λ v. h r v m)))
 
 -- ---- nothing else is refused
 
@@ -52,40 +50,49 @@ route-refused prefixUntouched count k v e = cc
 route-refused noneServes count k v e = refl
 route-refused (chosen n y class cost) count k v e = cc
 
+-- a call that searches tries row 14
+pub searches : (q : Question) (c : Call) (o : Outcome) → searched q c ≡ some o → hasInput c searching ≡ true
+unfolding searched hasInput inputsOf inputNumber memberOf anyOf
+searches q load o e = cc
+searches q fill o e = cc
+searches q (space s) o e = cc
+searches q linkRepair o e = refl
+searches q prefixRepair o e = refl
+searches q route o e = refl
+
 -- a call that nothing turns away does not answer with a refusal
 not-refused : (q : Question) (k v : ℕ) → refusalOf q ≡ none → computed q (q .call) ≡ refused k v → ⊥
-unfolding computed refusalOf rowsTried questionRows returned searched ifNone
+unfolding computed refusalOf returned searched ifNone entryOf
 not-refused q k v r e = go (q .call) refl e
   where
     clash : {A : Type 0} → returned q noPair ≡ none → returned q noPair ≡ some 0 → A
     clash a b = absurd (let z : _≡_ {A = ℕ} 0 1 = cc in omega arith)
 
-    tried : (c : Call) → q .call ≡ c → List·Memᴰ noPair (questionRows c) → returned q noPair ≡ none
-    tried c p m = none-decides (returned q) (rowsTried (q .call)) r noPair (rw p (Memᴰ·append-right fileRows m))
+    tries-last : {c : Call} → q .call ≡ c → hasInput c searching ≡ true → hasInput (q .call) (entryOf noPair .input) ≡ true
+    tries-last p h = ap (λ c. hasInput c searching) p ∙ h
 
-    applies : (c : Call) (o : Outcome) → q .call ≡ c → searched q c ≡ some o → o ≡ noneServes → returned q noPair ≡ some 0
-    applies c o p s n = ap (λ c. ifNone (searched q c) 0) p ∙ ap (λ s. ifNone s 0) s ∙ ap (λ o. ifNone (some o) 0) n
+    -- where the search finds none, row 14 applies
+    served : (c : Call) (o : Outcome) → q .call ≡ c → searched q c ≡ some o → o ≡ noneServes → ⊥
+    served c o p s n =
+        clash (none-decides (returned q) (rowsTried (q .call)) r noPair (tried-rows (q .call) noPair .1 (tries-last p (searches q c o s))))
+        (ap (λ c. ifNone (searched q c) 0) p ∙ ap (λ s. ifNone s 0) s ∙ ap (λ o. ifNone (some o) 0) n)
 
     go : (c : Call) → q .call ≡ c → computed q c ≡ refused k v → ⊥
     go load p e = let z : _≡_ {A = ℕ} 0 1 = cc in omega arith
     go fill p e = let z : _≡_ {A = ℕ} 0 1 = cc in omega arith
     go (space s) p e = let z : _≡_ {A = ℕ} 0 1 = cc in omega arith
-    go linkRepair p e = clash (tried linkRepair p (List·Memᴰ·tail (List·Memᴰ·tail (List·Memᴰ·head refl)))) (applies linkRepair (linkFound q) p refl (repair-refused (linkFound q) k v e))
-    go prefixRepair p e =
-        clash (tried prefixRepair p (List·Memᴰ·tail (List·Memᴰ·tail (List·Memᴰ·tail (List·Memᴰ·head refl)))))
-        (applies prefixRepair (prefixFound q) p refl (repair-refused (prefixFound q) k v e))
-    go route p e =
-        clash (tried route p (List·Memᴰ·tail (List·Memᴰ·tail (List·Memᴰ·tail (List·Memᴰ·tail (List·Memᴰ·head refl))))))
-        (applies route (prefixFound q) p refl (route-refused (prefixFound q) (length (routePlayed q)) k v e))
+    go linkRepair p e = served linkRepair (linkFound q) p refl (repair-refused (linkFound q) k v e)
+    go prefixRepair p e = served prefixRepair (prefixFound q) p refl (repair-refused (prefixFound q) k v e)
+    go route p e = served route (prefixFound q) p refl (route-refused (prefixFound q) (length (routePlayed q)) k v e)
 
-pub refusal-stated : (q : Question) (k v : ℕ) → answerTo q ≡ refused k v → (r : Row) × (entryOf r .number ≡ k) × Decides (returned q) (rowsTried (q .call)) r v
-unfolding answerTo refusal refusalOf
+pub refusal-stated : (q : Question) (k v : ℕ) → answerTo q ≡ refused k v → (r : Row) × (entryOf r .number ≡ k) × Decides q r v
+unfolding answerTo refusal
 refusal-stated q k v e = go (refusalOf q) refl e
   where
-    go : (o : Option Decided) → refusalOf q ≡ o → _≡_ {A = Answer} (elim o as (λ _. Answer) [ some r ↦ refusal r | none ↦ computed q (q .call) ]) (refused k v) →
-        (r : Row) × (entryOf r .number ≡ k) × Decides (returned q) (rowsTried (q .call)) r v
+    go : (o : Option (Decided Row)) → refusalOf q ≡ o → _≡_ {A = Answer} (elim o as (λ _. Answer) [ some r ↦ refusal r | none ↦ computed q (q .call) ]) (refused k v) →
+        (r : Row) × (entryOf r .number ≡ k) × Decides q r v
     go none p e = absurd (not-refused q k v p e)
     go (some (decided r w)) p e =
         let k-is : entryOf r .number ≡ k = cc in
         let w-is : w ≡ v = cc in
-        (r, k-is, first-decides (returned q) (rowsTried (q .call)) r v (rw w-is at p))
+        (r, k-is, found-decides q r v (rw w-is at p))

@@ -1,198 +1,127 @@
--- Questions about an accepted file, with buffers long enough and numbers in range: which rows are left, what is answered, and what
--- the buffers hold at exit.
+-- Questions that no row before 14 turns away: each is answered with what its call computes, the work area holds the distances, and the
+-- route buffer the route.
 -- Assumes nothing.
-use Prim.Native.Nat.{ℕ, _*_, _≤_, _<_}
-use mathlib.Core.Path.{_≡_, refl, sym, ap, _∙_}
-use mathlib.Core.Option.{none, some}
+use Prim.Native.Nat.{ℕ, _<_}
+use mathlib.Core.Path.{_≡_, refl, sym, _∙_, subst}
+use mathlib.Core.Option.{Option, none, some}
 use mathlib.Core.List.{List, [], _∷_, _++_}
 use native.Mathlib.Omega.{arith}
-use lib.ListN.{getD, length, drop}
-use borrow.Author.Tests.{le-leb, lt-ltb}
-use Rattle.lfa.specs.Network.{arcs}
-use Rattle.lfa.specs.File.{Bytes, routersOf, linksOf, prefixesOf, networkOf}
-use Rattle.lfa.specs.Distance.{distances, distanceIn, filled}
-use Rattle.lfa.specs.Space.{Space, protected, spaceOf}
-use Rattle.lfa.specs.Repair.{Outcome, prefixUnreachable, prefixUntouched, noneServes, chosen, linkOutcome, prefixOutcome}
-use Rattle.lfa.specs.Route.{routeOf}
-use Rattle.lfa.specs.Refusal.{Question, filling, askSpace, askLink, askPrefix, askRoute, networkAsked, linkAsked, prefixAsked, withDistances, linkFound, prefixFound, searched, ifNone, shortArea, shortBuffer, noSuchLink, noSuchPrefix, noPair, returned, entryOf, questionRows, decided, firstRow, refusalOf, Accepted, done, set, repair, played, refusal, routeFor, routePlayed, repairAnswer, routeAnswer, computed, answerTo, leave, exitOf, workAfter, routeAfter}
-use Rattle.lfa.specs.Laws.Test.{and-make}
-use Rattle.lfa.specs.Laws.List.{unless-good}
-use Rattle.lfa.specs.Laws.Rows.{accepted-rows}
+use lib.ListN.{length, drop}
+use lib.Dec.{ltb, leb}
+use borrow.Author.Tests.{ltb-true, leb-true}
+use Rattle.lfa.specs.Lists.{select}
+use Rattle.lfa.specs.File.{byteAt, linksOf, networkOf}
+use Rattle.lfa.specs.Distance.{filled}
+use Rattle.lfa.specs.Repair.{Outcome, prefixUnreachable, prefixUntouched, noneServes, chosen}
+use Rattle.lfa.specs.Question.{Question, Call, load, fill, space, linkRepair, prefixRepair, route, HasInput, networkAsked, linkFound, prefixFound, searched}
+use Rattle.lfa.specs.Refusal.{FileRow, Row, shortArea, shortBuffer, noSuchLink, noSuchPrefix, noPair, leavesRoute, entryOf, questionRows, tries, rowsTried, Decided, decided, firstRow, ifNone, returned, fileRefusal, refusalOf, Accepted, Posed}
+use Rattle.lfa.specs.Answer.{refused, repair, refusal, repairAnswer, routeAnswer, routeFor, routePlayed, computed, answerTo, writtenTo, leave, exitBy, exitOf, workAfter, routeAfter}
+use Rattle.lfa.specs.Laws.Rows.{NoneApply, nothing, also, none-decides, passed-over, refused-file, loaded-rows, tried-rows, accepted-passes-rows, load-accepted}
+use Rattle.lfa.specs.Laws.Test.{and-left, and-right}
+use Rattle.lfa.specs.Laws.List.{unless-none}
+use Rattle.lfa.specs.Laws.Answers.{searches}
+use Rattle.lfa.specs.Laws.Passed.{area-passes, buffer-passes, link-passes, prefix-passes}
+use Rattle.lfa.specs.Laws.Accepted.{link-count, prefix-count}
 
--- ---- rows that do not apply
+-- ---- the rows
 
-module _ (q : Question) where
-  pub area-enough : routersOf (q .file) * routersOf (q .file) ≤ q .area → returned q shortArea ≡ none
-  unfolding returned
-  area-enough h = unless-good _ (routersOf (q .file) * routersOf (q .file)) (le-leb _ _ h)
+module _ (q : Question) (p : Posed q) where
+  none-before : NoneApply (returned q) (tries (q .call)) (shortArea ∷ shortBuffer ∷ noSuchLink ∷ noSuchPrefix ∷ [])
+  unfolding networkAsked networkOf
+  none-before =
+      also (area-passes q (λ h. p .area h))
+      (also (buffer-passes q (λ h. p .buffer h))
+      (also (link-passes q (λ h. (rw (link-count (q .file) (p .file)) at (p .link h), p .end h)))
+      (also (prefix-passes q (λ h. rw (prefix-count (q .file) (p .file)) at (p .prefix h))) nothing)))
 
-  pub buffer-enough : 2 * routersOf (q .file) ≤ q .buffer → returned q shortBuffer ≡ none
-  unfolding returned
-  buffer-enough h = unless-good _ (2 * routersOf (q .file)) (le-leb _ _ h)
+  -- only row 14 is left
+  only-last : refusalOf q ≡ firstRow (returned q) (select (tries (q .call)) (noPair ∷ []))
+  unfolding questionRows
+  only-last = loaded-rows q (accepted-passes-rows (q .file) (p .file)) ∙ passed-over (returned q) (tries (q .call)) (noPair ∷ []) none-before
 
-  pub link-named : q .link < linksOf (q .file) → q .end ≤ 1 → returned q noSuchLink ≡ none
-  unfolding returned
-  link-named h e = unless-good _ (linksOf (q .file)) (and-make _ _ (lt-ltb _ _ h) (le-leb _ _ e))
+-- the row applies exactly where the search finds no pair
+pub data Searched (q : Question) : Type 0 where
+  none-serves : searched q (q .call) ≡ some noneServes → refusalOf q ≡ some (decided noPair 0) → Searched q
+  not-refused : (searched q (q .call) ≡ some noneServes → ⊥) → refusalOf q ≡ none → Searched q
 
-  pub prefix-named : q .prefix < prefixesOf (q .file) → returned q noSuchPrefix ≡ none
-  unfolding returned
-  prefix-named h = unless-good _ (prefixesOf (q .file)) (lt-ltb _ _ h)
-
--- ---- the last row: no pair
-
--- what is left to decide once rows 1 to 13 do not apply
-abbrev pub OnlyNoPair : Question → Type 0
-OnlyNoPair q = refusalOf q ≡ firstRow (returned q) (noPair ∷ [])
-
--- the row applies exactly where no pair serves
-pub data Searched (q : Question) (o : Outcome) : Type 0 where
-  none-serves : o ≡ noneServes → refusalOf q ≡ some (decided noPair 0) → Searched q o
-  decided-none : (o ≡ noneServes → ⊥) → refusalOf q ≡ none → Searched q o
-
-distinct : {A : Type 0} {n y class cost : ℕ} → chosen n y class cost ≡ noneServes → A
-distinct e = absurd (let z : _≡_ {A = ℕ} 0 1 = cc in omega arith)
-
-pub searched-row : (q : Question) (o : Outcome) → searched q (q .call) ≡ some o → OnlyNoPair q → Searched q o
-unfolding firstRow returned ifNone
-searched-row q o e h = go o (ap (λ s. ifNone s 0) e)
+pub last-row : (q : Question) → Posed q → Searched q
+unfolding returned ifNone firstRow select tries entryOf
+last-row q p = go (searched q (q .call)) refl
   where
-    go : (o : Outcome) → returned q noPair ≡ ifNone (some o) 0 → Searched q o
-    go prefixUnreachable p = decided-none (λ s. absurd (let z : _≡_ {A = ℕ} 0 1 = cc in omega arith)) (h ∙ rw (p, firstRow))
-    go prefixUntouched p = decided-none (λ s. absurd (let z : _≡_ {A = ℕ} 0 1 = cc in omega arith)) (h ∙ rw (p, firstRow))
-    go noneServes p = none-serves refl (h ∙ rw (p, firstRow))
-    go (chosen n y class cost) p = decided-none (λ s. distinct s) (h ∙ rw (p, firstRow))
+    other : (searched q (q .call) ≡ some noneServes → ⊥) → ifNone (searched q (q .call)) 0 ≡ none → Searched q
+    other n e = not-refused n (only-last q p ∙ passed-over (returned q) (tries (q .call)) [] (also {r = noPair} {rows = []} (λ h. e) nothing))
+
+    go : (o : Option Outcome) → searched q (q .call) ≡ o → Searched q
+    go none s = other (λ t. let e = sym s ∙ t in absurd (let z : _≡_ {A = ℕ} 0 1 = cc in omega arith)) (rw s)
+    go (some prefixUnreachable) s = other (λ t. let e = sym s ∙ t in absurd (let z : _≡_ {A = ℕ} 0 1 = cc in omega arith)) (rw s)
+    go (some prefixUntouched) s = other (λ t. let e = sym s ∙ t in absurd (let z : _≡_ {A = ℕ} 0 1 = cc in omega arith)) (rw s)
+    go (some noneServes) s = none-serves s (only-last q p ∙ rw (searches q (q .call) noneServes s) (rw (s, firstRow)))
+    go (some (chosen n y class cost)) s = other (λ t. let e = sym s ∙ t in absurd (let z : _≡_ {A = ℕ} 0 1 = cc in omega arith)) (rw s)
+
+-- Conversely, where nothing turns a question away, no row before 14 applies.
+pub passed-posed : (q : Question) → ((i : ℕ) → byteAt (q .file) i < 256) → refusalOf q ≡ none → Posed q
+unfolding refusalOf entryOf returned networkAsked networkOf
+passed-posed q bytes e = record {
+  file = accepted;
+  area = λ h. leb-true _ _ (unless-none _ _ (passes shortArea h));
+  buffer = λ h. leb-true _ _ (unless-none _ _ (passes shortBuffer h));
+  link = λ h. rw (link-count (q .file) accepted) (ltb-true _ _ (and-left _ (leb (q .end) 1) (unless-none _ _ (passes noSuchLink h))));
+  end = λ h. leb-true _ _ (and-right (ltb (q .link) (linksOf (q .file))) _ (unless-none _ _ (passes noSuchLink h)));
+  prefix = λ h. rw (prefix-count (q .file) accepted) (ltb-true _ _ (unless-none _ _ (passes noSuchPrefix h)));
+}
+  where
+    passes : (r : Row) → HasInput q (entryOf r .input) → returned q r ≡ none
+    passes r h = none-decides (returned q) (rowsTried (q .call)) e r (tried-rows (q .call) r .1 h)
+
+    file : (o : Option (Decided FileRow)) → fileRefusal (q .file) ≡ o → fileRefusal (q .file) ≡ none
+    file none p = p
+    file (some d) p = absurd (let c = sym e ∙ refused-file q d p in let z : _≡_ {A = ℕ} 0 1 = cc in omega arith)
+
+    accepted : Accepted (q .file)
+    accepted = load-accepted (q .file) bytes (file (fileRefusal (q .file)) refl)
 
 -- ---- the answers
 
--- a repair call answers what its search finds, 14 among it
-module _ (q : Question) (o : Outcome) where
-  repair-answered : Searched q o → computed q (q .call) ≡ repairAnswer o → answerTo q ≡ repairAnswer o
-  unfolding answerTo refusal repairAnswer entryOf
-  repair-answered (none-serves p r) c = rw (r, answerTo) (sym (ap repairAnswer p))
-  repair-answered (decided-none n r) c = rw (r, answerTo) c
+-- where no pair serves, the call computes refusal 14
+computes-none : (q : Question) (c : Call) → searched q c ≡ some noneServes → computed q c ≡ refused (entryOf noPair .number) 0
+unfolding searched computed repairAnswer routeAnswer
+computes-none q load e = cc
+computes-none q fill e = cc
+computes-none q (space s) e = cc
+computes-none q linkRepair e = let f : linkFound q ≡ noneServes = cc in rw f
+computes-none q prefixRepair e = let f : prefixFound q ≡ noneServes = cc in rw f
+computes-none q route e = let f : prefixFound q ≡ noneServes = cc in rw f
 
-  route-answered : Searched q o → computed q (q .call) ≡ routeAnswer o (length (routePlayed q)) → answerTo q ≡ routeAnswer o (length (routePlayed q))
-  unfolding answerTo refusal routeAnswer entryOf
-  route-answered (none-serves p r) c = rw (r, answerTo) (sym (ap (λ o. routeAnswer o (length (routePlayed q))) p))
-  route-answered (decided-none n r) c = rw (r, answerTo) c
+module _ (q : Question) (p : Posed q) where
+  -- Such a question is answered with what its call computes, 14 among it.
+  pub posed-answer : answerTo q ≡ computed q (q .call)
+  unfolding answerTo refusal
+  posed-answer = go (last-row q p)
+    where
+      go : Searched q → answerTo q ≡ computed q (q .call)
+      go (none-serves s r) = rw (r, answerTo) (sym (computes-none q (q .call) s))
+      go (not-refused s r) = rw (r, answerTo)
 
-  -- a call that searches leaves the distances in the work area, whatever it finds
-  pub search-fills : Searched q o → (area : List ℕ) → workAfter q area ≡ filled (networkAsked q) area
-  unfolding workAfter exitOf entryOf leave
-  search-fills (none-serves p r) area = rw r
-  search-fills (decided-none n r) area = rw r
+  -- The work area holds the distances, whatever is found.
+  pub posed-work : (area : List ℕ) → workAfter q area ≡ filled (networkAsked q) area
+  unfolding workAfter exitOf exitBy writtenTo entryOf leavesRoute leave
+  posed-work area = go (last-row q p)
+    where
+      go : Searched q → workAfter q area ≡ filled (networkAsked q) area
+      go (none-serves s r) = rw r
+      go (not-refused s r) = rw r
 
--- ---- the questions of each call
+  -- The route buffer holds the routers of the route, of which there are none where there is no pair.
+  pub posed-route : q .call ≡ route → (buffer : List ℕ) → routeAfter q buffer ≡ routePlayed q ++ drop (length (routePlayed q)) buffer
+  unfolding routeAfter exitOf exitBy writtenTo entryOf leavesRoute leave routePlayed routeFor searched
+  posed-route c buffer = go (last-row q p)
+    where
+      found : searched q (q .call) ≡ some noneServes → prefixFound q ≡ noneServes
+      found s = let t : searched q route ≡ some noneServes = subst (λ (d : Call). searched q d ≡ some noneServes) c s in cc
 
-module _ (b : Bytes) (accepted : Accepted b) (area : ℕ) (enough : routersOf b * routersOf b ≤ area) where
-  pub fill-passes : refusalOf (filling b area) ≡ none
-  unfolding filling questionRows firstRow
-  fill-passes = accepted-rows (filling b area) accepted ∙ rw (area-enough (filling b area) enough, firstRow)
-
-  pub fill-answer : answerTo (filling b area) ≡ done
-  unfolding answerTo computed filling
-  fill-answer = rw (fill-passes, answerTo)
-
-  pub fill-work : (w : List ℕ) → workAfter (filling b area) w ≡ filled (networkOf b) w
-  unfolding workAfter exitOf networkAsked filling
-  fill-work w = rw fill-passes
-
-  module _ (l e : ℕ) (hl : l < linksOf b) (he : e ≤ 1) where
-    pub space-passes : (s : Space) → refusalOf (askSpace s b area l e) ≡ none
-    unfolding askSpace questionRows firstRow
-    space-passes s =
-        accepted-rows (askSpace s b area l e) accepted
-        ∙ rw (area-enough (askSpace s b area l e) enough, firstRow) (rw (link-named (askSpace s b area l e) hl he, firstRow))
-
-    pub space-answer : (s : Space) →
-        answerTo (askSpace s b area l e) ≡ set (spaceOf s (networkOf b .routers) (arcs (networkOf b)) (distanceIn (distances (networkOf b))) (protected (networkOf b) l e))
-    unfolding answerTo computed askSpace networkAsked linkAsked withDistances
-    space-answer s = rw (space-passes s, answerTo)
-
-    pub space-work : (s : Space) (w : List ℕ) → workAfter (askSpace s b area l e) w ≡ filled (networkOf b) w
-    unfolding workAfter exitOf networkAsked askSpace
-    space-work s w = rw (space-passes s)
-
-    -- what the link repair finds
-    abbrev pub LinkOutcome : Outcome
-    LinkOutcome = linkOutcome (networkOf b .routers) (arcs (networkOf b)) (distanceIn (distances (networkOf b))) (protected (networkOf b) l e)
-
-    link-left : OnlyNoPair (askLink b area l e)
-    unfolding askLink questionRows firstRow
-    link-left =
-        accepted-rows (askLink b area l e) accepted
-        ∙ rw (area-enough (askLink b area l e) enough, firstRow) (rw (link-named (askLink b area l e) hl he, firstRow))
-
-    pub link-searched : Searched (askLink b area l e) LinkOutcome
-    unfolding askLink searched linkFound networkAsked linkAsked withDistances
-    link-searched = searched-row (askLink b area l e) LinkOutcome refl link-left
-
-    pub link-answer : answerTo (askLink b area l e) ≡ repairAnswer LinkOutcome
-    unfolding askLink computed linkFound networkAsked linkAsked withDistances
-    link-answer = repair-answered (askLink b area l e) LinkOutcome link-searched refl
-
-    module _ (p : ℕ) (hp : p < prefixesOf b) where
-      -- what the prefix repair finds
-      abbrev pub PrefixOutcome : Outcome
-      PrefixOutcome =
-          prefixOutcome (networkOf b .routers) (arcs (networkOf b)) (distanceIn (distances (networkOf b))) (protected (networkOf b) l e) (getD (networkOf b .prefixes) p [])
-
-      prefix-left : OnlyNoPair (askPrefix b area l e p)
-      unfolding askPrefix questionRows firstRow
-      prefix-left =
-          accepted-rows (askPrefix b area l e p) accepted
-          ∙ rw (area-enough (askPrefix b area l e p) enough, firstRow)
-          (rw (link-named (askPrefix b area l e p) hl he, firstRow) (rw (prefix-named (askPrefix b area l e p) hp, firstRow)))
-
-      pub prefix-searched : Searched (askPrefix b area l e p) PrefixOutcome
-      unfolding askPrefix searched prefixFound networkAsked linkAsked prefixAsked withDistances
-      prefix-searched = searched-row (askPrefix b area l e p) PrefixOutcome refl prefix-left
-
-      pub prefix-answer : answerTo (askPrefix b area l e p) ≡ repairAnswer PrefixOutcome
-      unfolding askPrefix computed prefixFound networkAsked linkAsked prefixAsked withDistances
-      prefix-answer = repair-answered (askPrefix b area l e p) PrefixOutcome prefix-searched refl
-
-      module _ (buffer : ℕ) (long : 2 * routersOf b ≤ buffer) (choices : List ℕ) where
-        route-left : OnlyNoPair (askRoute b area buffer l e p choices)
-        unfolding askRoute questionRows firstRow
-        route-left =
-            let q = askRoute b area buffer l e p choices in
-            accepted-rows (askRoute b area buffer l e p choices) accepted
-            ∙ rw (area-enough (askRoute b area buffer l e p choices) enough, firstRow)
-            (rw (buffer-enough (askRoute b area buffer l e p choices) long, firstRow)
-            (rw (link-named (askRoute b area buffer l e p choices) hl he, firstRow) (rw (prefix-named (askRoute b area buffer l e p choices) hp, firstRow))))
-
-        pub route-searched : Searched (askRoute b area buffer l e p choices) PrefixOutcome
-        unfolding askRoute searched prefixFound networkAsked linkAsked prefixAsked withDistances
-        route-searched = searched-row (askRoute b area buffer l e p choices) PrefixOutcome refl route-left
-
-        pub route-answer : answerTo (askRoute b area buffer l e p choices) ≡ routeAnswer PrefixOutcome (length (routePlayed (askRoute b area buffer l e p choices)))
-        unfolding askRoute computed prefixFound networkAsked linkAsked prefixAsked withDistances
-        route-answer = route-answered (askRoute b area buffer l e p choices) PrefixOutcome route-searched refl
-
-        module _ (n y class cost : ℕ) (found : PrefixOutcome ≡ chosen n y class cost) where
-          -- the route of the pair that was found
-          abbrev pub RouteFound : List ℕ
-          RouteFound = routeOf (networkOf b .routers) (arcs (networkOf b)) (distanceIn (distances (networkOf b))) (getD (networkOf b .prefixes) p []) choices (protected (networkOf b) l e .near) n y
-
-          route-passes : refusalOf (askRoute b area buffer l e p choices) ≡ none
-          route-passes = go route-searched
-            where
-              go : Searched (askRoute b area buffer l e p choices) PrefixOutcome → refusalOf (askRoute b area buffer l e p choices) ≡ none
-              go (none-serves o r) = distinct (sym found ∙ o)
-              go (decided-none o r) = r
-
-          route-is : routePlayed (askRoute b area buffer l e p choices) ≡ RouteFound
-          unfolding askRoute routePlayed routeFor prefixFound networkAsked linkAsked prefixAsked withDistances
-          route-is = ap (routeFor (askRoute b area buffer l e p choices)) found
-
-          pub route-count : answerTo (askRoute b area buffer l e p choices) ≡ played (length RouteFound)
-          unfolding routeAnswer
-          route-count = route-answer ∙ rw (found, route-is)
-
-          pub route-written : (lent : List ℕ) → routeAfter (askRoute b area buffer l e p choices) lent ≡ RouteFound ++ drop (length RouteFound) lent
-          unfolding routeAfter exitOf
-          route-written lent = rw (route-passes, route-is)
+      go : Searched q → routeAfter q buffer ≡ routePlayed q ++ drop (length (routePlayed q)) buffer
+      go (none-serves s r) = rw (r) (rw (found s))
+      go (not-refused s r) = rw r
 
 -- a repair is answered exactly where a pair was chosen
 pub answer-chosen : (o : Outcome) (n y class cost : ℕ) → repairAnswer o ≡ repair n y class cost → o ≡ chosen n y class cost

@@ -1,38 +1,22 @@
--- Each row of the table in words: when it applies, and what it returns. The rows stand in the order of their numbers.
+-- Each row of the table is computed as its words say, and the row that is found is the one that decides.
 -- Assumes nothing.
 use Prim.Native.Nat.{ℕ, _-_, _*_, _%_, _≤_, _<_}
 use mathlib.Core.Path.{_≡_, refl}
 use mathlib.Core.Logic.{_⊎_, inl, inr, _↔_}
 use mathlib.Core.Bool.{Bool, true, false, not, _&&_}
 use mathlib.Core.Option.{Option, none, some}
-use mathlib.Core.List.{List, [], _∷_}
 use native.Mathlib.Omega.{arith}
 use lib.Dec.{eqb, ltb, leb}
 use lib.ListN.{length}
 use borrow.Author.Tests.{ltb-false, le-ltb, leb-false, lt-leb, eqb-true, eqb-false, eq-eqb, ne-eqb}
-use Rattle.lfa.specs.Lists.{unless, firstFailing}
-use Rattle.lfa.specs.File.{routersOf, linksOf, prefixesOf, blocksIn, blocksNeeded, lengthGood, checkGood, headGood, blockCountGood, blockGood, linkGood, linkNew, prefixGood, routersNew}
+use Rattle.lfa.specs.Lists.{unless, firstFailing, FirstFails}
+use Rattle.lfa.specs.File.{Bytes, routersOf, linksOf, prefixesOf, blocksIn, blocksNeeded, lengthGood, checkGood, headGood, blockCountGood, blockGood, linkGood, linkNew, prefixGood, routersNew}
 use Rattle.lfa.specs.Repair.{Outcome, prefixUnreachable, prefixUntouched, noneServes, chosen}
-use Rattle.lfa.specs.Refusal.{Call, load, fill, linkRepair, prefixRepair, route, space, Question, searched, ifNone, Row, badLength, badCheck, badHead, badBlockCount, badBlock, badLink, parallelLink, badPrefix, routerTwice, shortArea, shortBuffer, noSuchLink, noSuchPrefix, noPair, returned, entryOf, leavesAll, fileRows, questionRows, rowsTried}
+use Rattle.lfa.specs.Question.{Question, searched}
+use Rattle.lfa.specs.Refusal.{FileRow, badLength, badCheck, badHead, badBlockCount, badBlock, badLink, parallelLink, badPrefix, routerTwice, FileApplies, fileReturned, Row, ofFile, shortArea, shortBuffer, noSuchLink, noSuchPrefix, noPair, Applies, ifNone, returned, rowsTried, Decides, decided, refusalOf}
 use Rattle.lfa.specs.Laws.Test.{and-fails, fails-left, fails-right, not-fails}
-use Rattle.lfa.specs.Laws.List.{FirstFails, first-failing, failing-first}
-
--- row r applies to the question and returns v: Cause and Returned of the table
-abbrev pub Applies : Question → Row → ℕ → Type 0
-Applies q badLength v = ((length (q .file) ≡ 0) ⊎ ((length (q .file) % 512 ≡ 0 → ⊥) ⊎ (6656 < length (q .file)))) × (v ≡ 0)
-Applies q badCheck v = FirstFails (checkGood (q .file)) 0 (blocksIn (q .file)) v
-Applies q badHead v = (headGood (q .file) ≡ false) × (v ≡ 0)
-Applies q badBlockCount v = (blocksIn (q .file) ≡ blocksNeeded (linksOf (q .file)) (prefixesOf (q .file)) → ⊥) × (v ≡ blocksNeeded (linksOf (q .file)) (prefixesOf (q .file)))
-Applies q badBlock v = FirstFails (blockGood (q .file)) 1 (blocksIn (q .file) - 1) v
-Applies q badLink v = FirstFails (linkGood (q .file)) 0 (linksOf (q .file)) v
-Applies q parallelLink v = FirstFails (linkNew (q .file)) 0 (linksOf (q .file)) v
-Applies q badPrefix v = FirstFails (prefixGood (q .file)) 0 (prefixesOf (q .file)) v
-Applies q routerTwice v = FirstFails (routersNew (q .file)) 0 (prefixesOf (q .file)) v
-Applies q shortArea v = (q .area < routersOf (q .file) * routersOf (q .file)) × (v ≡ routersOf (q .file) * routersOf (q .file))
-Applies q shortBuffer v = (q .buffer < 2 * routersOf (q .file)) × (v ≡ 2 * routersOf (q .file))
-Applies q noSuchLink v = ((linksOf (q .file) ≤ q .link) ⊎ (1 < q .end)) × (v ≡ linksOf (q .file))
-Applies q noSuchPrefix v = (prefixesOf (q .file) ≤ q .prefix) × (v ≡ prefixesOf (q .file))
-Applies q noPair v = (searched q (q .call) ≡ some noneServes) × (v ≡ 0)
+use Rattle.lfa.specs.Laws.List.{first-failing, failing-first}
+use Rattle.lfa.specs.Laws.Rows.{FirstFound, first-found, found-first}
 
 -- ---- tests
 
@@ -77,7 +61,7 @@ fails-length n (inl e) = fails-left (not (eqb n 0) && eqb (n % 512) 0) (leb n 66
 fails-length n (inr (inl h)) = fails-left (not (eqb n 0) && eqb (n % 512) 0) (leb n 6656) (fails-right (not (eqb n 0)) (eqb (n % 512) 0) (ne-eqb (n % 512) 0 h))
 fails-length n (inr (inr h)) = fails-right (not (eqb n 0) && eqb (n % 512) 0) (leb n 6656) (lt-leb n 6656 h)
 
-link-fails : (l e links : ℕ) → (ltb l links && leb e 1) ≡ false → (links ≤ l) ⊎ (1 < e)
+pub link-fails : (l e links : ℕ) → (ltb l links && leb e 1) ≡ false → (links ≤ l) ⊎ (1 < e)
 link-fails l e links h = go (and-fails (ltb l links) (leb e 1) h)
   where
     go : (ltb l links ≡ false) ⊎ (leb e 1 ≡ false) → (links ≤ l) ⊎ (1 < e)
@@ -91,36 +75,56 @@ fails-link l e links (inr h) = fails-right (ltb l links) (leb e 1) (lt-leb e 1 h
 -- ---- the rows
 
 -- What is returned is the table's: each row applies in just its cause, with the value that the table states.
+pub file-row-applies : (b : Bytes) (r : FileRow) (v : ℕ) → (fileReturned b r ≡ some v) ↔ FileApplies b r v
+unfolding fileReturned lengthGood blockCountGood
+file-row-applies b badLength v = tested (lengthGood b) 0 v (length-fails (length b)) (fails-length (length b))
+file-row-applies b badCheck v = tested-each (checkGood b) 0 (blocksIn b) v
+file-row-applies b badHead v = tested (headGood b) 0 v (λ e. e) (λ e. e)
+file-row-applies b badBlockCount v = tested (eqb (blocksIn b) (blocksNeeded (linksOf b) (prefixesOf b))) _ v (λ e. eqb-false _ _ e) (λ h. ne-eqb _ _ h)
+file-row-applies b badBlock v = tested-each (blockGood b) 1 (blocksIn b - 1) v
+file-row-applies b badLink v = tested-each (linkGood b) 0 (linksOf b) v
+file-row-applies b parallelLink v = tested-each (linkNew b) 0 (linksOf b) v
+file-row-applies b badPrefix v = tested-each (prefixGood b) 0 (prefixesOf b) v
+file-row-applies b routerTwice v = tested-each (routersNew b) 0 (prefixesOf b) v
+
 pub row-applies : (q : Question) (r : Row) (v : ℕ) → (returned q r ≡ some v) ↔ Applies q r v
-unfolding returned lengthGood blockCountGood
-row-applies q badLength v = tested (lengthGood (q .file)) 0 v (length-fails (length (q .file))) (fails-length (length (q .file)))
-row-applies q badCheck v = tested-each (checkGood (q .file)) 0 (blocksIn (q .file)) v
-row-applies q badHead v = tested (headGood (q .file)) 0 v (λ e. e) (λ e. e)
-row-applies q badBlockCount v = tested (eqb (blocksIn (q .file)) (blocksNeeded (linksOf (q .file)) (prefixesOf (q .file)))) _ v (λ e. eqb-false _ _ e) (λ h. ne-eqb _ _ h)
-row-applies q badBlock v = tested-each (blockGood (q .file)) 1 (blocksIn (q .file) - 1) v
-row-applies q badLink v = tested-each (linkGood (q .file)) 0 (linksOf (q .file)) v
-row-applies q parallelLink v = tested-each (linkNew (q .file)) 0 (linksOf (q .file)) v
-row-applies q badPrefix v = tested-each (prefixGood (q .file)) 0 (prefixesOf (q .file)) v
-row-applies q routerTwice v = tested-each (routersNew (q .file)) 0 (prefixesOf (q .file)) v
+unfolding returned
+row-applies q (ofFile r) v = file-row-applies (q .file) r v
 row-applies q shortArea v = tested (leb (routersOf (q .file) * routersOf (q .file)) (q .area)) _ v (λ e. leb-false _ _ e) (λ h. lt-leb _ _ h)
 row-applies q shortBuffer v = tested (leb (2 * routersOf (q .file)) (q .buffer)) _ v (λ e. leb-false _ _ e) (λ h. lt-leb _ _ h)
 row-applies q noSuchLink v = tested (ltb (q .link) (linksOf (q .file)) && leb (q .end) 1) _ v (link-fails (q .link) (q .end) (linksOf (q .file))) (fails-link (q .link) (q .end) (linksOf (q .file)))
 row-applies q noSuchPrefix v = tested (ltb (q .prefix) (prefixesOf (q .file))) _ v (λ e. ltb-false _ _ e) (λ h. le-ltb _ _ h)
 row-applies q noPair v = none-found (searched q (q .call)) v
 
--- ---- the order
+-- ---- the row that decides
 
--- every number after x is greater, and so on along the list
-abbrev pub Rising : ℕ → List Row → Type 0
-Rising k [] = Unit {0}
-Rising k (r ∷ rows) = (k < entryOf r .number) × Rising (entryOf r .number) rows
+module _ (q : Question) where
+  -- a row that does not apply returns nothing
+  pub returns-none : (r : Row) → ((v : ℕ) → Applies q r v → ⊥) → returned q r ≡ none
+  returns-none r h = go (returned q r) refl
+    where
+      go : (o : Option ℕ) → returned q r ≡ o → returned q r ≡ none
+      go none p = p
+      go (some v) p = absurd (h v (row-applies q r v .0 p))
 
--- Every call tries its rows in the order of their numbers: "Each row is tried over the whole file before the next".
-pub rows-rise : (c : Call) → Rising 0 (rowsTried c)
-unfolding rowsTried fileRows questionRows entryOf leavesAll
-rows-rise load = omega arith
-rows-rise fill = omega arith
-rows-rise (space s) = omega arith
-rows-rise linkRepair = omega arith
-rows-rise prefixRepair = omega arith
-rows-rise route = omega arith
+  pub never-applies : (r : Row) (v : ℕ) → returned q r ≡ none → Applies q r v → ⊥
+  never-applies r v e a = let s = row-applies q r v .1 a in let z : _≡_ {A = ℕ} 0 1 = cc in omega arith
+
+  -- The row that decides is found, and the row that is found decides.
+  pub decides-found : (r : Row) (v : ℕ) → Decides q r v → refusalOf q ≡ some (decided r v)
+  unfolding refusalOf
+  decides-found r v f =
+      rw (f .tried) (found-first (returned q) (f .before) (f .after) r v (λ s m. returns-none s (λ w. f .passed s w m)) (row-applies q r v .1 (f .applies)))
+
+  pub found-decides : (r : Row) (v : ℕ) → refusalOf q ≡ some (decided r v) → Decides q r v
+  unfolding refusalOf
+  found-decides r v e = by (first-found (returned q) (rowsTried (q .call)) r v e)
+    where
+      by : FirstFound (returned q) (rowsTried (q .call)) r v → Decides q r v
+      by f = record {
+        before = f .before;
+        after = f .after;
+        tried = f .tried;
+        passed = λ s w m. never-applies s w (f .passed s m);
+        applies = row-applies q r v .0 (f .applies);
+      }

@@ -13,7 +13,7 @@ use lib.Dec.{eqb}
 use lib.ListN.{getD, length}
 use borrow.Author.Tests.{eqb-true, eqb-false, eq-eqb}
 use Rattle.lfa.specs.Laws.Test.{and-left, and-right, and-make, or-cases, or-left, or-right, decide}
-use Rattle.lfa.specs.Lists.{countUp, below, select, keepIf, anyOf, everyBelow, memberOf, flat, firstFailing, unless}
+use Rattle.lfa.specs.Lists.{countUp, below, select, keepIf, anyOf, everyBelow, memberOf, flat, firstFailing, FirstFails, unless}
 
 -- ---- some element passes a test
 
@@ -174,13 +174,6 @@ pub all-passing : (good : ℕ → Bool) (i n : ℕ) → ((k : ℕ) → i ≤ k �
 unfolding firstFailing
 all-passing good i zero h = refl
 all-passing good i (suc n) h = rw (h i (omega arith) (omega arith), firstFailing) (all-passing good (suc i) n (λ k a b. h k (omega arith) (omega arith)))
-
--- the number given is the first: the test fails there and passes at each one before
-pub record FirstFails (good : ℕ → Bool) (i n k : ℕ) : Type 0 where
-  pub from : i ≤ k
-  pub to : k < i + n
-  pub fails : good k ≡ false
-  pub before : (j : ℕ) → i ≤ j → j < k → good j ≡ true
 
 pub first-failing : (good : ℕ → Bool) (i n k : ℕ) → firstFailing good i n ≡ some k → FirstFails good i n k
 unfolding firstFailing

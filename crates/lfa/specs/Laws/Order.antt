@@ -11,7 +11,7 @@ use native.Mathlib.Omega.{arith}
 use native.Mathlib.Nat.{lt-trans}
 use lib.Dec.{eqb, ltb}
 use borrow.Author.Tests.{ltb-true, ltb-false, lt-ltb, eqb-true, eq-eqb}
-use Rattle.lfa.specs.Repair.{Pair, Keys, key, Precedes, by-class, by-distance, by-endpoint, by-tunnel, by-hop, noLater, earlier, choose}
+use Rattle.lfa.specs.Repair.{First, Pair, Keys, key, by-class, by-distance, by-endpoint, by-tunnel, by-hop, noLater, earlier, choose}
 use Rattle.lfa.specs.Laws.Test.{and-left, and-right, and-make, or-cases, or-left, or-right, or-false-left, or-false-right, and-false, decide}
 
 -- ---- lists of keys
@@ -97,18 +97,6 @@ module _ (k : Pair → List ℕ) where
   chosen (p ∷ ps) = add p ps (choose k ps) (chosen ps)
 
 -- ---- the five clauses
-
--- the same five keys
-pub record SameKeys (a b : Keys) : Type 0 where
-  pub class : a .class ≡ b .class
-  pub distance : a .distance ≡ b .distance
-  pub endpoint : a .endpoint ≡ b .endpoint
-  pub tunnel : a .tunnel ≡ b .tunnel
-  pub hop : a .hop ≡ b .hop
-
--- no key of b is before a: a precedes b, or the two have the same keys
-abbrev pub First : Keys → Keys → Type 0
-First a b = Precedes a b ⊎ SameKeys a b
 
 -- The list of keys comes no later exactly when one of the five clauses holds or all keys are the same: key by key, the first that
 -- differs is the clause.

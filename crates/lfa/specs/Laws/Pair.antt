@@ -11,12 +11,12 @@ use borrow.Author.Tests.{eqb-true, eq-eqb, eqb-false, ne-eqb, not-true}
 use Rattle.lfa.specs.Lists.{below, select}
 use Rattle.lfa.specs.Network.{Arc, arc, Target, router}
 use Rattle.lfa.specs.Space.{Protected, FirstHop, first, isFirst, firstOver, firstHops}
-use Rattle.lfa.specs.Repair.{Pair, pair, IsPair, isEndpoint, withEndpoint, pairsOf, pairs, Serves, serves, keysOf, pairKey, choose, firstPair}
+use Rattle.lfa.specs.Repair.{First, Pair, pair, IsPair, isEndpoint, withEndpoint, pairsOf, pairs, Serves, serves, keysOf, pairKey, choose, firstPair}
 use Rattle.lfa.specs.Laws.Test.{and-left, and-right, and-make}
 use Rattle.lfa.specs.Laws.List.{mem-below, below-mem, select-gives, select-make, map-gives, map-make, flat-gives, flat-make}
 use Rattle.lfa.specs.Laws.Bound.{Sound}
 use Rattle.lfa.specs.Laws.Avoid.{avoids-gives, avoids-make}
-use Rattle.lfa.specs.Laws.Order.{First, Chosen, chosen, key-first}
+use Rattle.lfa.specs.Laws.Order.{Chosen, chosen, key-first}
 
 -- ---- first hops
 

@@ -2,18 +2,20 @@
 -- Assumes nothing.
 use Prim.Native.Nat.{ℕ, _+_, _≤_, _<_}
 use mathlib.Core.Path.{_≡_, refl, sym, _∙_}
+use mathlib.Core.Logic.{_↔_}
 use mathlib.Core.Bool.{Bool, true, false, true≢false}
 use mathlib.Core.Option.{Option, none, some}
 use mathlib.Core.List.{List}
+use native.Mathlib.Omega.{arith}
 use lib.Dec.{eqb, ltb}
 use borrow.Author.Tests.{ltb-true, ltb-false, eqb-true, eqb-false}
 use Rattle.lfa.specs.Network.{Arc, Target, router}
 use Rattle.lfa.specs.Distance.{unreachable, towards}
 use Rattle.lfa.specs.Space.{Protected}
-use Rattle.lfa.specs.Repair.{Pair, pair, IsPair, Serves, MayCross, mayCross, HasClass, neighbour-downstream, neighbour-other, tunnel-downstream, tunnel-other, orElse, classOf, tunnelCost, keysOf, firstPair, Outcome, prefixUnreachable, prefixUntouched, noneServes, chosen, outcomeOf, linkOutcome, prefixOutcome}
+use Rattle.lfa.specs.Repair.{First, Pair, pair, IsPair, Serves, MayCross, mayCross, HasClass, neighbour-downstream, neighbour-other, tunnel-downstream, tunnel-other, orElse, classOf, tunnelCost, keysOf, firstPair, Outcome, prefixUnreachable, prefixUntouched, noneServes, chosen, outcomeOf, linkOutcome, prefixOutcome}
+use Rattle.lfa.specs.Laws.Target.{towards-most}
 use Rattle.lfa.specs.Laws.Bound.{Sound}
 use Rattle.lfa.specs.Laws.Avoid.{Named, crosses-gives, crosses-make}
-use Rattle.lfa.specs.Laws.Order.{First}
 use Rattle.lfa.specs.Laws.Pair.{Best, best}
 
 -- the computed class is the pair's class
@@ -102,3 +104,20 @@ module _ (n : ℕ) (hops : List Arc) (d : ℕ → ℕ → ℕ) (q : Protected) (
       reach : (b : Bool) → ltb (towards d to (q .near)) unreachable ≡ b → PrefixMeans n hops d q to (elim b as (λ _. Outcome) [ false ↦ prefixUnreachable | true ↦ crossing (mayCross n hops d q to) ])
       reach true e = cross (ltb-true _ _ e) (mayCross n hops d q to) refl
       reach false e = ltb-false _ _ e
+
+-- ---- unreachable and untouched
+
+module _ (n : ℕ) (hops : List Arc) (d : ℕ → ℕ → ℕ) (q : Protected) (to : Target) where
+  -- the outcome is unreachable exactly when D(S,p) is
+  pub unreachable-when : (o : Outcome) → PrefixMeans n hops d q to o → (o ≡ prefixUnreachable) ↔ (towards d to (q .near) ≡ unreachable)
+  unreachable-when prefixUnreachable f = (λ e. omega (arith, towards-most d to (q .near)), λ e. refl)
+  unreachable-when prefixUntouched f = (λ e. cc, λ e. absurd (omega (arith, f .0)))
+  unreachable-when noneServes f = (λ e. cc, λ e. absurd (omega (arith, f .0 .step .finite)))
+  unreachable-when (chosen m y class cost) f = (λ e. cc, λ e. absurd (omega (arith, f .0 .step .finite)))
+
+  -- and untouched exactly when D(S,p) is finite and no walk from S crosses the link from S to E
+  pub untouched-when : (o : Outcome) → PrefixMeans n hops d q to o → (o ≡ prefixUntouched) ↔ ((towards d to (q .near) < unreachable) × (MayCross hops d q to → ⊥))
+  untouched-when prefixUnreachable f = (λ e. absurd (let z : _≡_ {A = ℕ} 0 1 = cc in omega arith), λ r. absurd (omega (arith, r .0)))
+  untouched-when prefixUntouched f = (λ e. f, λ r. refl)
+  untouched-when noneServes f = (λ e. absurd (let z : _≡_ {A = ℕ} 0 1 = cc in omega arith), λ r. absurd (r .1 (f .0)))
+  untouched-when (chosen m y class cost) f = (λ e. absurd (let z : _≡_ {A = ℕ} 0 1 = cc in omega arith), λ r. absurd (r .1 (f .0)))

@@ -1,7 +1,8 @@
 -- `planner::planner_load` meets its contract: the verdict's numbers, and the columns of the network one by one.
 -- Assumes nothing.
 use mathlib.Core.Path.{_∙_, ap}
-use Rattle.lfa.specs.Refusal.{loading, answerTo}
+use Rattle.lfa.specs.Question.{loading}
+use Rattle.lfa.specs.Answer.{answerTo}
 use Rattle.planner.specs.Numbers.{numbersOf, loadedAs}
 use Rattle.planner.specs.declared.answer.Numbers.{Numbers}
 use borrow.Author.Needs.{needs}

@@ -1,6 +1,7 @@
 -- `refusal::file_row` meets its contract: each fault by its own row.
 -- Assumes nothing.
-use Rattle.lfa.specs.Refusal.{leavesAll, entryOf, refusal}
+use Rattle.lfa.specs.Refusal.{inFile, entryOf, fileNumber}
+use Rattle.lfa.specs.Answer.{refusal}
 use Rattle.network_file.specs.Load.{faultRow, faultOf}
 use borrow.Author.Needs.{needs}
 use Rattle.refusal.proofs.file_row.Statement.{statement}
@@ -61,39 +62,39 @@ numbered-requires-9 : tie.Need-numbered-requires-9
 numbered-requires-9 c κs = search needs
 
 returns : tie.Need-returns
-unfolding faultOf faultRow refusal entryOf leavesAll
+unfolding faultOf faultRow refusal inFile entryOf fileNumber
 returns c = rw (c .before .enum-told .given .1) (c .numbered .ensures)
 
 returns-2 : tie.Need-returns-2
-unfolding faultOf faultRow refusal entryOf leavesAll
+unfolding faultOf faultRow refusal inFile entryOf fileNumber
 returns-2 c = rw (c .before .before .fault .given .1) (c .numbered2 .ensures)
 
 returns-3 : tie.Need-returns-3
-unfolding faultOf faultRow refusal entryOf leavesAll
+unfolding faultOf faultRow refusal inFile entryOf fileNumber
 returns-3 c = rw (c .before .enum-told2 .given .1) (c .numbered3 .ensures)
 
 returns-4 : tie.Need-returns-4
-unfolding faultOf faultRow refusal entryOf leavesAll
+unfolding faultOf faultRow refusal inFile entryOf fileNumber
 returns-4 c = rw (c .before .before .fault2 .given .1) (c .numbered4 .ensures)
 
 returns-5 : tie.Need-returns-5
-unfolding faultOf faultRow refusal entryOf leavesAll
+unfolding faultOf faultRow refusal inFile entryOf fileNumber
 returns-5 c = rw (c .before .before .fault3 .given .1) (c .numbered5 .ensures)
 
 returns-6 : tie.Need-returns-6
-unfolding faultOf faultRow refusal entryOf leavesAll
+unfolding faultOf faultRow refusal inFile entryOf fileNumber
 returns-6 c = rw (c .before .before .fault4 .given .1) (c .numbered6 .ensures)
 
 returns-7 : tie.Need-returns-7
-unfolding faultOf faultRow refusal entryOf leavesAll
+unfolding faultOf faultRow refusal inFile entryOf fileNumber
 returns-7 c = rw (c .before .before .fault5 .given .1) (c .numbered7 .ensures)
 
 returns-8 : tie.Need-returns-8
-unfolding faultOf faultRow refusal entryOf leavesAll
+unfolding faultOf faultRow refusal inFile entryOf fileNumber
 returns-8 c = rw (c .before .before .fault6 .given .1) (c .numbered8 .ensures)
 
 returns-9 : tie.Need-returns-9
-unfolding faultOf faultRow refusal entryOf leavesAll
+unfolding faultOf faultRow refusal inFile entryOf fileNumber
 returns-9 c = rw (c .before .before .fault7 .given .1) (c .numbered9 .ensures)
 
 pub file-row-spec : {M : Type 1} → statement M

@@ -4,7 +4,7 @@ use Prim.Native.Nat.{_*_, _≤_}
 use mathlib.Core.Path.{sym, _∙_}
 use lib.ListN.{length}
 use Rattle.lfa.specs.File.{networkOf}
-use Rattle.lfa.specs.Refusal.{filling}
+use Rattle.lfa.specs.Question.{filling}
 use Rattle.distance.specs.Laws.Calls.{filled-columns}
 use Rattle.repair.specs.Answer.{filledAnswer}
 use Rattle.repair.specs.Asked.{Taken}

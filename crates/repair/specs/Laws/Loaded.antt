@@ -11,10 +11,12 @@ use lib.ListN.{length, getD, replicate, length-map, List·getD-append}
 use Rattle.lfa.specs.Network.{Link, link, Network}
 use Rattle.lfa.specs.File.{Bytes, byteAt, routersOf, linksOf, prefixesOf, networkOf}
 use Rattle.lfa.specs.FileOf.{pad, WithinLimits}
-use Rattle.lfa.specs.Refusal.{Question, loading, refusalOf, Accepted, Decided, decided, entryOf, refusal, answerTo, networkLoaded}
+use Rattle.lfa.specs.Question.{Question, loading}
+use Rattle.lfa.specs.Refusal.{fileRefusal}
+use Rattle.lfa.specs.Answer.{answerTo, networkLoaded}
 use Rattle.lfa.specs.Laws.Chunks.{element-mapped, made-again}
 use Rattle.lfa.specs.Laws.Rows.{load-accepted}
-use Rattle.lfa.specs.Laws.Turned.{TurnedAway, file-turned-away, file-accepted}
+use Rattle.lfa.specs.Laws.Turned.{TurnedAway, load-refuses, load-accepts}
 use Rattle.lfa.specs.Laws.Accepted.{accepted-limits, link-count, prefix-count}
 use Rattle.network_file.specs.declared.Fault.{Fault}
 use Rattle.network_file.specs.declared.Verdict.the-variants as verdict
@@ -65,17 +67,13 @@ Answers b r = (answerOf (r .verdict) ≡ answerTo (loading b)) × (r .network �
 module _ (b : Bytes) (r : Loaded) (a : Answers b r) where
   -- a refusal of the file turns every question about it away
   pub fault-turned-away : (q : Question) (f : Fault) → q .file ≡ b → r .verdict ≡ verdict.Refused f → TurnedAway q (faultOf f)
-  unfolding answerOf faultOf refusal
-  fault-turned-away q f e v = go (faultRow f) refl
-    where
-      go : (d : Decided) → faultRow f ≡ d → TurnedAway q (refusal (faultRow f))
-      go (decided row w) p =
-          rw p (file-turned-away q (entryOf row .number) w (ap (λ (c : Bytes). answerTo (loading c)) e ∙ sym (a .0) ∙ ap answerOf v ∙ rw p))
+  unfolding answerOf faultOf
+  fault-turned-away q f e v = load-refuses q (faultRow f) (ap (λ (c : Bytes). answerTo (loading c)) e ∙ sym (a .0) ∙ ap answerOf v)
 
   pub taken : ((i : ℕ) → getD b i 0 < 256) → r .verdict ≡ verdict.Accepted → Taken b (r .network)
   unfolding answerOf networkLoaded byteAt
   taken bytes v =
-      let n : refusalOf (loading b) ≡ none = file-accepted b (sym (a .0) ∙ ap answerOf v) in
+      let n : fileRefusal b ≡ none = load-accepts b (sym (a .0) ∙ ap answerOf v) in
       record { is-accepted = load-accepted b bytes n; network-is = a .1 ∙ ap structOf (rw (n, networkLoaded)) }
 
 module _ {b : Bytes} {network : struct.Network} (t : Taken b network) where

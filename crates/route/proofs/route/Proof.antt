@@ -13,7 +13,9 @@ use lib.ListN.{getD, length, drop}
 use borrow.Author.Tests.{ltb-true, ltb-false}
 use borrow.Author.Needs.{needs}
 use Rattle.lfa.specs.File.{routersOf}
-use Rattle.lfa.specs.Refusal.{repair, played, askPrefix, askRoute, answerTo, refusalOf}
+use Rattle.lfa.specs.Question.{askPrefix, askRoute}
+use Rattle.lfa.specs.Refusal.{refusalOf}
+use Rattle.lfa.specs.Answer.{repair, played, answerTo}
 use Rattle.repair.specs.Answer.{refusalAnswer, repairOf}
 use Rattle.repair.specs.Asked.{Taken}
 use Rattle.repair.specs.Laws.Loaded.{columns-within}
@@ -96,19 +98,19 @@ accepted : (c : tie.After-answer) → Taken (c .before .before .before .before .
 accepted c =
     let f = c .before .before .before .before .before .before .before .before in
     let a = f .before .before .before .before .before .args in
-    loaded-accepted _ _ (f .load .ensures .1) (bytes f) (file-loaded _ _ (length (a .buffer .now)) _ _ _ (a .choices .now) (pair-found _ _ (length (a .buffer .now)) _ _ _ (a .choices .now) (paired c) .0))
+    loaded-accepted _ _ (f .load .ensures .1) (bytes f) (file-loaded _ _ _ _ _ (pair-found _ _ _ _ _ (paired c) .0))
 
 long : (c : tie.After-answer) → 2 * routersOf (c .before .before .before .before .before .before .before .before .before .before .before .before .before .args .file .now) ≤ length (c .before .before .before .before .before .before .before .before .before .before .before .before .before .args .buffer .now)
 long c =
     let a = c .before .before .before .before .before .before .before .before .before .before .before .before .before .args in
-    buffer-long (accepted c) (area-long _ _ (length (a .buffer .now)) _ _ _ (a .choices .now) (pair-found _ _ (length (a .buffer .now)) _ _ _ (a .choices .now) (paired c) .0)) (either (c .before .before .before .before))
+    buffer-long (accepted c) (area-long (accepted c) _ _ _ _ (paired c)) (either (c .before .before .before .before))
 
 -- the prefix and the link are the network's
 prefix-there : (c : tie.After-answer) → c .before .before .before .before .before .before .before .before .before .before .before .before .before .args .prefix < c .before .before .before .before .before .before .before .before .load .result .network .prefixes
-prefix-there c = prefix-handed (accepted c) _ _ _ _ _ (c .before .before .before .before .before .before .before .before .before .before .before .before .before .args .choices .now) (long c) (paired c)
+prefix-there c = prefix-handed (accepted c) _ _ _ _ (paired c)
 
 link-there : (c : tie.After-answer) → let a = c .before .before .before .before .before .before .before .before .before .before .before .before .before .args in (ltb (a .link) (c .before .before .before .before .before .before .before .before .load .result .network .links) && leb (a .end) 1) ≡ true
-link-there c = link-handed (accepted c) _ _ _ _ _ (c .before .before .before .before .before .before .before .before .before .before .before .before .before .args .choices .now) (long c) (paired c)
+link-there c = link-handed (accepted c) _ _ _ _ (paired c)
 
 array-read-wide : tie.Need-array-read-wide
 array-read-wide c = let z = c .before .before in prefix-cell (accepted z) _ (prefix-there z)
@@ -144,9 +146,9 @@ returns-3 c =
     let count-is = c .before .before .before .before .before .before .before .before .before .before .before .before .before .before .before .before .wide .ensures in
     let way = TheRoute (accepted z) (a .work .now) (length (a .buffer .now)) (a .link) (a .end) (a .prefix) (a .choices .now) (long z) (paired z) (r .prefix-repair .ensures .1) near-is count-is in
     let went = c .before .before .play .ensures _ (played-route (accepted z) (a .work .now) _ (a .link) (a .end) _ (a .choices .now) (long z) (paired z) (r .prefix-repair .ensures .1) near-is count-is) in (
-      ap played (went .0) ∙ route-answered (accepted z) _ _ (a .link) (a .end) _ (a .choices .now) (long z) (paired z),
+      ap played (went .0) ∙ route-answered (accepted z) _ (a .link) (a .end) _ (paired z) _ (a .choices .now) (long z),
       r .prefix-repair .ensures .1 ∙ sym (work-same _ _ _ _ _ _ _ (refused-alike r) _),
-      went .1 ∙ ap (λ (k : ℕ). way ++ drop k (a .buffer .now)) (went .0) ∙ buffer-written (accepted z) _ _ (a .link) (a .end) _ (a .choices .now) (long z) (paired z) (a .buffer .now),
+      went .1 ∙ ap (λ (k : ℕ). way ++ drop k (a .buffer .now)) (went .0) ∙ buffer-written (accepted z) _ (a .link) (a .end) _ (paired z) _ (a .choices .now) (long z) (a .buffer .now),
     )
 
 pub route-spec : {M : Type 1} → statement M

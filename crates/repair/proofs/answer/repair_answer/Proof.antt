@@ -1,6 +1,6 @@
 -- `repair::answer::repair_answer` meets its contract, case by case.
 -- Assumes nothing.
-use Rattle.lfa.specs.Refusal.{refusal, repairAnswer}
+use Rattle.lfa.specs.Answer.{refusal, repairAnswer}
 use borrow.Author.Needs.{needs}
 use Rattle.repair.specs.Answer.{refusalAnswer, repairOf}
 use Rattle.repair.proofs.answer.repair_answer.Statement.{statement}

@@ -1,0 +1,170 @@
+-- What each call answers to a question that no row before 14 turns away, and what that tells of the network.
+-- Assumes nothing.
+use Prim.Native.Nat.{ℕ}
+use mathlib.Core.Path.{_≡_, refl, sym, ap, _∙_, subst}
+use mathlib.Core.Logic.{_⊎_, inl, inr, _↔_}
+use mathlib.Core.Bool.{true, false≢true}
+use mathlib.Core.List.{List}
+use lib.ListN.{length}
+use Rattle.lfa.specs.Lists.{anyOf, memberOf}
+use Rattle.lfa.specs.Network.{router}
+use Rattle.lfa.specs.Space.{Space}
+use Rattle.lfa.specs.Repair.{Outcome, prefixUnreachable, prefixUntouched, noneServes, chosen}
+use Rattle.lfa.specs.Route.{routeOf}
+use Rattle.lfa.specs.Question.{Question, Call, load, fill, space, linkRepair, prefixRepair, route, askPrefix, toPrefixRepair, workArea, routeBuffer, aLink, aPrefix, lent, Input, inputsOf, inputNumber, hasInput, HasInput, networkAsked, linkAsked, prefixAsked, withDistances, linkFound, prefixFound}
+use Rattle.lfa.specs.Refusal.{Posed}
+use Rattle.lfa.specs.Answer.{Answer, untouched, unreached, repair, repairAnswer, routeAnswer, routeFor, routePlayed, computed, answerTo, routeAfter}
+use Rattle.lfa.specs.Demands.{N, Hops, D, RouteNamed}
+use Rattle.lfa.specs.Laws.Asked.{posed-answer, posed-route, answer-chosen}
+use Rattle.lfa.specs.Laws.Repair.{SearchMeans, PrefixMeans, IsFirstPair, link-means, prefix-means}
+use Rattle.lfa.specs.Laws.Route.{route-named, route-once, route-walks}
+use Rattle.lfa.specs.Laws.HasThis.{sound, least-costs, named}
+
+-- ---- what each call answers
+
+module _ (q : Question) (p : Posed q) where
+  pub computes : {c : Call} → q .call ≡ c → answerTo q ≡ computed q c
+  computes c = posed-answer q p ∙ ap (computed q) c
+
+  pub has : {c : Call} (i : Input) → q .call ≡ c → hasInput c i ≡ true → HasInput q i
+  has i c h = ap (λ c. hasInput c i) c ∙ h
+
+  -- the link repair
+  pub link-answer : q .call ≡ linkRepair → answerTo q ≡ repairAnswer (linkFound q)
+  unfolding computed
+  link-answer c = computes c
+
+  pub link-has-link : q .call ≡ linkRepair → HasInput q aLink
+  unfolding hasInput inputsOf inputNumber memberOf anyOf
+  link-has-link c = has aLink c refl
+
+  pub link-meaning : q .call ≡ linkRepair → SearchMeans (N q) (Hops q) (D q) (linkAsked q) (router (linkAsked q .far)) (linkFound q)
+  unfolding linkFound withDistances
+  link-meaning c = link-means (N q) (Hops q) (D q) (linkAsked q) (sound q p) (named q p (link-has-link c))
+
+  -- the prefix repair, and the route
+  pub prefix-has-link : HasInput q aPrefix → HasInput q aLink
+  unfolding hasInput inputsOf inputNumber memberOf anyOf
+  prefix-has-link h = go (q .call) h
+    where
+      go : (c : Call) → hasInput c aPrefix ≡ true → hasInput c aLink ≡ true
+      go load h = cc
+      go fill h = cc
+      go (space s) h = cc
+      go linkRepair h = cc
+      go prefixRepair h = refl
+      go route h = refl
+
+  pub prefix-meaning : HasInput q aPrefix → PrefixMeans (N q) (Hops q) (D q) (linkAsked q) (prefixAsked q) (prefixFound q)
+  unfolding prefixFound withDistances
+  prefix-meaning h = prefix-means (N q) (Hops q) (D q) (linkAsked q) (sound q p) (named q p (prefix-has-link h)) (prefixAsked q)
+
+-- what an answer tells of what was found
+pub record Tells (answer : Answer) (o : Outcome) : Type 0 where
+  pub is-unreached : (answer ≡ unreached) ↔ (o ≡ prefixUnreachable)
+  pub is-untouched : (answer ≡ untouched) ↔ (o ≡ prefixUntouched)
+
+pub repair-tells : (o : Outcome) → Tells (repairAnswer o) o
+unfolding repairAnswer
+repair-tells prefixUnreachable = record { is-unreached = (λ e. refl, λ e. refl); is-untouched = (λ e. cc, λ e. cc) }
+repair-tells prefixUntouched = record { is-unreached = (λ e. cc, λ e. cc); is-untouched = (λ e. refl, λ e. refl) }
+repair-tells noneServes = record { is-unreached = (λ e. cc, λ e. cc); is-untouched = (λ e. cc, λ e. cc) }
+repair-tells (chosen n y class cost) = record { is-unreached = (λ e. cc, λ e. cc); is-untouched = (λ e. cc, λ e. cc) }
+
+pub route-tells : (o : Outcome) (count : ℕ) → Tells (routeAnswer o count) o
+unfolding routeAnswer
+route-tells prefixUnreachable count = record { is-unreached = (λ e. refl, λ e. refl); is-untouched = (λ e. cc, λ e. cc) }
+route-tells prefixUntouched count = record { is-unreached = (λ e. cc, λ e. cc); is-untouched = (λ e. refl, λ e. refl) }
+route-tells noneServes count = record { is-unreached = (λ e. cc, λ e. cc); is-untouched = (λ e. cc, λ e. cc) }
+route-tells (chosen n y class cost) count = record { is-unreached = (λ e. cc, λ e. cc); is-untouched = (λ e. cc, λ e. cc) }
+
+module _ (q : Question) (p : Posed q) where
+  pub prefix-tells : HasInput q aPrefix → Tells (answerTo q) (prefixFound q)
+  unfolding computed hasInput inputsOf inputNumber memberOf anyOf
+  prefix-tells h = rw (posed-answer q p) (go (q .call) h)
+    where
+      go : (c : Call) → hasInput c aPrefix ≡ true → Tells (computed q c) (prefixFound q)
+      go load h = absurd (false≢true h)
+      go fill h = absurd (false≢true h)
+      go (space s) h = absurd (false≢true h)
+      go linkRepair h = absurd (false≢true h)
+      go prefixRepair h = repair-tells (prefixFound q)
+      go route h = route-tells (prefixFound q) (length (routePlayed q))
+
+-- ---- routes
+
+-- only the route call has a route buffer
+pub has-buffer : (c : Call) → hasInput c (lent routeBuffer) ≡ true → c ≡ route
+unfolding hasInput inputsOf inputNumber memberOf anyOf
+has-buffer load h = cc
+has-buffer fill h = cc
+has-buffer (space s) h = cc
+has-buffer linkRepair h = cc
+has-buffer prefixRepair h = cc
+has-buffer route h = refl
+
+pub space-has-link : (c : Call) (s : Space) → c ≡ space s → hasInput c aLink ≡ true
+unfolding hasInput inputsOf inputNumber memberOf anyOf
+space-has-link c s e = ap (λ c. hasInput c aLink) e
+
+pub prefix-has-prefix : (c : Call) → c ≡ prefixRepair → hasInput c aPrefix ≡ true
+unfolding hasInput inputsOf inputNumber memberOf anyOf
+prefix-has-prefix c e = ap (λ c. hasInput c aPrefix) e
+
+pub route-has-prefix : (c : Call) → c ≡ route → hasInput c aPrefix ≡ true
+unfolding hasInput inputsOf inputNumber memberOf anyOf
+route-has-prefix c e = ap (λ c. hasInput c aPrefix) e
+
+module _ (q : Question) (p : Posed q) (c : q .call ≡ route) where
+  -- where no pair is found, nothing is written
+  pub nothing-written : (prefixFound q ≡ prefixUnreachable) ⊎ (prefixFound q ≡ prefixUntouched) → (buffer : List ℕ) → routeAfter q buffer ≡ buffer
+  unfolding routePlayed routeFor
+  nothing-written (inl e) buffer = posed-route q p c buffer ∙ rw e
+  nothing-written (inr e) buffer = posed-route q p c buffer ∙ rw e
+
+  pub prefix-posed : Posed (toPrefixRepair q)
+  unfolding toPrefixRepair askPrefix networkAsked hasInput inputsOf inputNumber memberOf anyOf
+  prefix-posed = record {
+    file = p .file;
+    area = λ h. p .area (has q p (lent workArea) c refl);
+    buffer = λ h. absurd (false≢true h);
+    link = λ h. p .link (has q p aLink c refl);
+    end = λ h. p .end (has q p aLink c refl);
+    prefix = λ h. p .prefix (has q p aPrefix c refl);
+  }
+
+  pub pair-found : {n y class cost : ℕ} → answerTo (toPrefixRepair q) ≡ repair n y class cost → prefixFound q ≡ chosen n y class cost
+  unfolding computed toPrefixRepair askPrefix prefixFound networkAsked linkAsked prefixAsked
+  pair-found {n} {y} {class} {cost} r = answer-chosen (prefixFound q) n y class cost (sym (posed-answer (toPrefixRepair q) prefix-posed) ∙ r)
+
+  module _ {n y class cost : ℕ} (found : prefixFound q ≡ chosen n y class cost) where
+    searched-first : IsFirstPair (N q) (Hops q) (D q) (linkAsked q) (prefixAsked q) n y class cost
+    searched-first = subst (PrefixMeans (N q) (Hops q) (D q) (linkAsked q) (prefixAsked q)) found (prefix-meaning q p (route-has-prefix (q .call) c)) .1
+
+    -- the route of the pair that was found
+    abbrev pub Played : List ℕ
+    Played = routeOf (N q) (Hops q) (D q) (prefixAsked q) (q .choices) (linkAsked q .near) n y
+
+    played-is : routePlayed q ≡ Played
+    unfolding routePlayed routeFor withDistances
+    played-is = ap (routeFor q) found
+
+    pub played-named : RouteNamed q n y
+    unfolding computed routeAnswer hasInput inputsOf inputNumber memberOf anyOf
+    played-named =
+        let f = searched-first in
+        let hop-in = sound q p .within .to (f .is-pair .joined) in
+        let named =
+        route-named (N q) (Hops q) (D q) (prefixAsked q) (q .choices) (linkAsked q .near) n y (sound q p) (least-costs q p)
+        hop-in (f .is-pair .end-in) (f .serves .tunnel .reachable) (f .serves .onward .reachable) in
+        let walks =
+        route-walks (N q) (Hops q) (D q) (prefixAsked q) (q .choices) (linkAsked q .near) n y (sound q p) (least-costs q p)
+        hop-in (f .is-pair .end-in) (f .serves .tunnel .reachable) (f .serves .onward .reachable) named in
+        record {
+          routers = Played;
+          named = named;
+          only = λ other o. route-once o named;
+          fits = walks .fits;
+          count = computes q p c ∙ rw (found, played-is);
+          written = λ buffer. posed-route q p c buffer ∙ rw played-is;
+        }

@@ -1,0 +1,121 @@
+-- What each call is asked, what a question is about, and which inputs a call has.
+-- Assumes nothing.
+use Prim.Native.Nat.{ℕ}
+use mathlib.Core.Path.{_≡_}
+use mathlib.Core.Bool.{Bool, true}
+use mathlib.Core.Option.{Option, none, some}
+use mathlib.Core.List.{List, [], _∷_, map}
+use lib.ListN.{getD}
+use Rattle.lfa.specs.Lists.{Table, memberOf}
+use Rattle.lfa.specs.Network.{Network, Target, arcs}
+use Rattle.lfa.specs.File.{Bytes, networkOf}
+use Rattle.lfa.specs.Distance.{distances, distanceIn}
+use Rattle.lfa.specs.Space.{Space, Protected, protected}
+use Rattle.lfa.specs.Repair.{Outcome, linkOutcome, prefixOutcome}
+
+-- the calls that answer with a refusal or something else. The two calls for the bytes of an entry have answers of their own
+-- (`Answer.linkPart`, `prefixPart`).
+pub data Call : Type 0 where
+  load fill linkRepair prefixRepair route : Call
+  space : Space → Call
+
+-- what a call is asked: the file, the lengths of the work area (in cells) and of the route buffer (in bytes), the link, the end,
+-- the prefix and the choice bytes. A call reads only the inputs that it has.
+pub record Question : Type 0 where
+  pub call : Call
+  pub file : Bytes
+  pub area : ℕ
+  pub buffer : ℕ
+  pub link : ℕ
+  pub end : ℕ
+  pub prefix : ℕ
+  pub choices : List ℕ
+
+-- ---- the questions of each call
+
+unfoldable pub loading : Bytes → Question
+loading b = record { call = load; file = b; area = 0; buffer = 0; link = 0; end = 0; prefix = 0; choices = [] }
+
+unfoldable pub filling : Bytes → ℕ → Question
+filling b area = record { call = fill; file = b; area = area; buffer = 0; link = 0; end = 0; prefix = 0; choices = [] }
+
+unfoldable pub askSpace : Space → Bytes → ℕ → ℕ → ℕ → Question
+askSpace s b area l e = record { call = space s; file = b; area = area; buffer = 0; link = l; end = e; prefix = 0; choices = [] }
+
+unfoldable pub askLink : Bytes → ℕ → ℕ → ℕ → Question
+askLink b area l e = record { call = linkRepair; file = b; area = area; buffer = 0; link = l; end = e; prefix = 0; choices = [] }
+
+unfoldable pub askPrefix : Bytes → ℕ → ℕ → ℕ → ℕ → Question
+askPrefix b area l e p = record { call = prefixRepair; file = b; area = area; buffer = 0; link = l; end = e; prefix = p; choices = [] }
+
+unfoldable pub askRoute : Bytes → ℕ → ℕ → ℕ → ℕ → ℕ → List ℕ → Question
+askRoute b area buffer l e p choices = record { call = route; file = b; area = area; buffer = buffer; link = l; end = e; prefix = p; choices = choices }
+
+-- the same question, put to the prefix repair call
+unfoldable pub toPrefixRepair : Question → Question
+toPrefixRepair q = askPrefix (q .file) (q .area) (q .link) (q .end) (q .prefix)
+
+-- ---- the inputs of a call, as far as a row of the table looks at them
+
+-- the buffers that are lent to be written
+pub data Buffer : Type 0 where
+  workArea routeBuffer : Buffer
+
+-- `searched`: the call searches for a pair
+pub data Input : Type 0 where
+  aFile aLink aPrefix searching : Input
+  lent : Buffer → Input
+
+unfoldable pub inputsOf : Call → List Input
+inputsOf load = aFile ∷ []
+inputsOf fill = aFile ∷ lent workArea ∷ []
+inputsOf (space s) = aFile ∷ lent workArea ∷ aLink ∷ []
+inputsOf linkRepair = aFile ∷ lent workArea ∷ aLink ∷ searching ∷ []
+inputsOf prefixRepair = aFile ∷ lent workArea ∷ aLink ∷ aPrefix ∷ searching ∷ []
+inputsOf route = aFile ∷ lent workArea ∷ lent routeBuffer ∷ aLink ∷ aPrefix ∷ searching ∷ []
+
+-- a number for each input, by which they are told apart
+unfoldable pub inputNumber : Input → ℕ
+inputNumber aFile = 0
+inputNumber aLink = 1
+inputNumber aPrefix = 2
+inputNumber searching = 3
+inputNumber (lent workArea) = 4
+inputNumber (lent routeBuffer) = 5
+
+unfoldable pub hasInput : Call → Input → Bool
+hasInput c i = memberOf (inputNumber i) (map inputNumber (inputsOf c))
+
+abbrev pub HasInput : Question → Input → Type 0
+HasInput q i = hasInput (q .call) i ≡ true
+
+-- ---- what a question is about, where its file is accepted
+
+unfoldable pub networkAsked : Question → Network
+networkAsked q = networkOf (q .file)
+
+unfoldable pub linkAsked : Question → Protected
+linkAsked q = protected (networkAsked q) (q .link) (q .end)
+
+unfoldable pub prefixAsked : Question → Target
+prefixAsked q = getD (networkAsked q .prefixes) (q .prefix) []
+
+-- what is computed from the distances of a network
+unfoldable pub withDistances {ℓ} : {A : Type ℓ} → Network → ((ℕ → ℕ → ℕ) → A) → A
+withDistances net compute = let t : Table = distances net in compute (distanceIn t)
+
+-- what a link repair finds, and what a prefix repair or a route call finds
+unfoldable pub linkFound : Question → Outcome
+linkFound q = withDistances (networkAsked q) (λ d. linkOutcome (networkAsked q .routers) (arcs (networkAsked q)) d (linkAsked q))
+
+unfoldable pub prefixFound : Question → Outcome
+prefixFound q = withDistances (networkAsked q) (λ d. prefixOutcome (networkAsked q .routers) (arcs (networkAsked q)) d (linkAsked q) (prefixAsked q))
+
+-- what a call's search finds; nothing where the call does not search
+unfoldable pub searched : Question → Call → Option Outcome
+searched q load = none
+searched q fill = none
+searched q (space s) = none
+searched q linkRepair = some (linkFound q)
+searched q prefixRepair = some (prefixFound q)
+searched q route = some (prefixFound q)
