@@ -1,6 +1,6 @@
 //! The built program `plan` as a child process: all that it prints, compared
 //! with the text that the oracle makes of the same bytes, and with what
-//! `docs/SPECIFICATION.md` says that it prints.
+//! `README.md` and `docs/SPECIFICATION.md` say that it prints.
 
 use oracle::answer::plan_text;
 use oracle::fault::Context;
@@ -132,6 +132,19 @@ fn the_plans_of_the_specification() {
         }
     }
     assert!(count > 0);
+}
+
+/// A line of the plan in the README has words after it that say what it means.
+#[test]
+fn the_lines_of_ring_4_in_the_readme() {
+    let plan = printed(&write(&ring_4_with_prefix()));
+    let readme = page::read("README.md");
+    let explained = readme.lines().filter_map(|line| line.strip_prefix("    ")?.split_once("   "));
+    let lines: Vec<&str> = explained.map(|(line, _)| line).collect();
+    assert!(!lines.is_empty());
+    for line in lines {
+        assert!(plan.lines().any(|planned| planned == line), "{line}");
+    }
 }
 
 #[test]
