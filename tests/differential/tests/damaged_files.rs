@@ -39,7 +39,8 @@ fn bytes_changed_anywhere() {
 #[test]
 fn every_stored_case() {
     let cases = Cases::read(&stored::root()).expect("the texts of the repository");
-    let all = cases.networks.into_iter().chain(cases.reader).chain(cases.examples);
+    let tests = cases.networks.into_iter().chain(cases.reader);
+    let all = tests.chain(cases.examples).chain(cases.refused);
     let files = all.map(|case| NamedFile { name: case.name, bytes: case.file });
     compared(files.collect()).assert_met(&of_rows(1..=9));
 }

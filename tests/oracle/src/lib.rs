@@ -1,6 +1,6 @@
 //! An independent program for the answers that document 01 defines: distances,
 //! spaces, repairs, played routes, the plan text, and what every call leaves in
-//! every buffer lent to it.
+//! every buffer lent to it. `docs/SPECIFICATION.md` says what document 01 says.
 //!
 //! It is written from the definitions, not for speed: distances by Dijkstra's
 //! method, walks by following every step, repairs by looking at every pair. It
@@ -19,6 +19,7 @@ pub mod fault;
 pub mod file;
 pub mod generate;
 pub mod network;
+pub mod page;
 pub mod plan;
 pub mod random;
 pub mod repair;

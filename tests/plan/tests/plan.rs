@@ -1,10 +1,12 @@
 //! The built program `plan` as a child process: all that it prints, compared
-//! with the text that the oracle makes of the same bytes.
+//! with the text that the oracle makes of the same bytes, and with what
+//! `README.md` and `docs/SPECIFICATION.md` say that it prints.
 
 use oracle::answer::plan_text;
 use oracle::fault::Context;
 use oracle::file::{LARGEST, write};
 use oracle::generate::{self, Family};
+use oracle::page;
 use oracle::random::Random;
 use oracle::stored;
 use oracle::stored::cases::{Case, Cases};
@@ -100,6 +102,49 @@ fn every_refusal() {
     let number = |text: &String| text.strip_prefix("refused ")?.split(' ').next()?.parse().ok();
     let numbers: BTreeSet<u8> = texts.iter().filter_map(number).collect();
     assert_eq!(numbers, (1..=9).collect());
+}
+
+#[test]
+fn the_specification_says_what_every_refused_example_prints() {
+    let page = page::read("docs/SPECIFICATION.md");
+    let folder = std::fs::read_dir(stored::root().join("examples/refused")).expect("a folder");
+    let paths = folder.map(|entry| entry.expect("a file").path());
+    let files: Vec<_> = paths.filter(|path| path.extension() == Some("net".as_ref())).collect();
+    assert_eq!(files.len(), 9);
+    for file in files {
+        let name = file.file_name().expect("a name").to_string_lossy();
+        let text = printed(&std::fs::read(&file).expect("its bytes"));
+        let mut lines = page.lines();
+        let row = lines.find(|line| line.starts_with(&format!("| `examples/refused/{name}` | ")));
+        let row = row.unwrap_or_else(|| panic!("no row for {name}"));
+        assert!(row.ends_with(&format!(" | `{}` |", text.trim_end())), "{row}\n{text}");
+    }
+}
+
+#[test]
+fn the_plans_of_the_specification() {
+    let mut count = 0;
+    for shown in page::commands(&page::read("docs/SPECIFICATION.md")) {
+        if let Some(file) = shown.command.strip_prefix("target/bin/plan < ") {
+            let bytes = std::fs::read(stored::root().join(file)).expect(file);
+            assert_eq!(printed(&bytes), shown.prints, "{file}");
+            count += 1;
+        }
+    }
+    assert!(count > 0);
+}
+
+/// A line of the plan in the README has words after it that say what it means.
+#[test]
+fn the_lines_of_ring_4_in_the_readme() {
+    let plan = printed(&write(&ring_4_with_prefix()));
+    let readme = page::read("README.md");
+    let explained = readme.lines().filter_map(|line| line.strip_prefix("    ")?.split_once("   "));
+    let lines: Vec<&str> = explained.map(|(line, _)| line).collect();
+    assert!(!lines.is_empty());
+    for line in lines {
+        assert!(plan.lines().any(|planned| planned == line), "{line}");
+    }
 }
 
 #[test]

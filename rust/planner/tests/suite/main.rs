@@ -6,6 +6,7 @@ mod common;
 mod example_in_c;
 mod files;
 mod limits;
+mod pages;
 mod refusals;
 mod texts;
 mod worked;

@@ -22,6 +22,9 @@ pub struct Cases {
     pub reader: Vec<Case>,
     /// `examples`: networks for a first try.
     pub examples: Vec<Case>,
+    /// `examples/refused`: a refused file for each of the rows 1 to 9. Their
+    /// names start with `refused/`.
+    pub refused: Vec<Case>,
 }
 
 impl Cases {
@@ -31,6 +34,7 @@ impl Cases {
             networks: folder(&root.join("tests/cases"), "")?,
             reader: folder(&root.join("tests/cases/reader"), "reader/")?,
             examples: folder(&root.join("examples"), "")?,
+            refused: folder(&root.join("examples/refused"), "refused/")?,
         })
     }
 }

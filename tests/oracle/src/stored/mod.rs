@@ -4,7 +4,7 @@
 //!
 //! | Stored | Made from |
 //! |---|---|
-//! | `examples/NAME.net` | `examples/NAME.txt` |
+//! | `examples/NAME.net`, `examples/refused/NAME.net` | `NAME.txt` beside it |
 //! | `crates/PROGRAM/stdin`, `crates/PROGRAM/stdout` | the cases that the program reads |
 //! | `tests/plan/stored.txt` | the networks and the files for the reader: the plan of each |
 //!
@@ -66,7 +66,8 @@ pub fn run(root: &Path, arguments: &[&str]) -> Result<Report, String> {
 /// Every stored file, as it should be.
 pub fn made(root: &Path) -> Result<Vec<Stored>, String> {
     let cases = Cases::read(root)?;
-    let mut made: Vec<Stored> = cases.examples.iter().map(network_file).collect();
+    let examples = cases.examples.iter().chain(&cases.refused);
+    let mut made: Vec<Stored> = examples.map(network_file).collect();
     for program in PROGRAMS {
         let folder = format!("crates/{}", program.name);
         if root.join(&folder).is_dir() {

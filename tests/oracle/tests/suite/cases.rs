@@ -13,20 +13,39 @@ use oracle::repair::{deciding_key, serving};
 use oracle::row::Cause;
 use oracle::space::Space;
 use oracle::stored;
+use oracle::stored::cases::Cases;
 use oracle::worked::*;
 use std::collections::BTreeSet;
 use std::fs;
 
+/// Every text of a bad file: its place below the root, and the file.
+fn bad_files() -> Vec<(String, Vec<u8>)> {
+    let Cases { reader, refused, .. } = stored_cases();
+    let in_tests = reader.into_iter().map(|case| (format!("tests/cases/{}.txt", case.name), case));
+    let examples = refused.into_iter().map(|case| (format!("examples/{}.txt", case.name), case));
+    in_tests.chain(examples).map(|(place, case)| (place, case.file)).collect()
+}
+
 #[test]
-fn the_first_line_of_a_reader_text_is_the_answer() {
-    for case in &stored_cases().reader {
-        let place = format!("tests/cases/{}.txt", case.name);
+fn the_first_line_of_a_bad_text_is_the_answer() {
+    for (place, file) in bad_files() {
         let text = fs::read_to_string(stored::root().join(&place)).expect("a text");
-        let answer = match load(&Context::sound(), &case.file) {
+        let answer = match load(&Context::sound(), &file) {
             Ok(_) => "# accepted: ".to_string(),
             Err(refusal) => format!("# refused {} {}: ", refusal.number, refusal.value),
         };
         assert!(text.starts_with(&answer), "{place} does not start with {answer}");
+    }
+}
+
+#[test]
+fn each_of_the_rows_1_to_9_has_an_example() {
+    let refused = stored_cases().refused;
+    assert_eq!(refused.len(), 9);
+    for (number, case) in (1..).zip(refused) {
+        assert!(case.name.starts_with(&format!("refused/{number:02}-")), "{}", case.name);
+        let refusal = load(&Context::sound(), &case.file).expect_err("a refused file");
+        assert_eq!(refusal.number, number, "{}", case.name);
     }
 }
 

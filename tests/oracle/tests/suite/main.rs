@@ -9,6 +9,7 @@ mod coverage;
 mod distances;
 mod faults;
 mod outputs;
+mod pages;
 mod papers;
 mod plans;
 mod reader;

@@ -7,12 +7,12 @@ use std::fs;
 use std::path::{Path, PathBuf};
 use std::process::Command;
 
-/// A repository with one network, three refused files, the example ring 4, and
-/// folders for some programs.
+/// A repository with one network, three refused files, the example ring 4, an
+/// example that is refused, and folders for some programs.
 fn repository(name: &str, programs: &[&str]) -> PathBuf {
     let root = Path::new(env!("CARGO_TARGET_TMPDIR")).join(name);
     let _ = fs::remove_dir_all(&root);
-    for folder in ["tests/cases/reader", "examples", "crates"] {
+    for folder in ["tests/cases/reader", "examples/refused", "crates"] {
         fs::create_dir_all(root.join(folder)).expect("a folder");
     }
     for program in programs {
@@ -25,6 +25,7 @@ fn repository(name: &str, programs: &[&str]) -> PathBuf {
     store(&root, "tests/cases/reader/row_4_more.txt", "routers 1\nlength 1024\n");
     store(&root, "tests/cases/reader/row_9_next.txt", "routers 1\nprefix 0:0 0:1\n");
     store(&root, "examples/ring4.txt", &ring_4);
+    store(&root, "examples/refused/01-length.txt", "routers 1\nlength 511\n");
     root
 }
 
@@ -49,6 +50,7 @@ fn all_files_are_written_once() {
     let root = repository("written", &["stored_answers", "stored_buffers", "plan"]);
     let written = "\
 examples/ring4.net is written
+examples/refused/01-length.net is written
 crates/stored_answers/stdin is written
 crates/stored_answers/stdout is written
 crates/stored_buffers/stdin is written
@@ -61,6 +63,7 @@ crates/plan/stdout is written
     assert_eq!(run(&root, &["--check"]), report("", true));
 
     assert_eq!(stored(&root, "examples/ring4.net"), write(&ring_4_with_prefix()));
+    assert_eq!(stored(&root, "examples/refused/01-length.net"), write(&lone_router())[..511]);
     assert_eq!(stored(&root, "crates/plan/stdin"), write(&ring_4_with_prefix()));
     assert!(stored(&root, "crates/plan/stdout").starts_with(b"plan 4 4 1\n"));
     let input = stored(&root, "crates/stored_answers/stdin");
