@@ -6,6 +6,7 @@ mod common;
 mod example_in_c;
 mod files;
 mod limits;
+mod outputs;
 mod refusals;
 mod texts;
 mod worked;
