@@ -72,16 +72,17 @@ impl Input {
         Failure::Refused(format!("{}: {wrong}", self.name))
     }
 
-    /// Why it, or a question about it, is refused as a network file, and what to do. A network file
-    /// has zero bytes and a text has none.
+    /// Why it is refused as a network file, with what to do, or why a question about it is. A
+    /// network file has zero bytes and a text has none.
     pub fn refused_by(&self, refusal: Refusal) -> Failure {
+        let looks_like_text = !self.bytes.is_empty() && !self.bytes.contains(&0);
         let advice = match refusal.number {
-            1..=9 if !self.bytes.is_empty() && !self.bytes.contains(&0) => {
-                "; it looks like a text, of which `planner make` makes the network file"
+            10.. => return Failure::Refused(refusal.to_string()),
+            _ if looks_like_text => {
+                "it looks like a text, of which `planner make` makes the network file"
             }
-            1..=9 => "; copy the file again, or make it again with `planner make`",
-            _ => "",
+            _ => "copy the file again, or make it again with `planner make`",
         };
-        self.refused(format!("{refusal}{advice}"))
+        self.refused(format!("{refusal}; {advice}"))
     }
 }

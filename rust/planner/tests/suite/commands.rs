@@ -134,15 +134,13 @@ fn refused_files() {
 #[test]
 fn refused_questions() {
     let file = ring_4_with_prefix().to_bytes();
-    let no_link =
-        "planner: standard input: refused 12 4: there is no such link or end: the number \
-                   of links is 4, they count from 0, and an end is 0 or 1\n";
+    let no_link = "planner: refused 12 4: there is no such link or end: the number of links is 4, \
+                   they count from 0, and an end is 0 or 1\n";
     assert_eq!(fails(&["link", "-", "4", "0"], &file, 1), no_link);
     assert_eq!(fails(&["link", "-", "18446744073709551615", "0"], &file, 1), no_link);
     assert_eq!(fails(&["spaces", "-", "0", "2"], &file, 1), no_link);
-    let no_prefix =
-        "planner: standard input: refused 13 1: there is no such prefix: the number of \
-                     prefixes is 1, and they count from 0\n";
+    let no_prefix = "planner: refused 13 1: there is no such prefix: the number of prefixes is 1, \
+                     and they count from 0\n";
     assert_eq!(fails(&["prefix", "-", "0", "0", "1"], &file, 1), no_prefix);
     assert_eq!(fails(&["route", "-", "0", "0", "1", "3"], &file, 1), no_prefix);
 }
