@@ -176,7 +176,8 @@ mod tests {
     /// An empty folder of the test's own.
     fn folder(name: &str) -> PathBuf {
         let folder = std::env::temp_dir().join(format!("planner-{}-{name}", std::process::id()));
-        fs::create_dir(&folder).expect("no other test has it");
+        let _ = fs::remove_dir_all(&folder);
+        fs::create_dir(&folder).expect("it is made");
         folder
     }
 
