@@ -4,12 +4,39 @@
  * - It returns, for all inputs. It keeps nothing between calls, allocates nothing, and reads no clock and no file.
  * - A buffer is lent as a pointer and its length in cells, for the time of the call. The buffers of one call must not overlap each
  *   other. A null pointer with length 0 is a buffer of no cells.
- * - `file` is a network file as document 01 lays it out, and is never changed. Any bytes may be passed: they are judged first.
+ * - `file` is a network file (docs/SPECIFICATION.md, The network file), and is never changed. Any bytes may be passed: they are judged
+ *   first.
  * - `work` is the work area. Where the file has N routers, the first N * N cells receive the distances, row by row: cell x * N + t is
- *   the distance from router x to router t, and 4294967295 where no path leads. The cells after them stay as they were. A call that
- *   is refused by one of the rows 1 to 13 leaves every cell of every buffer as it was.
+ *   the distance from router x to router t, and 4294967295 where no path leads. The cells after them stay as they were. N is at most
+ *   64, so that 4096 cells are enough for every file, and 128 bytes for `route`.
  * - `link` is the number of a link in file order, `end` is 0 where its first router is S and 1 where its second is, and `prefix` is the
- *   number of a prefix in file order. */
+ *   number of a prefix in file order.
+ *
+ * Refusals. A call tries the rows that its comment names, in this order, each over the whole file before the next. The first that
+ * applies gives the answer's number and value. "The first such" is the lowest number; all numbers count from 0.
+ *
+ *   number  cause                                                                                    value
+ *   1       file: its length is 0, no multiple of 512, or over 6656                                  0
+ *   2       block: its check is wrong                                                                the first such block
+ *   3       head, which is block 0: kind, entries or block number is wrong, the routers are not 1    0
+ *           to 64, the links or the prefixes are over 128, or a byte that has to be zero is not
+ *   4       file: it has not as many blocks as its links and prefixes need                           the blocks needed
+ *   5       later block: number, kind or entries is wrong, or a byte between its last entry and its  the first such block
+ *           check is not zero
+ *   6       link: a router is not below N, it joins a router to itself, or a cost is 0               the first such link
+ *   7       link: it joins two routers that an earlier link joins                                    the first such later link
+ *   8       prefix: its attachments are 0 or over 8, the router of a used slot is not below N, or    the first such prefix
+ *           a byte that has to be zero is not, those of the unused slots among them
+ *   9       prefix: two of its attachments name the same router                                      the first such prefix
+ *   10      `work` has fewer than N * N cells                                                        N * N
+ *   11      `route` has fewer than 2 * N bytes                                                       2 * N
+ *   12      `link` is not below the number of links, or `end` is above 1                             the number of links
+ *   13      `prefix` is not below the number of prefixes                                             the number of prefixes
+ *   14      there is no repair: no pair of first hop and endpoint serves                             0
+ *
+ * A call that is refused by one of the rows 1 to 13 leaves every cell of every buffer as it was. Row 14 leaves the distances in the
+ * work area, and `route` as it was. docs/SPECIFICATION.md has an example of each row (Refusals), and says what S, E and the spaces are
+ * (Spaces), what a pair, its class and its tunnel cost are (Repairs), and how a route is played (Routes). */
 #ifndef PLANNER_H
 #define PLANNER_H
 
@@ -22,11 +49,11 @@ extern "C" {
 
 /* The kinds of an answer. */
 enum {
-    PLANNER_REFUSED = 0,     /* number and value are those of the table of refusals */
+    PLANNER_REFUSED = 0,     /* number and value are those of the table above */
     PLANNER_ACCEPTED = 1,    /* the file is sound */
     PLANNER_DONE = 2,        /* the distances are in the work area */
     PLANNER_UNREACHABLE = 3, /* the prefix cannot be reached from S */
-    PLANNER_UNTOUCHED = 4,   /* no packet from S to the prefix crosses the link */
+    PLANNER_UNTOUCHED = 4,   /* no packet from S to the prefix crosses the link from S to E */
     PLANNER_SET = 5,         /* value is the set */
     PLANNER_PAIR = 6,        /* first, endpoint, pair_class and cost are those of the pair */
     PLANNER_PLAYED = 7       /* value is the number of routers written */
@@ -35,7 +62,7 @@ enum {
 /* An answer. A field of which its kind does not speak is 0. */
 typedef struct {
     uint32_t kind;
-    uint32_t number;     /* the row of the table of refusals, 1 to 14 */
+    uint32_t number;     /* the row of the table above, 1 to 14 */
     uint64_t value;      /* the value of a refusal, a set, or a number of routers */
     size_t first;        /* the first hop */
     size_t endpoint;     /* the tunnel's endpoint */
@@ -47,7 +74,7 @@ typedef struct {
  * attached[p] attachments; its slot s is cell 8 * p + s of at (the router) and of own (its cost). Every other cell is 0. */
 typedef struct {
     uint32_t kind;   /* PLANNER_ACCEPTED or PLANNER_REFUSED */
-    uint32_t number; /* the row of the table of refusals, 1 to 9, or 0 */
+    uint32_t number; /* the row of the table above, 1 to 9, or 0 */
     uint64_t value;  /* the value of a refusal, or 0 */
     size_t routers;
     size_t links;
@@ -61,7 +88,7 @@ typedef struct {
     uint16_t own[1024];
 } planner_network;
 
-/* Judges a file and hands over its network. Of a refused file every number of the network is 0. */
+/* Judges a file and hands over its network: PLANNER_ACCEPTED, or a refusal by rows 1 to 9, and then every number of the network is 0. */
 planner_network planner_load(const uint8_t *file, size_t file_len);
 
 /* Copies the bytes of a link's entry into the 34 bytes at `entry`, and returns how many they are: 6, or 0 for a refused file or a link

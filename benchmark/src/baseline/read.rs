@@ -16,7 +16,7 @@ const PREFIX_ENTRY: usize = 34;
 /// Reads a file into a network that is blank. On a refusal the network is
 /// filled in part.
 pub fn read(file: &[u8], network: &mut Network) -> Result<(), Refusal> {
-    if file.is_empty() || !file.len().is_multiple_of(BLOCK) || file.len() > LARGEST {
+    if file.is_empty() || file.len() % BLOCK != 0 || file.len() > LARGEST {
         return Err(Refusal::new(1, 0));
     }
     if let Some(block) = file.chunks_exact(BLOCK).position(|block| !check_good(block)) {

@@ -6,7 +6,8 @@
 //! lent a work area, which receives the distances; [`WORK_CELLS`] cells are enough for every file.
 //!
 //! A question names a link and an end: 0 makes the link's router a the repairing router S and its
-//! router b the far router E, 1 the reverse.
+//! router b the far router E, 1 the reverse. docs/SPECIFICATION.md says what a network file holds,
+//! and what distances, spaces, repairs and routes are.
 //!
 //! ```
 //! use planner::{Pair, Played, ROUTE_BYTES, WORK_CELLS};

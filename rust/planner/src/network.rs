@@ -50,8 +50,8 @@ impl Prefix {
 /// A network. Routers, links and prefixes count from 0, links and prefixes in the order in which
 /// they were added.
 ///
-/// A network keeps the limits of document 01 at all times, so that [`Network::to_bytes`] makes a
-/// file that [`load`](crate::load) accepts.
+/// A network keeps the limits of a network file at all times (docs/SPECIFICATION.md, The network
+/// file), so that [`Network::to_bytes`] makes a file that [`load`](crate::load) accepts.
 #[derive(Clone, Debug, PartialEq, Eq, Hash)]
 pub struct Network {
     routers: u8,
@@ -132,7 +132,7 @@ impl Network {
     }
 }
 
-/// A limit of document 01 that a network would break.
+/// A limit of a network file that a network would break (docs/SPECIFICATION.md, The network file).
 #[derive(Clone, Copy, Debug, PartialEq, Eq, Hash)]
 pub enum LimitError {
     /// Not 1 to 64 routers.

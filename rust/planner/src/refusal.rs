@@ -3,7 +3,7 @@
 use std::error::Error;
 use std::fmt::{self, Display, Formatter};
 
-/// Why a file or a question is turned away: a row of document 01's table of refusals.
+/// Why a file or a question is turned away: a row of the table in docs/SPECIFICATION.md, Refusals.
 ///
 /// Its `Display` says the number, the value, and what they mean.
 #[derive(Clone, Copy, Debug, PartialEq, Eq, Hash)]

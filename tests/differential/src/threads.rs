@@ -10,9 +10,9 @@ pub fn each<Q: Sync, A: Send>(questions: &[Q], answer: impl Fn(&Q) -> A + Sync) 
     let next = AtomicUsize::new(0);
     let answers = Mutex::new(Vec::new());
     let work = || {
-        while let number = next.fetch_add(1, Ordering::Relaxed)
-            && let Some(question) = questions.get(number)
-        {
+        loop {
+            let number = next.fetch_add(1, Ordering::Relaxed);
+            let Some(question) = questions.get(number) else { break };
             let answer = answer(question);
             answers.lock().expect("no thread failed").push((number, answer));
         }

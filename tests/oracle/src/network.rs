@@ -103,7 +103,7 @@ pub struct Hop {
 impl Hop {
     /// Whether the hop goes from its link's router a to router b.
     pub fn is_forth(&self) -> bool {
-        self.number.is_multiple_of(2)
+        self.number % 2 == 0
     }
 
     /// The link that the hop is over.

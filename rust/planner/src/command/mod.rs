@@ -1,14 +1,17 @@
 //! The commands: what each prints, and with which exit status it ends.
 
+mod input;
+mod output;
 mod words;
 
+use input::Input;
+use output::same_file;
 use planner::{Pair, Played, Refusal, Repair, Set, LARGEST_FILE, ROUTE_BYTES, WORK_CELLS};
 use std::ffi::{OsStr, OsString};
 use std::fmt::Display;
-use std::fs::{self, File};
-use std::io::{self, Read, Write};
+use std::io::{self, Write};
 use std::process::ExitCode;
-use words::Asked;
+use words::{Asked, STDOUT};
 
 /// Why a command has no answer.
 pub enum Failure {
@@ -23,7 +26,7 @@ const UNTOUCHED: &str = "untouched: no packet from S to the prefix crosses the l
 
 /// Runs the command that the words name and prints its answer, or what is wrong.
 pub fn run(words: &[OsString]) -> ExitCode {
-    let (message, status) = match answer(words).and_then(|answer| write_to("-".as_ref(), &answer)) {
+    let (message, status) = match answer(words).and_then(|answer| write("-".as_ref(), &answer)) {
         Ok(()) => return ExitCode::SUCCESS,
         Err(Failure::Refused(message)) => (message, 1),
         Err(Failure::Usage(message)) => (message, 2),
@@ -44,7 +47,7 @@ fn answer(words: &[OsString]) -> Result<Vec<u8>, Failure> {
         "prefix" => prefix(&asked)?,
         "route" => route(&asked)?,
         "spaces" => spaces(&asked)?,
-        "text" => planner::text::print(&planner::load(&file(&asked)?).map_err(refused)?),
+        "text" => text(&asked)?,
         _ => make(&asked)?,
     };
     Ok(answer.into_bytes())
@@ -52,18 +55,21 @@ fn answer(words: &[OsString]) -> Result<Vec<u8>, Failure> {
 
 fn link(asked: &Asked) -> Result<String, Failure> {
     let (link, end) = (asked.number(1)?, asked.number(2)?);
-    let pair = planner::link_repair(&file(asked)?, &mut [0; WORK_CELLS], link, end);
-    or_no_pair(pair.map(line::<Pair>))
+    let file = file(asked)?;
+    let pair = planner::link_repair(&file.bytes, &mut [0; WORK_CELLS], link, end);
+    or_no_pair(&file, pair.map(line::<Pair>))
 }
 
 fn prefix(asked: &Asked) -> Result<String, Failure> {
     let (link, end, prefix) = (asked.number(1)?, asked.number(2)?, asked.number(3)?);
-    let repair = planner::prefix_repair(&file(asked)?, &mut [0; WORK_CELLS], link, end, prefix);
-    or_no_pair(repair.map(|repair| match repair {
+    let file = file(asked)?;
+    let repair = planner::prefix_repair(&file.bytes, &mut [0; WORK_CELLS], link, end, prefix);
+    let repair = repair.map(|repair| match repair {
         Repair::Unreachable => UNREACHABLE.to_string(),
         Repair::Untouched => UNTOUCHED.to_string(),
         Repair::Pair(pair) => line(pair),
-    }))
+    });
+    or_no_pair(&file, repair)
 }
 
 fn route(asked: &Asked) -> Result<String, Failure> {
@@ -72,12 +78,13 @@ fn route(asked: &Asked) -> Result<String, Failure> {
     let mut work = [0; WORK_CELLS];
     let mut route = [0; ROUTE_BYTES];
     let file = file(asked)?;
-    let played = planner::route(&file, &mut work, link, end, prefix, &choices, &mut route);
-    or_no_pair(played.map(|played| match played {
+    let played = planner::route(&file.bytes, &mut work, link, end, prefix, &choices, &mut route);
+    let played = played.map(|played| match played {
         Played::Unreachable => UNREACHABLE.to_string(),
         Played::Untouched => UNTOUCHED.to_string(),
         Played::Written(count) => format!("route {}\n", spaced(&route[..count])),
-    }))
+    });
+    or_no_pair(&file, played)
 }
 
 fn spaces(asked: &Asked) -> Result<String, Failure> {
@@ -85,69 +92,55 @@ fn spaces(asked: &Asked) -> Result<String, Failure> {
     let file = file(asked)?;
     let mut work = [0; WORK_CELLS];
     let spaces = [
-        ("P-space", planner::p_space(&file, &mut work, link, end)),
-        ("extended P-space", planner::extended_p_space(&file, &mut work, link, end)),
-        ("Q-space", planner::q_space(&file, &mut work, link, end)),
+        ("P-space", planner::p_space(&file.bytes, &mut work, link, end)),
+        ("extended P-space", planner::extended_p_space(&file.bytes, &mut work, link, end)),
+        ("Q-space", planner::q_space(&file.bytes, &mut work, link, end)),
     ];
-    spaces.into_iter().map(|(name, set)| Ok(set_line(name, set.map_err(refused)?))).collect()
+    let lines = spaces.into_iter().map(|(name, set)| Ok(set_line(name, set?)));
+    lines.collect::<Result<String, Refusal>>().map_err(|refusal| file.refused_by(refusal))
+}
+
+fn text(asked: &Asked) -> Result<String, Failure> {
+    let file = file(asked)?;
+    let network = planner::load(&file.bytes).map_err(|refusal| file.refused_by(refusal))?;
+    Ok(planner::text::print(&network))
 }
 
 /// Makes the network file of a text. It prints nothing unless the file is standard output.
 fn make(asked: &Asked) -> Result<String, Failure> {
-    let (text, to) = (asked.word(0), asked.word(1));
-    let bytes = read(text, u64::MAX)?;
-    let refused = |wrong: &dyn Display| Failure::Refused(format!("{}: {wrong}", named(text)));
-    let words = String::from_utf8(bytes).map_err(|wrong| refused(&wrong))?;
-    let network = planner::text::parse(&words).map_err(|wrong| refused(&wrong))?;
-    write_to(to, &network.to_bytes())?;
+    let (from, to) = (asked.word(0), asked.word(1));
+    let text = Input::read_text(from, to)?;
+    let network = planner::text::parse(text.text()?).map_err(|wrong| text.refused(wrong))?;
+    write(to, &network.to_bytes())?;
     Ok(String::new())
 }
 
 /// The network file that a command names with its first word. No more is read of it than shows that
 /// it is too long.
-fn file(asked: &Asked) -> Result<Vec<u8>, Failure> {
-    read(asked.word(0), LARGEST_FILE as u64 + 1)
+fn file(asked: &Asked) -> Result<Input, Failure> {
+    Input::read(asked.word(0), LARGEST_FILE + 1, "-".as_ref())
 }
 
-/// So many bytes of a file, or as many as it has.
-fn read(name: &OsStr, most: u64) -> Result<Vec<u8>, Failure> {
-    let mut bytes = Vec::new();
-    let read = match name.to_str() {
-        Some("-") => io::stdin().take(most).read_to_end(&mut bytes),
-        _ => File::open(name).and_then(|file| file.take(most).read_to_end(&mut bytes)),
+/// Writes bytes to standard output, also where a name such as `/dev/stdout` leads to it, or to a
+/// file.
+fn write(word: &OsStr, bytes: &[u8]) -> Result<(), Failure> {
+    let standard = OsStr::new("-");
+    let to_standard = word == standard || same_file(STDOUT.path(word), STDOUT.path(standard));
+    let (name, written) = if to_standard {
+        let written = io::stdout().write_all(bytes).and_then(|()| io::stdout().flush());
+        (STDOUT.name(standard), written.map_err(|wrong| wrong.to_string()))
+    } else {
+        (STDOUT.name(word), output::save(word.as_ref(), bytes))
     };
-    let unreadable = |wrong| Failure::Usage(format!("{} cannot be read: {wrong}", named(name)));
-    read.map_err(unreadable)?;
-    Ok(bytes)
-}
-
-fn write_to(name: &OsStr, bytes: &[u8]) -> Result<(), Failure> {
-    let written = match name.to_str() {
-        Some("-") => io::stdout().write_all(bytes).and_then(|()| io::stdout().flush()),
-        _ => fs::write(name, bytes),
-    };
-    let name = if name == "-" { "standard output".into() } else { named(name) };
     written.map_err(|wrong| Failure::Usage(format!("{name} cannot be written: {wrong}")))
 }
 
-/// The name of a file that is read, for a message.
-fn named(name: &OsStr) -> String {
-    match name.to_str() {
-        Some("-") => "standard input".to_string(),
-        _ => format!("`{}`", name.to_string_lossy()),
-    }
-}
-
 /// That no pair serves is an answer too; any other refusal is none.
-fn or_no_pair(answer: Result<String, Refusal>) -> Result<String, Failure> {
+fn or_no_pair(file: &Input, answer: Result<String, Refusal>) -> Result<String, Failure> {
     match answer {
         Err(refusal) if refusal.number == Refusal::NO_PAIR => Ok(line(refusal)),
-        other => other.map_err(refused),
+        other => other.map_err(|refusal| file.refused_by(refusal)),
     }
-}
-
-fn refused(refusal: Refusal) -> Failure {
-    Failure::Refused(refusal.to_string())
 }
 
 /// A set as a line: its size, and its routers where it has some.

@@ -2,6 +2,7 @@
 
 use super::Failure;
 use std::ffi::{OsStr, OsString};
+use std::path::Path;
 
 /// What `planner --help` prints.
 pub const HELP: &str = "\
@@ -17,8 +18,10 @@ planner tells where packets go in the moment after a link drops.
   planner --help                        this text
 
 FILE is a network file and TEXT the readable text of one. The word - stands for
-standard input, and for standard output as the FILE of make, which overwrites a
-file that is there.
+standard input, and for standard output as the FILE of make.
+
+make replaces a network file that is there, once the new one is written whole.
+It replaces no other file: remove that first.
 
 LINK and PREFIX count from 0 in the order of the file. END 0 asks for the link's
 first router, END 1 for its second: that router is S, which has to send packets
@@ -36,6 +39,31 @@ Exit status: 0 for an answer, which may be that there is no repair; 1 where the
 file, the text or the question is refused; 2 for wrong words, and for a file
 that cannot be read or written.
 ";
+
+/// What the word `-` stands for, in place of the name of a file.
+pub struct Standard {
+    path: &'static str,
+    name: &'static str,
+}
+
+pub const STDIN: Standard = Standard { path: "/dev/stdin", name: "standard input" };
+pub const STDOUT: Standard = Standard { path: "/dev/stdout", name: "standard output" };
+
+impl Standard {
+    /// The path of what a word names.
+    pub fn path<'a>(&self, word: &'a OsStr) -> &'a Path {
+        Path::new(if word == "-" { self.path.as_ref() } else { word })
+    }
+
+    /// What a word names, for a message.
+    pub fn name(&self, word: &OsStr) -> String {
+        if word == "-" {
+            self.name.to_string()
+        } else {
+            format!("`{}`", word.to_string_lossy())
+        }
+    }
+}
 
 /// A command and the words that it takes.
 struct Form {
@@ -87,6 +115,9 @@ impl<'a> Asked<'a> {
         };
         if let Some(missing) = form.words.get(words.len()) {
             return Err(form.failure(&format!("{missing} is missing")));
+        }
+        if let Some(empty) = words.iter().take(form.words.len()).position(|word| word.is_empty()) {
+            return Err(form.failure(&format!("{} is empty", form.words[empty])));
         }
         match words.get(form.words.len()) {
             Some(word) if !form.choices => {

@@ -1,64 +1,12 @@
 //! The command as a child process: what it prints, and its exit status.
 
-use crate::common::{ring, ring_4_with_prefix, sound_texts, texts, with_prefix_at};
+use crate::common::{
+    answers, fails, ring, ring_4_with_prefix, run, scratch, sound_texts, text_of, texts,
+    with_prefix_at, RING_4,
+};
 use planner::{text, Link, Network};
 use std::fs;
-use std::io::Write;
-use std::path::PathBuf;
-use std::process::{Command, Output, Stdio};
-
-/// Runs the command with these words and this standard input.
-fn run(words: &[&str], input: &[u8]) -> Output {
-    let mut child = Command::new(env!("CARGO_BIN_EXE_planner"))
-        .args(words)
-        .stdin(Stdio::piped())
-        .stdout(Stdio::piped())
-        .stderr(Stdio::piped())
-        .spawn()
-        .expect("the command starts");
-    // A command may end before it has read its input.
-    let _ = child.stdin.take().expect("a pipe").write_all(input);
-    child.wait_with_output().expect("the command ends")
-}
-
-fn text_of(bytes: Vec<u8>) -> String {
-    String::from_utf8(bytes).expect("text")
-}
-
-/// What the command answers, with exit status 0 and nothing on standard error.
-fn answers(words: &[&str], input: &[u8]) -> String {
-    let output = run(words, input);
-    assert_eq!(text_of(output.stderr), "", "{words:?}");
-    assert_eq!(output.status.code(), Some(0), "{words:?}");
-    text_of(output.stdout)
-}
-
-/// What the command says on standard error, with this exit status and no answer.
-fn fails(words: &[&str], input: &[u8], status: i32) -> String {
-    let output = run(words, input);
-    assert_eq!(text_of(output.stdout), "", "{words:?}");
-    assert_eq!(output.status.code(), Some(status), "{words:?}");
-    text_of(output.stderr)
-}
-
-/// A file of the suite's own, with these bytes where they are given.
-fn scratch(name: &str, bytes: Option<&[u8]>) -> PathBuf {
-    let path = PathBuf::from(env!("CARGO_TARGET_TMPDIR")).join(name);
-    match bytes {
-        Some(bytes) => fs::write(&path, bytes).expect("it is written"),
-        None => drop(fs::remove_file(&path)),
-    }
-    path
-}
-
-const RING_4: &str = "\
-routers 4
-link 0 1 1 1
-link 1 2 1 1
-link 2 3 1 1
-link 3 0 1 1
-prefix 1:0 2:0
-";
+use std::process::{Command, Stdio};
 
 #[test]
 fn link() {
@@ -133,6 +81,9 @@ fn make_and_text() {
     // What is there is overwritten, also where it is longer.
     assert_eq!(answers(&["make", "-", to], b"routers 1\n"), "");
     assert_eq!(answers(&["text", to], &[]), "routers 1\n");
+    // The mark that some editors put first is no part of the text.
+    assert_eq!(answers(&["make", "-", to], "\u{feff}routers 2\n".as_bytes()), "");
+    assert_eq!(answers(&["text", to], &[]), "routers 2\n");
     let made = run(&["make", "-", "-"], RING_4.as_bytes());
     assert_eq!(made.stdout, ring_4_with_prefix().to_bytes());
     assert_eq!(answers(&["text", "-"], &made.stdout), RING_4);
@@ -155,8 +106,10 @@ fn make_then_text_of_every_sound_text() {
 
 #[test]
 fn refused_files() {
-    let empty = "planner: refused 1 0: the file is empty, its length is no multiple of 512, or it \
-                 is over 6656 bytes\n";
+    let length = "planner: standard input: refused 1 0: the file is empty, its length is no \
+                  multiple of 512, or it is over 6656 bytes";
+    let again = "; copy the file again, or make it again with `planner make`\n";
+    let check = "planner: standard input: refused 2 1: the check of block 1 is wrong";
     let mut spoiled = ring(4).to_bytes();
     spoiled[600] ^= 1;
     for words in [
@@ -166,11 +119,16 @@ fn refused_files() {
         &["spaces", "-", "0", "0"],
         &["text", "-"],
     ] {
-        assert_eq!(fails(words, &[], 1), empty);
-        assert_eq!(fails(words, &vec![0; 200_000], 1), empty);
-        let check = "planner: refused 2 1: the check of block 1 is wrong\n";
-        assert_eq!(fails(words, &spoiled, 1), check);
+        assert_eq!(fails(words, &[], 1), format!("{length}{again}"));
+        assert_eq!(fails(words, &vec![0; 200_000], 1), format!("{length}{again}"));
+        assert_eq!(fails(words, &spoiled, 1), format!("{check}{again}"));
+        // A text in place of the file that is made of it.
+        let text = "; it looks like a text, of which `planner make` makes the network file\n";
+        assert_eq!(fails(words, RING_4.as_bytes(), 1), format!("{length}{text}"));
     }
+    let path = scratch("refused_file.net", Some(&spoiled));
+    let named = format!("planner: `{}`: refused 2 1: ", path.display());
+    assert!(fails(&["text", path.to_str().unwrap()], &[], 1).starts_with(&named));
 }
 
 #[test]
@@ -195,7 +153,16 @@ fn refused_texts() {
         "planner: standard input: line 2: `x`: expected the cost from A to B, a number from \
                 1 to 65535\n";
     assert_eq!(fails(&words, b"routers 2\nlink 0 1 x 1\n", 1), cost);
-    assert!(fails(&words, b"routers \xff\n", 1).contains("standard input: invalid utf-8"));
+    let encoding = "planner: standard input: line 2: it is not written in UTF-8; save the text as \
+                    UTF-8\n";
+    assert_eq!(fails(&words, b"routers 2\n# \xff\n", 1), encoding);
+    let zero =
+        "planner: standard input: it holds a zero byte, so it is no text; name the text first \
+                and the network file second\n";
+    assert_eq!(fails(&words, &ring(4).to_bytes(), 1), zero);
+    let long = "planner: standard input: it has more bytes than the text of a network may have, \
+                1048576\n";
+    assert_eq!(fails(&words, &vec![b'#'; (1 << 20) + 1], 1), long);
     assert!(!to.exists(), "a refused text makes no file");
     let from = scratch("refused.txt", Some(b"routers 65\n"));
     let from = from.to_str().unwrap();
@@ -239,6 +206,9 @@ fn wrong_words() {
         (&["text", "-", "-"], "`-` is one word too many", "usage: planner text FILE\n"),
         (&["make"], "TEXT is missing", "usage: planner make TEXT FILE\n"),
         (&["make", "-"], "FILE is missing", "usage: planner make TEXT FILE\n"),
+        (&["make", "-", ""], "FILE is empty", "usage: planner make TEXT FILE\n"),
+        (&["link", "", "0", "0"], "FILE is empty", link),
+        (&["link", "-", "", "0"], "LINK is empty", link),
     ] {
         assert_eq!(fails(words, &[], 2), format!("planner: {wrong}\n{usage}"));
     }
@@ -251,7 +221,7 @@ fn numbers_that_are_none() {
         (["x", "0", "0", "0"], format!("LINK is `x`, expected a number from 0 to {most}")),
         (["0", "+1", "0", "0"], format!("END is `+1`, expected a number from 0 to {most}")),
         (["0", "0", "-1", "0"], format!("PREFIX is `-1`, expected a number from 0 to {most}")),
-        (["", "0", "0", "0"], format!("LINK is ``, expected a number from 0 to {most}")),
+        (["0", "0", "0", ""], "CHOICE is ``, expected a number from 0 to 255".to_string()),
         (["0", "0", "0", "256"], "CHOICE is `256`, expected a number from 0 to 255".to_string()),
         (["0", "0", "0", "one"], "CHOICE is `one`, expected a number from 0 to 255".to_string()),
     ] {
@@ -265,15 +235,13 @@ fn numbers_that_are_none() {
 }
 
 #[test]
-fn files_that_cannot_be_read_or_written() {
+fn files_that_cannot_be_read() {
     let missing = scratch("missing/file.net", None);
     let missing = missing.to_str().unwrap();
     for words in [&["link", missing, "0", "0"][..], &["text", missing], &["make", missing, "-"]] {
         let wrong = fails(words, &[], 2);
         assert!(wrong.starts_with(&format!("planner: `{missing}` cannot be read: ")), "{wrong}");
     }
-    let wrong = fails(&["make", "-", missing], b"routers 1", 2);
-    assert!(wrong.starts_with(&format!("planner: `{missing}` cannot be written: ")), "{wrong}");
     let folder = env!("CARGO_TARGET_TMPDIR");
     let wrong = fails(&["text", folder], &[], 2);
     assert!(wrong.starts_with(&format!("planner: `{folder}` cannot be read: ")), "{wrong}");

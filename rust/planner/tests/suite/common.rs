@@ -2,7 +2,9 @@
 
 use planner::{Attachment, Link, Network};
 use std::fs;
+use std::io::Write;
 use std::path::{Path, PathBuf};
+use std::process::{Command, Output, Stdio};
 
 /// The root of the repository: this package lies in its `rust/planner`.
 pub fn root() -> PathBuf {
@@ -50,4 +52,58 @@ pub fn texts(folder: &str) -> Vec<Text> {
 /// The texts of sound networks: the stored cases and the examples.
 pub fn sound_texts() -> Vec<Text> {
     [texts("tests/cases"), texts("examples")].into_iter().flatten().collect()
+}
+
+/// The text of ring 4 with its prefix.
+pub const RING_4: &str = "\
+routers 4
+link 0 1 1 1
+link 1 2 1 1
+link 2 3 1 1
+link 3 0 1 1
+prefix 1:0 2:0
+";
+
+/// Runs the command with these words and this standard input.
+pub fn run(words: &[&str], input: &[u8]) -> Output {
+    let mut child = Command::new(env!("CARGO_BIN_EXE_planner"))
+        .args(words)
+        .stdin(Stdio::piped())
+        .stdout(Stdio::piped())
+        .stderr(Stdio::piped())
+        .spawn()
+        .expect("the command starts");
+    // A command may end before it has read its input.
+    let _ = child.stdin.take().expect("a pipe").write_all(input);
+    child.wait_with_output().expect("the command ends")
+}
+
+pub fn text_of(bytes: Vec<u8>) -> String {
+    String::from_utf8(bytes).expect("text")
+}
+
+/// What the command answers, with exit status 0 and nothing on standard error.
+pub fn answers(words: &[&str], input: &[u8]) -> String {
+    let output = run(words, input);
+    assert_eq!(text_of(output.stderr), "", "{words:?}");
+    assert_eq!(output.status.code(), Some(0), "{words:?}");
+    text_of(output.stdout)
+}
+
+/// What the command says on standard error, with this exit status and no answer.
+pub fn fails(words: &[&str], input: &[u8], status: i32) -> String {
+    let output = run(words, input);
+    assert_eq!(text_of(output.stdout), "", "{words:?}");
+    assert_eq!(output.status.code(), Some(status), "{words:?}");
+    text_of(output.stderr)
+}
+
+/// A file of the suite's own, with these bytes where they are given.
+pub fn scratch(name: &str, bytes: Option<&[u8]>) -> PathBuf {
+    let path = PathBuf::from(env!("CARGO_TARGET_TMPDIR")).join(name);
+    match bytes {
+        Some(bytes) => fs::write(&path, bytes).expect("it is written"),
+        None => drop(fs::remove_file(&path)),
+    }
+    path
 }

@@ -7,6 +7,7 @@ mod example_in_c;
 mod files;
 mod limits;
 mod pages;
+mod outputs;
 mod refusals;
 mod texts;
 mod worked;

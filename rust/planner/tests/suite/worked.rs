@@ -1,4 +1,5 @@
-//! The networks that document 01 works by hand. All questions but one are about link 0, end 0.
+//! The networks of docs/SPECIFICATION.md, Networks worked by hand. All questions but one are about
+//! link 0, end 0.
 
 use crate::common::{ring, ring_4_with_prefix, with_prefix_at};
 use planner::{Link, Network, Pair, Played, Refusal, Repair, Set, ROUTE_BYTES, WORK_CELLS};

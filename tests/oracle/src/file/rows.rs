@@ -48,7 +48,7 @@ fn length(ctx: &Context, length: usize) -> Option<Refusal> {
         ctx,
         &[
             (Cause::LengthZero, length == 0),
-            (Cause::LengthUneven, !length.is_multiple_of(BLOCK)),
+            (Cause::LengthUneven, length % BLOCK != 0),
             (Cause::LengthOver, length > most),
         ],
     )?;

@@ -56,9 +56,8 @@ impl Brute {
         }
         let mut least = FAR;
         for z in 0..self.routers {
-            if let Some(cost) = self.cost[x][z]
-                && !before.contains(&z)
-            {
+            let cost = self.cost[x][z].filter(|_| !before.contains(&z));
+            if let Some(cost) = cost {
                 let rest = self.least_path(z, t, &[before, &[x]].concat());
                 least = least.min(rest.saturating_add(cost));
             }
@@ -110,10 +109,8 @@ impl Brute {
         }
         let mut may_go_on = may_end(here);
         for z in 0..self.routers {
-            if let Some(cost) = self.cost[here][z]
-                && may_step(here)
-                && remaining(z).saturating_add(cost) == remaining(here)
-            {
+            let tight = |cost: u64| remaining(z).saturating_add(cost) == remaining(here);
+            if may_step(here) && self.cost[here][z].is_some_and(tight) {
                 may_go_on = true;
                 let longer = [begun.as_slice(), &[z]].concat();
                 walks.extend(self.walks(longer, remaining, may_end, may_step));

@@ -21,9 +21,8 @@ fn the_corpus_meets_everything() {
             let outcome = opened.ask(question, lent);
             met.extend(causes(&opened, question, lent.work.len(), lent.route.len()));
             met.insert(kind(&outcome.answer));
-            if let Question::Space { space: Space::ExtendedP, .. } = question
-                && half_blind.ask(question, lent).answer != outcome.answer
-            {
+            let extended = matches!(question, Question::Space { space: Space::ExtendedP, .. });
+            if extended && half_blind.ask(question, lent).answer != outcome.answer {
                 met.insert("a router decided by E to S alone".to_string());
             }
             if let Answer::Pair(pair) = outcome.answer {
