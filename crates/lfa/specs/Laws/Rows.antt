@@ -8,12 +8,11 @@ use mathlib.Core.Bool.{Bool, true, false}
 use mathlib.Core.Option.{Option, none, some}
 use mathlib.Core.List.{List, [], _∷_, _++_, map, List·Memᴰ, List·Memᴰ·head, List·Memᴰ·tail, List·Memᴰ·cases-cons, List·Memᴰ·not-nil, Memᴰ·append-left, Memᴰ·append-right}
 use native.Mathlib.Omega.{arith}
-use lib.ListN.{getD}
 use Rattle.lfa.specs.Lists.{select, keepIf, anyOf, memberOf}
 use Rattle.lfa.specs.File.{Bytes, byteAt, blocksIn, blocksNeeded, linksOf, prefixesOf, checkGood, blockGood, linkGood, linkNew, prefixGood, routersNew}
 use Rattle.lfa.specs.Question.{Question, Call, load, fill, space, linkRepair, prefixRepair, route, aFile, inputsOf, inputNumber, hasInput, loading}
 use Rattle.lfa.specs.Refusal.{FileRow, badLength, badCheck, badHead, badBlockCount, badBlock, badLink, parallelLink, badPrefix, routerTwice, fileReturned, fileRows, Row, ofFile, shortArea, shortBuffer, noSuchLink, noSuchPrefix, noPair, returned, entryOf, questionRows, allRows, tries, rowsTried, Decided, decided, firstRow, inFile, fileRefusal, refusalOf, Accepted}
-use Rattle.lfa.specs.Laws.List.{getD-in, select-gives, select-make, none-failing, all-passing, unless-none, unless-good}
+use Rattle.lfa.specs.Laws.List.{select-gives, select-make, none-failing, all-passing, unless-none, unless-good}
 use Rattle.lfa.specs.Laws.File.Passes.{AreBytes, Passes}
 
 -- ---- the first row that applies
@@ -163,17 +162,20 @@ load-passes b e = loaded-rows (loading b) e
 
 -- ---- every row stands in the list
 
+first-listed : {R : Type 0} {r : R} {rows : List R} → List·Memᴰ r (r ∷ rows)
+first-listed = List·Memᴰ·head refl
+
 file-row-listed : (r : FileRow) → List·Memᴰ r fileRows
 unfolding fileRows
-file-row-listed badLength = getD-in fileRows 0 badLength (omega arith)
-file-row-listed badCheck = getD-in fileRows 1 badLength (omega arith)
-file-row-listed badHead = getD-in fileRows 2 badLength (omega arith)
-file-row-listed badBlockCount = getD-in fileRows 3 badLength (omega arith)
-file-row-listed badBlock = getD-in fileRows 4 badLength (omega arith)
-file-row-listed badLink = getD-in fileRows 5 badLength (omega arith)
-file-row-listed parallelLink = getD-in fileRows 6 badLength (omega arith)
-file-row-listed badPrefix = getD-in fileRows 7 badLength (omega arith)
-file-row-listed routerTwice = getD-in fileRows 8 badLength (omega arith)
+file-row-listed badLength = search (first-listed, List·Memᴰ·tail) depth 12
+file-row-listed badCheck = search (first-listed, List·Memᴰ·tail) depth 12
+file-row-listed badHead = search (first-listed, List·Memᴰ·tail) depth 12
+file-row-listed badBlockCount = search (first-listed, List·Memᴰ·tail) depth 12
+file-row-listed badBlock = search (first-listed, List·Memᴰ·tail) depth 12
+file-row-listed badLink = search (first-listed, List·Memᴰ·tail) depth 12
+file-row-listed parallelLink = search (first-listed, List·Memᴰ·tail) depth 12
+file-row-listed badPrefix = search (first-listed, List·Memᴰ·tail) depth 12
+file-row-listed routerTwice = search (first-listed, List·Memᴰ·tail) depth 12
 
 of-file-listed : (r : FileRow) (rows : List FileRow) → List·Memᴰ r rows → List·Memᴰ (ofFile r) (map ofFile rows)
 of-file-listed r [] m = absurd (List·Memᴰ·not-nil m)
@@ -183,18 +185,18 @@ of-file-listed r (s ∷ rows) m = go (of-file-listed r rows) (List·Memᴰ·case
     go rest (inl e) = List·Memᴰ·head (ap ofFile e)
     go rest (inr m) = List·Memᴰ·tail (rest m)
 
-question-row-listed : (k : ℕ) → k < 5 → List·Memᴰ (getD questionRows k noPair) allRows
-unfolding allRows questionRows
-question-row-listed k h = Memᴰ·append-right (map ofFile fileRows) (getD-in questionRows k noPair h)
+in-questions : {r : Row} → List·Memᴰ r questionRows → List·Memᴰ r allRows
+unfolding allRows
+in-questions m = Memᴰ·append-right (map ofFile fileRows) m
 
 row-listed : (r : Row) → List·Memᴰ r allRows
 unfolding allRows questionRows
 row-listed (ofFile r) = Memᴰ·append-left questionRows (of-file-listed r fileRows (file-row-listed r))
-row-listed shortArea = question-row-listed 0 (omega arith)
-row-listed shortBuffer = question-row-listed 1 (omega arith)
-row-listed noSuchLink = question-row-listed 2 (omega arith)
-row-listed noSuchPrefix = question-row-listed 3 (omega arith)
-row-listed noPair = question-row-listed 4 (omega arith)
+row-listed shortArea = in-questions (search (first-listed, List·Memᴰ·tail) depth 8)
+row-listed shortBuffer = in-questions (search (first-listed, List·Memᴰ·tail) depth 8)
+row-listed noSuchLink = in-questions (search (first-listed, List·Memᴰ·tail) depth 8)
+row-listed noSuchPrefix = in-questions (search (first-listed, List·Memᴰ·tail) depth 8)
+row-listed noPair = in-questions (search (first-listed, List·Memᴰ·tail) depth 8)
 
 -- A call tries just the rows that it has inputs for: no row is left out of the list from which they are selected.
 pub tried-rows : (c : Call) (r : Row) → List·Memᴰ r (rowsTried c) ↔ (hasInput c (entryOf r .input) ≡ true)
