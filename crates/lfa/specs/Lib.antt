@@ -10,6 +10,7 @@ pub mod Route
 pub mod Question
 pub mod Refusal
 pub mod Answer
+pub mod Contract
 pub mod HandWorked
 pub mod Demands
 pub mod Laws

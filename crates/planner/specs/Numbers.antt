@@ -1,7 +1,10 @@
 -- What the calls answer, as numbers for programs in other languages: one struct for every answer, and one for a network.
 -- Assumes nothing.
 use Prim.Native.Nat.{ℕ}
-use Rattle.lfa.specs.Answer.{Answer, refused, accepted, done, untouched, unreached, set, repair, played}
+use mathlib.Core.Path.{_≡_}
+use mathlib.Core.List.{List}
+use Rattle.lfa.specs.Question.{Question}
+use Rattle.lfa.specs.Answer.{Answer, refused, accepted, done, untouched, unreached, set, repair, played, answerTo, workAfter, routeAfter}
 use Rattle.network_file.specs.declared.network.Network as file
 use Rattle.planner.specs.declared.answer.Numbers.{Numbers}
 use Rattle.planner.specs.declared.LoadedNetwork.{LoadedNetwork}
@@ -39,3 +42,12 @@ loadedAs answer net =
       at = net .at;
       own = net .own;
     }
+
+-- What a C function owes for a question: its answer as numbers, and what each lent buffer holds at exit.
+pub record Numbered (q : Question) (r : Numbers) (area after : List ℕ) : Type 0 where
+  pub numbers-are : r ≡ numbersOf (answerTo q)
+  pub area-is : after ≡ workAfter q area
+
+pub record NumberedRoute (q : Question) (r : Numbers) (area after buffer written : List ℕ) : Type 0 where
+  pub numbered : Numbered q r area after
+  pub buffer-is : written ≡ routeAfter q buffer

@@ -22,9 +22,9 @@ ghost use mathlib.Core.Path.{_≡_};
 ghost use lib.ListN.{length};
 ghost use Rattle.lfa.specs.Space.{pSpace, extendedP, qSpace, sizeOf};
 ghost use Rattle.lfa.specs.Question.{loading, filling, askSpace, askLink, askPrefix, askRoute};
-ghost use Rattle.lfa.specs.Answer.{answerTo, workAfter, routeAfter, networkLoaded, linkPart, prefixPart};
+ghost use Rattle.lfa.specs.Answer.{answerTo, networkLoaded, linkPart, prefixPart};
 ghost use Rattle.network_file.specs.Struct.{structOf};
-ghost use Rattle.planner.specs.Numbers.{numbersOf, loadedAs};
+ghost use Rattle.planner.specs.Numbers.{numbersOf, loadedAs, Numbered, NumberedRoute};
 ghost use Rattle.planner.specs.Copied.{copiedTo};
 
 pub mod answer;
@@ -104,8 +104,7 @@ pub extern "C" fn planner_prefix_entry(file: &[u8], prefix: usize, entry: &mut [
 // Fills the work area with the distances between the routers of a file.
 #[no_mangle]
 pub extern "C" fn planner_distances(file: &[u8], work: &mut [u32]) -> Numbers
-    ensures { λ r. ⌜ (r ≡ numbersOf (answerTo (filling (now (file .entry)) (length (now (work .entry))))))
-        × (now (work .exit) ≡ workAfter (filling (now (file .entry)) (length (now (work .entry)))) (now (work .entry))) ⌝ }
+    ensures { λ r. ⌜ Numbered (filling (now (file .entry)) (length (now (work .entry)))) r (now (work .entry)) (now (work .exit)) ⌝ }
 {
     filled_numbers(distances(file, work))
 }
@@ -113,8 +112,7 @@ pub extern "C" fn planner_distances(file: &[u8], work: &mut [u32]) -> Numbers
 // P space, as a set.
 #[no_mangle]
 pub extern "C" fn planner_p_space(file: &[u8], work: &mut [u32], link: usize, end: usize) -> Numbers
-    ensures { λ r. ⌜ (r ≡ numbersOf (answerTo (askSpace pSpace (now (file .entry)) (length (now (work .entry))) link end)))
-        × (now (work .exit) ≡ workAfter (askSpace pSpace (now (file .entry)) (length (now (work .entry))) link end) (now (work .entry))) ⌝ }
+    ensures { λ r. ⌜ Numbered (askSpace pSpace (now (file .entry)) (length (now (work .entry))) link end) r (now (work .entry)) (now (work .exit)) ⌝ }
 {
     space_numbers(p_space(file, work, link, end))
 }
@@ -127,8 +125,7 @@ pub extern "C" fn planner_extended_p_space(
     link: usize,
     end: usize,
 ) -> Numbers
-    ensures { λ r. ⌜ (r ≡ numbersOf (answerTo (askSpace extendedP (now (file .entry)) (length (now (work .entry))) link end)))
-        × (now (work .exit) ≡ workAfter (askSpace extendedP (now (file .entry)) (length (now (work .entry))) link end) (now (work .entry))) ⌝ }
+    ensures { λ r. ⌜ Numbered (askSpace extendedP (now (file .entry)) (length (now (work .entry))) link end) r (now (work .entry)) (now (work .exit)) ⌝ }
 {
     space_numbers(extended_p_space(file, work, link, end))
 }
@@ -136,8 +133,7 @@ pub extern "C" fn planner_extended_p_space(
 // Q space, as a set.
 #[no_mangle]
 pub extern "C" fn planner_q_space(file: &[u8], work: &mut [u32], link: usize, end: usize) -> Numbers
-    ensures { λ r. ⌜ (r ≡ numbersOf (answerTo (askSpace qSpace (now (file .entry)) (length (now (work .entry))) link end)))
-        × (now (work .exit) ≡ workAfter (askSpace qSpace (now (file .entry)) (length (now (work .entry))) link end) (now (work .entry))) ⌝ }
+    ensures { λ r. ⌜ Numbered (askSpace qSpace (now (file .entry)) (length (now (work .entry))) link end) r (now (work .entry)) (now (work .exit)) ⌝ }
 {
     space_numbers(q_space(file, work, link, end))
 }
@@ -158,8 +154,7 @@ pub extern "C" fn planner_link_repair(
     link: usize,
     end: usize,
 ) -> Numbers
-    ensures { λ r. ⌜ (r ≡ numbersOf (answerTo (askLink (now (file .entry)) (length (now (work .entry))) link end)))
-        × (now (work .exit) ≡ workAfter (askLink (now (file .entry)) (length (now (work .entry))) link end) (now (work .entry))) ⌝ }
+    ensures { λ r. ⌜ Numbered (askLink (now (file .entry)) (length (now (work .entry))) link end) r (now (work .entry)) (now (work .exit)) ⌝ }
 {
     repair_numbers(link_repair(file, work, link, end))
 }
@@ -173,8 +168,7 @@ pub extern "C" fn planner_prefix_repair(
     end: usize,
     prefix: usize,
 ) -> Numbers
-    ensures { λ r. ⌜ (r ≡ numbersOf (answerTo (askPrefix (now (file .entry)) (length (now (work .entry))) link end prefix)))
-        × (now (work .exit) ≡ workAfter (askPrefix (now (file .entry)) (length (now (work .entry))) link end prefix) (now (work .entry))) ⌝ }
+    ensures { λ r. ⌜ Numbered (askPrefix (now (file .entry)) (length (now (work .entry))) link end prefix) r (now (work .entry)) (now (work .exit)) ⌝ }
 {
     repair_numbers(prefix_repair(file, work, link, end, prefix))
 }
@@ -190,9 +184,8 @@ pub extern "C" fn planner_route(
     choices: &[u8],
     buffer: &mut [u8],
 ) -> Numbers
-    ensures { λ r. ⌜ (r ≡ numbersOf (answerTo (askRoute (now (file .entry)) (length (now (work .entry))) (length (now (buffer .entry))) link end prefix (now (choices .entry)))))
-        × (now (work .exit) ≡ workAfter (askRoute (now (file .entry)) (length (now (work .entry))) (length (now (buffer .entry))) link end prefix (now (choices .entry))) (now (work .entry)))
-        × (now (buffer .exit) ≡ routeAfter (askRoute (now (file .entry)) (length (now (work .entry))) (length (now (buffer .entry))) link end prefix (now (choices .entry))) (now (buffer .entry))) ⌝ }
+    ensures { λ r. ⌜ NumberedRoute (askRoute (now (file .entry)) (length (now (work .entry))) (length (now (buffer .entry))) link end prefix (now (choices .entry)))
+        r (now (work .entry)) (now (work .exit)) (now (buffer .entry)) (now (buffer .exit)) ⌝ }
 {
     played_numbers(route(file, work, link, end, prefix, choices, buffer))
 }

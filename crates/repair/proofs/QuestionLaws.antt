@@ -13,7 +13,8 @@ use Rattle.lfa.specs.Distance.{filled}
 use Rattle.lfa.specs.Space.{Space}
 use Rattle.lfa.specs.Question.{Question, workArea, routeBuffer, aLink, aPrefix, lent, inputsOf, inputNumber, hasInput, HasInput, networkAsked, filling, askSpace, askLink, askPrefix}
 use Rattle.lfa.specs.Refusal.{shortArea, noSuchLink, noSuchPrefix, decided, entryOf, fileRefusal, Posed}
-use Rattle.lfa.specs.Answer.{done, refusal, computed, answerTo, workAfter}
+use Rattle.lfa.specs.Answer.{done, refusal, computed}
+use Rattle.lfa.specs.Contract.{Answered}
 use Rattle.lfa.specs.Laws.Test.{and-left, and-right}
 use Rattle.lfa.specs.Laws.Rows.{accepted-passes-rows}
 use Rattle.lfa.specs.Laws.Causes.{link-fails}
@@ -92,7 +93,7 @@ area-turned-away {b} {area} {network} t h q a =
 -- ---- the distances call, which nothing turns away any more
 
 pub area-filled : {b : Bytes} {area : ℕ} {network : Network} → Taken b network → network .routers * network .routers ≤ area → (w : List ℕ) →
-    (done ≡ answerTo (filling b area)) × (filled (networkOf b) w ≡ workAfter (filling b area) w)
+    Answered (filling b area) done w (filled (networkOf b) w)
 unfolding computed networkAsked filling networkOf hasInput inputsOf inputNumber memberOf anyOf
 area-filled {b} {area} {network} t h w =
     let posed : Posed (filling b area) = record {
@@ -103,4 +104,4 @@ area-filled {b} {area} {network} t h w =
       end = λ i. absurd (false≢true i);
       prefix = λ i. absurd (false≢true i);
     } in
-    (sym (posed-answer (filling b area) posed), sym (posed-work (filling b area) posed w))
+    record { answer-is = sym (posed-answer (filling b area) posed); area-is = sym (posed-work (filling b area) posed w) }

@@ -13,7 +13,8 @@ use Rattle.lfa.specs.Space.{Space}
 use Rattle.lfa.specs.Repair.{Outcome}
 use Rattle.lfa.specs.Question.{inputsOf, inputNumber, hasInput, askSpace, askLink, askPrefix, networkAsked, linkAsked, prefixAsked, withDistances, linkFound, prefixFound}
 use Rattle.lfa.specs.Refusal.{Posed}
-use Rattle.lfa.specs.Answer.{set, repairAnswer, computed, answerTo, workAfter}
+use Rattle.lfa.specs.Answer.{set, repairAnswer, computed}
+use Rattle.lfa.specs.Contract.{Answered}
 use Rattle.lfa.specs.Laws.Accepted.{link-count, prefix-count}
 use Rattle.lfa.specs.Laws.Asked.{posed-answer, posed-work}
 use Rattle.lfa.specs.Laws.Network.{limits-links}
@@ -57,12 +58,12 @@ module _ {b : Bytes} {network : Network} (t : Taken b network) (l e : ℕ) (name
 
   -- the link repair answers what the search found
   pub link-answered : {o : Outcome} {after : List ℕ} → (o ≡ linkBy network l e (length area)) × (after ≡ areaBy (answered network l e (length area)) network area) →
-      (repairAnswer o ≡ answerTo (askLink b (length area) l e)) × (after ≡ workAfter (askLink b (length area) l e) area)
+      Answered (askLink b (length area) l e) (repairAnswer o) area after
   unfolding networkAsked linkAsked linkFound withDistances computed askLink
-  link-answered r = (
-    ap repairAnswer (link-known asking (r .0)) ∙ sym (posed-answer (askLink b (length area) l e) link-posed),
-    area-known asking area (r .1) ∙ sym (posed-work (askLink b (length area) l e) link-posed area),
-  )
+  link-answered r = record {
+    answer-is = ap repairAnswer (link-known asking (r .0)) ∙ sym (posed-answer (askLink b (length area) l e) link-posed);
+    area-is = area-known asking area (r .1) ∙ sym (posed-work (askLink b (length area) l e) link-posed area);
+  }
 
   space-posed : (s : Space) → Posed (askSpace s b (length area) l e)
   unfolding askSpace networkAsked networkOf hasInput inputsOf inputNumber memberOf anyOf
@@ -77,12 +78,12 @@ module _ {b : Bytes} {network : Network} (t : Taken b network) (l e : ℕ) (name
 
   -- the space call answers the set that was computed
   pub space-answered : (s : Space) {members : ℕ} {after : List ℕ} → (members ≡ spaceBy s network l e (length area)) × (after ≡ areaBy (answered network l e (length area)) network area) →
-      (set members ≡ answerTo (askSpace s b (length area) l e)) × (after ≡ workAfter (askSpace s b (length area) l e) area)
+      Answered (askSpace s b (length area) l e) (set members) area after
   unfolding networkAsked linkAsked withDistances computed askSpace
-  space-answered s r = (
-    ap set (space-known asking s (r .0)) ∙ sym (posed-answer (askSpace s b (length area) l e) (space-posed s)),
-    area-known asking area (r .1) ∙ sym (posed-work (askSpace s b (length area) l e) (space-posed s) area),
-  )
+  space-answered s r = record {
+    answer-is = ap set (space-known asking s (r .0)) ∙ sym (posed-answer (askSpace s b (length area) l e) (space-posed s));
+    area-is = area-known asking area (r .1) ∙ sym (posed-work (askSpace s b (length area) l e) (space-posed s) area);
+  }
 
   prefix-posed : (x : ℕ) → x < network .prefixes → Posed (askPrefix b (length area) l e x)
   unfolding askPrefix networkAsked networkOf hasInput inputsOf inputNumber memberOf anyOf
@@ -98,12 +99,13 @@ module _ {b : Bytes} {network : Network} (t : Taken b network) (l e : ℕ) (name
   -- the prefix repair answers what was found for the prefix
   pub prefix-answered : (x : ℕ) → x < network .prefixes → {o : Outcome} {after : List ℕ} →
       (o ≡ prefixBy network l e x (length area)) × (after ≡ areaBy (prefixAnswered network l e x (length area)) network area) →
-      (repairAnswer o ≡ answerTo (askPrefix b (length area) l e x)) × (after ≡ workAfter (askPrefix b (length area) l e x) area)
+      Answered (askPrefix b (length area) l e x) (repairAnswer o) area after
   unfolding networkAsked linkAsked prefixAsked prefixFound withDistances computed askPrefix
   prefix-answered x x-in {o} {after} r =
       let cell = prefix-cell t x x-in in
       let slots = prefix-slots t x x-in refl in
-      let found = prefix-known asking x cell slots (r .0) in (
-        ap repairAnswer (rw (prefix-target t x x-in refl) at found) ∙ sym (posed-answer (askPrefix b (length area) l e x) (prefix-posed x x-in)),
-        prefix-area-known asking x cell slots area (r .1) ∙ sym (posed-work (askPrefix b (length area) l e x) (prefix-posed x x-in) area),
-      )
+      let found = prefix-known asking x cell slots (r .0) in
+      record {
+        answer-is = ap repairAnswer (rw (prefix-target t x x-in refl) at found) ∙ sym (posed-answer (askPrefix b (length area) l e x) (prefix-posed x x-in));
+        area-is = prefix-area-known asking x cell slots area (r .1) ∙ sym (posed-work (askPrefix b (length area) l e x) (prefix-posed x x-in) area);
+      }

@@ -14,7 +14,7 @@ ghost use mathlib.Core.Path.{_≡_};
 ghost use lib.ListN.{length};
 ghost use Rattle.lfa.specs.Space.{pSpace, extendedP, qSpace, sizeOf};
 ghost use Rattle.lfa.specs.Question.{filling, askSpace, askLink, askPrefix};
-ghost use Rattle.lfa.specs.Answer.{answerTo, workAfter};
+ghost use Rattle.lfa.specs.Contract.{Answered};
 ghost use Rattle.search.specs.Spaces.{spaceNamed};
 ghost use Rattle.repair.specs.Answer.{filledAnswer, repairOf, spaceAnswer};
 
@@ -60,8 +60,7 @@ pub enum Repair {
 
 // Fills the work area with the distances between the routers of a file, row by row.
 pub fn distances(file: &[u8], work: &mut [u32]) -> Filled
-    ensures { λ r. ⌜ (filledAnswer r ≡ answerTo (filling (now (file .entry)) (length (now (work .entry)))))
-        × (now (work .exit) ≡ workAfter (filling (now (file .entry)) (length (now (work .entry)))) (now (work .entry))) ⌝ }
+    ensures { λ r. ⌜ Answered (filling (now (file .entry)) (length (now (work .entry)))) (filledAnswer r) (now (work .entry)) (now (work .exit)) ⌝ }
 {
     let asked = ask(file, work.len());
     let turned = asked.turned;
@@ -85,8 +84,7 @@ pub fn distances(file: &[u8], work: &mut [u32]) -> Filled
 
 // The pair that repairs a link: around it, to its far router.
 pub fn link_repair(file: &[u8], work: &mut [u32], link: usize, end: usize) -> Repair
-    ensures { λ r. ⌜ (repairOf r ≡ answerTo (askLink (now (file .entry)) (length (now (work .entry))) link end))
-        × (now (work .exit) ≡ workAfter (askLink (now (file .entry)) (length (now (work .entry))) link end) (now (work .entry))) ⌝ }
+    ensures { λ r. ⌜ Answered (askLink (now (file .entry)) (length (now (work .entry))) link end) (repairOf r) (now (work .entry)) (now (work .exit)) ⌝ }
 {
     let asked = ask(file, work.len());
     let turned = asked.turned;
@@ -110,8 +108,7 @@ pub fn prefix_repair(
     end: usize,
     prefix: usize,
 ) -> Repair
-    ensures { λ r. ⌜ (repairOf r ≡ answerTo (askPrefix (now (file .entry)) (length (now (work .entry))) link end prefix))
-        × (now (work .exit) ≡ workAfter (askPrefix (now (file .entry)) (length (now (work .entry))) link end prefix) (now (work .entry))) ⌝ }
+    ensures { λ r. ⌜ Answered (askPrefix (now (file .entry)) (length (now (work .entry))) link end prefix) (repairOf r) (now (work .entry)) (now (work .exit)) ⌝ }
 {
     let asked = ask(file, work.len());
     let turned = asked.turned;
@@ -133,8 +130,7 @@ pub fn prefix_repair(
 
 // The answer of a call for a space.
 fn ask_space(file: &[u8], work: &mut [u32], link: usize, end: usize, which: Which) -> SpaceAnswer
-    ensures { λ r. ⌜ (spaceAnswer r ≡ answerTo (askSpace (spaceNamed which) (now (file .entry)) (length (now (work .entry))) link end))
-        × (now (work .exit) ≡ workAfter (askSpace (spaceNamed which) (now (file .entry)) (length (now (work .entry))) link end) (now (work .entry))) ⌝ }
+    ensures { λ r. ⌜ Answered (askSpace (spaceNamed which) (now (file .entry)) (length (now (work .entry))) link end) (spaceAnswer r) (now (work .entry)) (now (work .exit)) ⌝ }
 {
     let asked = ask(file, work.len());
     let turned = asked.turned;
@@ -152,24 +148,21 @@ fn ask_space(file: &[u8], work: &mut [u32], link: usize, end: usize, which: Whic
 
 // P space: the routers that S avoids the link on the way to.
 pub fn p_space(file: &[u8], work: &mut [u32], link: usize, end: usize) -> SpaceAnswer
-    ensures { λ r. ⌜ (spaceAnswer r ≡ answerTo (askSpace pSpace (now (file .entry)) (length (now (work .entry))) link end))
-        × (now (work .exit) ≡ workAfter (askSpace pSpace (now (file .entry)) (length (now (work .entry))) link end) (now (work .entry))) ⌝ }
+    ensures { λ r. ⌜ Answered (askSpace pSpace (now (file .entry)) (length (now (work .entry))) link end) (spaceAnswer r) (now (work .entry)) (now (work .exit)) ⌝ }
 {
     ask_space(file, work, link, end, Which::P)
 }
 
 // Extended P space: the routers that some neighbour of S other than E avoids the link on the way to.
 pub fn extended_p_space(file: &[u8], work: &mut [u32], link: usize, end: usize) -> SpaceAnswer
-    ensures { λ r. ⌜ (spaceAnswer r ≡ answerTo (askSpace extendedP (now (file .entry)) (length (now (work .entry))) link end))
-        × (now (work .exit) ≡ workAfter (askSpace extendedP (now (file .entry)) (length (now (work .entry))) link end) (now (work .entry))) ⌝ }
+    ensures { λ r. ⌜ Answered (askSpace extendedP (now (file .entry)) (length (now (work .entry))) link end) (spaceAnswer r) (now (work .entry)) (now (work .exit)) ⌝ }
 {
     ask_space(file, work, link, end, Which::ExtendedP)
 }
 
 // Q space: the routers that avoid the link on the way to E.
 pub fn q_space(file: &[u8], work: &mut [u32], link: usize, end: usize) -> SpaceAnswer
-    ensures { λ r. ⌜ (spaceAnswer r ≡ answerTo (askSpace qSpace (now (file .entry)) (length (now (work .entry))) link end))
-        × (now (work .exit) ≡ workAfter (askSpace qSpace (now (file .entry)) (length (now (work .entry))) link end) (now (work .entry))) ⌝ }
+    ensures { λ r. ⌜ Answered (askSpace qSpace (now (file .entry)) (length (now (work .entry))) link end) (spaceAnswer r) (now (work .entry)) (now (work .exit)) ⌝ }
 {
     ask_space(file, work, link, end, Which::Q)
 }

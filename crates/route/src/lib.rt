@@ -10,7 +10,7 @@ ghost use mathlib.Core.List.{List};
 ghost use Prim.Native.Nat.{ℕ, _<_};
 ghost use lib.ListN.{length};
 ghost use Rattle.lfa.specs.Question.{askRoute};
-ghost use Rattle.lfa.specs.Answer.{answerTo, workAfter, routeAfter};
+ghost use Rattle.lfa.specs.Contract.{Routed};
 ghost use Rattle.search.specs.Spaces.{protectedIn};
 ghost use Rattle.route.specs.Answer.{playedOf, passedOn};
 
@@ -64,9 +64,8 @@ pub fn route(
     choices: &[u8],
     buffer: &mut [u8],
 ) -> Played
-    ensures { λ r. ⌜ (playedOf r ≡ answerTo (askRoute (now (file .entry)) (length (now (work .entry))) (length (now (buffer .entry))) link end prefix (now (choices .entry))))
-        × (now (work .exit) ≡ workAfter (askRoute (now (file .entry)) (length (now (work .entry))) (length (now (buffer .entry))) link end prefix (now (choices .entry))) (now (work .entry)))
-        × (now (buffer .exit) ≡ routeAfter (askRoute (now (file .entry)) (length (now (work .entry))) (length (now (buffer .entry))) link end prefix (now (choices .entry))) (now (buffer .entry))) ⌝ }
+    ensures { λ r. ⌜ Routed (askRoute (now (file .entry)) (length (now (work .entry))) (length (now (buffer .entry))) link end prefix (now (choices .entry)))
+        (playedOf r) (now (work .entry)) (now (work .exit)) (now (buffer .entry)) (now (buffer .exit)) ⌝ }
 {
     let loaded = load(file);
     let network = loaded.network;

@@ -11,7 +11,7 @@ same-length : tie.Need-same-length
 same-length c = search needs
 
 returns : tie.Need-returns
-returns c = (answer-meets _ _ (c .before .before .link-repair .ensures .0), c .before .before .link-repair .ensures .0, c .before .before .link-repair .ensures .1)
+returns c = (answer-meets _ _ (c .before .before .link-repair .ensures .answer-is), c .before .before .link-repair .ensures)
 
 pub link-demand-spec : {M : Type 1} → statement M
 link-demand-spec = tie.close (tie.spec link-repair-requires same-length returns)

@@ -11,7 +11,7 @@ same-length : tie.Need-same-length
 same-length c = search needs
 
 returns : tie.Need-returns
-returns c = (answer-meets _ _ (c .before .before .prefix-repair .ensures .0), c .before .before .prefix-repair .ensures .0, c .before .before .prefix-repair .ensures .1)
+returns c = (answer-meets _ _ (c .before .before .prefix-repair .ensures .answer-is), c .before .before .prefix-repair .ensures)
 
 pub prefix-demand-spec : {M : Type 1} → statement M
 prefix-demand-spec = tie.close (tie.spec prefix-repair-requires same-length returns)

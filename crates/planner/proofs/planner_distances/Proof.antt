@@ -16,7 +16,7 @@ same-length : tie.Need-same-length
 same-length c = search needs
 
 returns : tie.Need-returns
-returns c = let answered = c .before .before .before .distances .ensures in (c .filled-numbers .ensures ∙ ap numbersOf (answered .0), answered .1)
+returns c = let answered = c .before .before .before .distances .ensures in record { numbers-are = c .filled-numbers .ensures ∙ ap numbersOf (answered .answer-is); area-is = answered .area-is }
 
 pub planner-distances-spec : {M : Type 1} → statement M
 planner-distances-spec =

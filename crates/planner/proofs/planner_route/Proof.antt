@@ -19,7 +19,7 @@ same-length-2 : tie.Need-same-length-2
 same-length-2 c = search needs
 
 returns : tie.Need-returns
-returns c = let answered = c .before .before .before .before .before .route .ensures in (c .played-numbers .ensures ∙ ap numbersOf (answered .0), answered .1, answered .2)
+returns c = let answered = c .before .before .before .before .before .route .ensures in record { numbered = record { numbers-are = c .played-numbers .ensures ∙ ap numbersOf (answered .answered .answer-is); area-is = answered .answered .area-is }; buffer-is = answered .buffer-is }
 
 pub planner-route-spec : {M : Type 1} → statement M
 planner-route-spec =

@@ -26,7 +26,7 @@ returns : tie.Need-returns
 unfolding spaceAnswer
 returns c =
     let t = judged-refused _ _ _ _ (c .before .before .before .ask .ensures) (c .before .turned .given .1) (askSpace _ _ _ _ _) (about-space _ _ _ _ _) in
-    (sym (t .answered), sym (t .area-left _))
+    record { answer-is = sym (t .answered); area-is = sym (t .area-left _) }
 
 enum-told : tie.Need-enum-told
 enum-told c = search needs
@@ -46,7 +46,7 @@ unfolding spaceAnswer refusalAnswer askSpace hasInput inputsOf inputNumber membe
 returns-2 c =
     let r = ready (c .before .before .before) in
     let t = link-refused (askSpace _ _ _ _ _) (r .0) (r .1) false≢true refl (sym (c .before .named .ensures) ∙ not-true _ (c .if1 .taken)) in
-    (sym (t .answered), sym (t .area-left _))
+    record { answer-is = sym (t .answered); area-is = sym (t .area-left _) }
 
 -- row 12 does not apply
 link-named : (c : tie.Else1) →

@@ -24,7 +24,7 @@ returns : tie.Need-returns
 unfolding filledAnswer
 returns c =
     let t = judged-refused _ _ _ _ (c .before .before .before .ask .ensures) (c .before .turned .given .1) (filling _ _) (about-filling _ _) in
-    (sym (t .answered), sym (t .area-left _))
+    record { answer-is = sym (t .answered); area-is = sym (t .area-left _) }
 
 enum-told : tie.Need-enum-told
 enum-told c = search needs
@@ -46,7 +46,7 @@ unfolding filledAnswer
 returns-2 c =
     let r = ready (c .before .before .before .before .before .before .before .before .before .before) in
     let done = area-filled (r .0) (r .1) _ in
-    (done .0, filled-columns (columns-within (r .0)) _ _ _ (r .1) (networkOf _) (network-columns (r .0)) (c .before .before .fill .ensures) ∙ done .1)
+    record { answer-is = done .answer-is; area-is = filled-columns (columns-within (r .0)) _ _ _ (r .1) (networkOf _) (network-columns (r .0)) (c .before .before .fill .ensures) ∙ done .area-is }
 
 pub distances-spec : {M : Type 1} → statement M
 distances-spec =

@@ -26,7 +26,7 @@ returns : tie.Need-returns
 unfolding repairOf
 returns c =
     let t = judged-refused _ _ _ _ (c .before .before .before .ask .ensures) (c .before .turned .given .1) (askPrefix _ _ _ _ _) (about-prefix _ _ _ _ _) in
-    (sym (t .answered), sym (t .area-left _))
+    record { answer-is = sym (t .answered); area-is = sym (t .area-left _) }
 
 enum-told : tie.Need-enum-told
 enum-told c = search needs
@@ -46,7 +46,7 @@ unfolding repairOf refusalAnswer askPrefix hasInput inputsOf inputNumber memberO
 returns-2 c =
     let r = ready (c .before .before .before) in
     let t = link-refused (askPrefix _ _ _ _ _) (r .0) (r .1) false≢true refl (sym (c .before .named .ensures) ∙ not-true _ (c .if1 .taken)) in
-    (sym (t .answered), sym (t .area-left _))
+    record { answer-is = sym (t .answered); area-is = sym (t .area-left _) }
 
 -- row 12 does not apply
 link-named : (c : tie.Else1) →
@@ -59,7 +59,7 @@ unfolding repairOf refusalAnswer askPrefix hasInput inputsOf inputNumber memberO
 returns-3 c =
     let r = ready (c .before .before .before .before) in
     let t = prefix-refused (askPrefix _ _ _ _ _) (r .0) (r .1) false≢true refl (link-named (c .before)) (c .if2 .taken) in
-    (sym (t .answered), sym (t .area-left _))
+    record { answer-is = sym (t .answered); area-is = sym (t .area-left _) }
 
 prefix-pair-requires : tie.Need-prefix-pair-requires
 prefix-pair-requires c κs = search needs
@@ -75,7 +75,7 @@ returns-4 c =
     let passed = c .before .before .before .before .before in
     let r = ready (passed .before .before .before .before) in
     let a = prefix-answered (r .0) _ _ (link-named (passed .before)) (passed .before .before .before .before .before .before .before .before .before .args .work .now) (r .1) _ (passed .if2 .left) (c .before .before .before .prefix-pair .ensures) in
-    (c .repair-answer .ensures ∙ a .0, a .1)
+    record { answer-is = c .repair-answer .ensures ∙ a .answer-is; area-is = a .area-is }
 
 pub prefix-repair-spec : {M : Type 1} → statement M
 prefix-repair-spec =

@@ -51,7 +51,7 @@ returns c =
     let short : length (f .before .before .before .before .before .args .buffer .now) < 2 * f .load .result .network .routers = ltb-true _ _ (c .if2 .taken) in
     let t = loaded-some _ _ (f .load .ensures .1) (bytes f) (omega (arith, short)) in
     let away = buffer-short _ _ _ _ _ _ _ t (c .before .if1 .taken) short in
-    (sym (away .answered), sym (away .area-left _), sym (away .buffer-left _))
+    record { answered = record { answer-is = sym (away .answered); area-is = sym (away .area-left _) }; buffer-is = sym (away .buffer-left _) }
 
 prefix-repair-requires : tie.Need-prefix-repair-requires
 prefix-repair-requires c κs = search needs
@@ -82,8 +82,11 @@ returns-2 : tie.Need-returns-2
 returns-2 c =
     let r = c .before .before .before .before in
     let same = refused-alike r in
-    let on = passed _ _ _ _ _ _ _ same (r .prefix-repair .result) (r .prefix-repair .ensures .0) (not-pair _ (c .before .match .keys2)) in
-    (c .passed-on .ensures ∙ on .0, r .prefix-repair .ensures .1 ∙ sym (work-same _ _ _ _ _ _ _ same _), on .1 _)
+    let on = passed _ _ _ _ _ _ _ same (r .prefix-repair .result) (r .prefix-repair .ensures .answer-is) (not-pair _ (c .before .match .keys2)) in
+    record {
+      answered = record { answer-is = c .passed-on .ensures ∙ on .0; area-is = r .prefix-repair .ensures .area-is ∙ sym (work-same _ _ _ _ _ _ _ same _) };
+      buffer-is = on .1 _;
+    }
 
 -- the prefix repair has a pair
 paired : (c : tie.After-answer) →
@@ -91,7 +94,7 @@ paired : (c : tie.After-answer) →
     let q = c .answer .given .0 .0 in
     repair (q .first) (q .endpoint) (q .class) (q .cost) ≡ answerTo (askPrefix (a .file .now) (length (a .work .now)) (a .link) (a .end) (a .prefix))
 unfolding repairOf
-paired c = sym (ap repairOf (c .answer .given .1)) ∙ c .before .before .before .before .prefix-repair .ensures .0
+paired c = sym (ap repairOf (c .answer .given .1)) ∙ c .before .before .before .before .prefix-repair .ensures .answer-is
 
 -- so the file is accepted, and the buffer is long enough
 accepted : (c : tie.After-answer) → Taken (c .before .before .before .before .before .before .before .before .before .before .before .before .before .args .file .now) (c .before .before .before .before .before .before .before .before .load .result .network)
@@ -128,7 +131,7 @@ play-requires : tie.Need-play-requires
 play-requires c κs =
     let z = c .before .before .before .before .before .before .before .before .before .before .before .before .before .before .before .before in
     let a = z .before .before .before .before .before .before .before .before .before .before .before .before .before .args in
-    play-ready (accepted z) (a .work .now) _ (a .link) (a .end) _ (a .choices .now) (long z) (paired z) (z .before .before .before .before .prefix-repair .ensures .1) (c .before .before .before .before .before .before .before .before .before .repairing .ensures _ _) (c .before .before .before .before .before .before .before .before .before .before .before .before .before .wide .ensures)
+    play-ready (accepted z) (a .work .now) _ (a .link) (a .end) _ (a .choices .now) (long z) (paired z) (z .before .before .before .before .prefix-repair .ensures .area-is) (c .before .before .before .before .before .before .before .before .before .repairing .ensures _ _) (c .before .before .before .before .before .before .before .before .before .before .before .before .before .wide .ensures)
 
 same-length-2 : tie.Need-same-length-2
 same-length-2 c = search needs
@@ -144,12 +147,15 @@ returns-3 c =
     let r = z .before .before .before .before in
     let near-is = c .before .before .before .before .before .before .before .before .before .before .before .before .repairing .ensures _ _ in
     let count-is = c .before .before .before .before .before .before .before .before .before .before .before .before .before .before .before .before .wide .ensures in
-    let way = TheRoute (accepted z) (a .work .now) (length (a .buffer .now)) (a .link) (a .end) (a .prefix) (a .choices .now) (long z) (paired z) (r .prefix-repair .ensures .1) near-is count-is in
-    let went = c .before .before .play .ensures _ (played-route (accepted z) (a .work .now) _ (a .link) (a .end) _ (a .choices .now) (long z) (paired z) (r .prefix-repair .ensures .1) near-is count-is) in (
-      ap played (went .0) ∙ route-answered (accepted z) _ (a .link) (a .end) _ (paired z) _ (a .choices .now) (long z),
-      r .prefix-repair .ensures .1 ∙ sym (work-same _ _ _ _ _ _ _ (refused-alike r) _),
-      went .1 ∙ ap (λ (k : ℕ). way ++ drop k (a .buffer .now)) (went .0) ∙ buffer-written (accepted z) _ (a .link) (a .end) _ (paired z) _ (a .choices .now) (long z) (a .buffer .now),
-    )
+    let way = TheRoute (accepted z) (a .work .now) (length (a .buffer .now)) (a .link) (a .end) (a .prefix) (a .choices .now) (long z) (paired z) (r .prefix-repair .ensures .area-is) near-is count-is in
+    let went = c .before .before .play .ensures _ (played-route (accepted z) (a .work .now) _ (a .link) (a .end) _ (a .choices .now) (long z) (paired z) (r .prefix-repair .ensures .area-is) near-is count-is) in
+    record {
+      answered = record {
+        answer-is = ap played (went .0) ∙ route-answered (accepted z) _ (a .link) (a .end) _ (paired z) _ (a .choices .now) (long z);
+        area-is = r .prefix-repair .ensures .area-is ∙ sym (work-same _ _ _ _ _ _ _ (refused-alike r) _);
+      };
+      buffer-is = went .1 ∙ ap (λ (k : ℕ). way ++ drop k (a .buffer .now)) (went .0) ∙ buffer-written (accepted z) _ (a .link) (a .end) _ (paired z) _ (a .choices .now) (long z) (a .buffer .now);
+    }
 
 pub route-spec : {M : Type 1} → statement M
 route-spec =
