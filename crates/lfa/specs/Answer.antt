@@ -14,7 +14,7 @@ use Rattle.lfa.specs.Space.{spaceOf}
 use Rattle.lfa.specs.Repair.{Outcome, prefixUnreachable, prefixUntouched, noneServes, chosen}
 use Rattle.lfa.specs.Route.{routeOf}
 use Rattle.lfa.specs.Question.{Question, Call, load, fill, space, linkRepair, prefixRepair, route, Buffer, workArea, routeBuffer, networkAsked, linkAsked, prefixAsked, withDistances, linkFound, prefixFound}
-use Rattle.lfa.specs.Refusal.{Row, FileRow, noPair, Left, asLent, written, entryOf, Decided, decided, fileRefusal, refusalOf}
+use Rattle.lfa.specs.Refusal.{Row, FileRow, noPair, Left, asLent, written, entryOf, Decided, decided, fileRefusal, refusalOf, earlyRefusal}
 
 -- what a call answers, in document 01's numbers and words
 pub data Answer : Type 0 where
@@ -26,6 +26,10 @@ pub data Answer : Type 0 where
 
 unfoldable pub refusal : Decided Row → Answer
 refusal (decided r v) = refused (entryOf r .number) v
+
+-- the answer to a question that is turned away before anything is searched for, if it is
+unfoldable pub earlyAnswer : Question → Option Answer
+earlyAnswer q = elim (earlyRefusal q) [ some d ↦ some (refusal d) | none ↦ none ]
 
 -- the routers that a route call writes: none where there is no pair
 unfoldable pub routeFor : Question → Outcome → List ℕ

@@ -1,10 +1,10 @@
 -- "Hand-worked networks": the starred rows, as one table, and the lone theorem that the definitions yield every row of it. Each is
 -- asked through the definitions that the public contracts cite, from the bytes of its network's file.
 -- Assumes nothing.
-use Prim.Native.Nat.{ℕ, zero, suc, _+_, _^_, _≤_}
-use mathlib.Core.Path.{_≡_, refl}
+use Prim.Native.Nat.{ℕ, zero, suc, _+_, _*_, _^_, _≤_}
+use mathlib.Core.Path.{_≡_, refl, sym, ap, _∙_}
 use mathlib.Core.Logic.{inl}
-use mathlib.Core.Option.{none}
+use mathlib.Core.Option.{none, some}
 use mathlib.Core.List.{List, [], _∷_}
 use native.Mathlib.Omega.{arith}
 use Rattle.lfa.specs.Lists.{countUp, below, select, anyOf, everyBelow, memberOf, flat, count, firstFailing, unless, table, cell}
@@ -16,10 +16,13 @@ use Rattle.lfa.specs.Walk.{isStep, leads, takers, over, overFrom, avoids
 use Rattle.lfa.specs.Space.{Protected, pSpace, extendedP, qSpace, protectedBy, protected, isFirst, firstOver, firstHops, hopRouter, inSpace, setOf, spaceOf}
 use Rattle.lfa.specs.Repair.{pair, isEndpoint, withEndpoint, pairsOf, pairs, serves, mayCross, orElse, classOf, tunnelCost, keysOf, key, noLater, earlier, choose, pairKey, firstPair, outcomeOf, linkOutcome, prefixOutcome}
 use Rattle.lfa.specs.Route.{isStepTo, nextRouters, attachedAt, delivers, movesOf, options, choiceAt, optionTaken, playTo, playOn, routeOf}
-use Rattle.lfa.specs.Laws.Turned.{no-such-link}
+use Rattle.lfa.specs.Laws.Rows.{also, nothing, decides-after}
+use Rattle.lfa.specs.Laws.Causes.{row-applies}
+use Rattle.lfa.specs.Laws.Passed.{area-passes, buffer-passes}
+use Rattle.lfa.specs.Laws.Turned.{early-turned-away}
 use mathlib.Core.Bool.{true}
 use Rattle.lfa.specs.Question.{Question, workArea, routeBuffer, aLink, lent, inputsOf, inputNumber, hasInput, HasInput, loading, askSpace, askLink, askPrefix, askRoute, networkAsked, linkAsked, prefixAsked, withDistances, linkFound, prefixFound, searched}
-use Rattle.lfa.specs.Refusal.{ifNone, fileReturned, returned, fileNumber, entryOf, fileRows, questionRows, allRows, tries, rowsTried, firstRow, inFile, fileRefusal, refusalOf}
+use Rattle.lfa.specs.Refusal.{noSuchLink, noSuchPrefix, decided, orLater, earlyRefusal, ifNone, fileReturned, returned, fileNumber, entryOf, fileRows, earlyRows, questionRows, allRows, tries, rowsTried, firstRow, inFile, fileRefusal, refusalOf}
 use Rattle.lfa.specs.Answer.{Answer, refused, accepted, set, repair, played, untouched, refusal, routeFor, routePlayed, repairAnswer, routeAnswer, computed, answerTo}
 
 -- ---- the networks
@@ -100,7 +103,7 @@ yieldedAll (w ∷ ws) = yielded w ∷ yieldedAll ws
 
 -- to unfold this is to unfold every definition that an answer rests on
 unfoldable opened : Unit {0}
-unfolding countUp below select anyOf everyBelow memberOf flat count firstFailing unless table cell router arcs arcsFrom byteAt wordAt partOf allZero blocksIn blockOf sumWords checkOf routersOf linksOf prefixesOf ceil linkBlocks prefixBlocks blocksNeeded linkEntry linkIn prefixEntry attachments slotRouter slot prefixIn linkOf prefixOf networkOf lengthGood checkGood headGood blockCountGood laterGood entriesIn soundBlock blockGood soundLink linkGood joinSame linkNew slotGood soundPrefix prefixGood slotNew routersNew fileOf blocksOf prefixBlock linkBlock entriesBlock prefixBytes slotBytes linkBytes headBlock blockBytes pad wordBytes least costOver towards hopCost direct through stage distances distanceIn isStep leads takers over overFrom avoids crosses protectedBy protected isFirst firstOver firstHops hopRouter inSpace setOf spaceOf isEndpoint withEndpoint pairsOf pairs serves mayCross orElse classOf tunnelCost keysOf key noLater earlier choose pairKey firstPair outcomeOf linkOutcome prefixOutcome isStepTo nextRouters attachedAt delivers movesOf options choiceAt optionTaken playTo playOn routeOf answerTo routePlayed loading askSpace askLink askPrefix askRoute networkAsked linkAsked prefixAsked withDistances linkFound prefixFound searched inputsOf inputNumber hasInput ifNone fileReturned returned fileNumber entryOf fileRows questionRows allRows tries rowsTried firstRow inFile fileRefusal refusalOf refusal routeFor repairAnswer routeAnswer computed
+unfolding countUp below select anyOf everyBelow memberOf flat count firstFailing unless table cell router arcs arcsFrom byteAt wordAt partOf allZero blocksIn blockOf sumWords checkOf routersOf linksOf prefixesOf ceil linkBlocks prefixBlocks blocksNeeded linkEntry linkIn prefixEntry attachments slotRouter slot prefixIn linkOf prefixOf networkOf lengthGood checkGood headGood blockCountGood laterGood entriesIn soundBlock blockGood soundLink linkGood joinSame linkNew slotGood soundPrefix prefixGood slotNew routersNew fileOf blocksOf prefixBlock linkBlock entriesBlock prefixBytes slotBytes linkBytes headBlock blockBytes pad wordBytes least costOver towards hopCost direct through stage distances distanceIn isStep leads takers over overFrom avoids crosses protectedBy protected isFirst firstOver firstHops hopRouter inSpace setOf spaceOf isEndpoint withEndpoint pairsOf pairs serves mayCross orElse classOf tunnelCost keysOf key noLater earlier choose pairKey firstPair outcomeOf linkOutcome prefixOutcome isStepTo nextRouters attachedAt delivers movesOf options choiceAt optionTaken playTo playOn routeOf answerTo routePlayed loading askSpace askLink askPrefix askRoute networkAsked linkAsked prefixAsked withDistances linkFound prefixFound searched inputsOf inputNumber hasInput ifNone fileReturned returned fileNumber entryOf fileRows earlyRows questionRows allRows tries rowsTried firstRow inFile fileRefusal refusalOf refusal routeFor repairAnswer routeAnswer computed
 opened = tt
 
 -- every row but the last
@@ -118,12 +121,19 @@ lone-counts : (routersOf (fileOf oneRouter) ≡ 1) × (linksOf (fileOf oneRouter
 unfolding opened oneRouter
 lone-counts = (refl, refl)
 
--- a question about the lone router: where the buffers are long enough, row 12 decides
+-- a question about the lone router: where the buffers are long enough, row 12 is the first that applies
 lone-refused : (q : Question) → q .file ≡ fileOf oneRouter → (HasInput q (lent workArea) → 1 ≤ q .area) → (HasInput q (lent routeBuffer) → 2 ≤ q .buffer) → HasInput q aLink → answerTo q ≡ refused 12 0
+unfolding earlyRefusal orLater earlyRows tries entryOf refusal
 lone-refused q about area buffer h =
     let counts : (routersOf (q .file) ≡ 1) × (linksOf (q .file) ≡ 0) = rw about lone-counts in
-    rw (counts .1) at
-    (no-such-link q (rw about lone-loaded) (λ i. rw (counts .0) (omega (arith, area i))) (λ i. rw (counts .0) (omega (arith, buffer i))) h (inl (rw (counts .1) (omega arith))) .answered)
+    let long : HasInput q (lent workArea) → routersOf (q .file) * routersOf (q .file) ≤ q .area = λ i. rw (counts .0) (omega (arith, area i)) in
+    let room : HasInput q (lent routeBuffer) → 2 * routersOf (q .file) ≤ q .buffer = λ i. rw (counts .0) (omega (arith, buffer i)) in
+    let none-there : linksOf (q .file) ≤ q .link = rw (counts .1) (omega arith) in
+    let applies : returned q noSuchLink ≡ some 0 = row-applies q noSuchLink 0 .1 (inl none-there, sym (counts .1)) in
+    let loaded : fileRefusal (q .file) ≡ none = ap fileRefusal about ∙ lone-loaded in
+    let decides : earlyRefusal q ≡ some (decided noSuchLink 0) =
+    rw loaded (decides-after (returned q) (tries (q .call)) (noSuchPrefix ∷ []) noSuchLink 0 (also (area-passes q long) (also (buffer-passes q room) nothing)) h applies) in
+    early-turned-away q (decided noSuchLink 0) decides .answered
 
 -- ---- the lone theorem
 

@@ -22,8 +22,8 @@ pub mod Rows
 pub mod Causes
 pub mod Answers
 pub mod Passed
-pub mod Turned
 pub mod Accepted
+pub mod Turned
 pub mod Asked
 pub mod Work
 pub mod File

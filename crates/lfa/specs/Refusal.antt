@@ -91,8 +91,12 @@ entryOf noPair = record { number = 14; input = searching; left = leavesRoute }
 unfoldable pub fileRows : List FileRow
 fileRows = badLength ∷ badCheck ∷ badHead ∷ badBlockCount ∷ badBlock ∷ badLink ∷ parallelLink ∷ badPrefix ∷ routerTwice ∷ []
 
+-- the rows that are tried before anything is searched for, and all rows of a question
+unfoldable pub earlyRows : List Row
+earlyRows = shortArea ∷ shortBuffer ∷ noSuchLink ∷ noSuchPrefix ∷ []
+
 unfoldable pub questionRows : List Row
-questionRows = shortArea ∷ shortBuffer ∷ noSuchLink ∷ noSuchPrefix ∷ noPair ∷ []
+questionRows = earlyRows ++ noPair ∷ []
 
 unfoldable pub allRows : List Row
 allRows = map ofFile fileRows ++ questionRows
@@ -161,6 +165,15 @@ fileRefusal b = firstRow (fileReturned b) fileRows
 
 unfoldable pub refusalOf : Question → Option (Decided Row)
 refusalOf q = firstRow (returned q) (rowsTried (q .call))
+
+-- what decides of a file, or else of what comes after
+unfoldable pub orLater : Option (Decided FileRow) → Option (Decided Row) → Option (Decided Row)
+orLater (some d) later = some (inFile d)
+orLater none later = later
+
+-- what turns a question away before anything is searched for: a row of its file, or else one of rows 10 to 13
+unfoldable pub earlyRefusal : Question → Option (Decided Row)
+earlyRefusal q = orLater (fileRefusal (q .file)) (firstRow (returned q) (select (tries (q .call)) earlyRows))
 
 -- ---- what no row turns away
 

@@ -1,8 +1,11 @@
 -- What the calls of the repair part answer, in document 01's numbers and words.
 -- Assumes nothing.
+use mathlib.Core.Option.{Option, none, some}
 use Rattle.lfa.specs.Refusal.{shortArea, shortBuffer, noSuchLink, noSuchPrefix, noPair, decided}
 use Rattle.lfa.specs.Answer.{Answer, done, untouched, unreached, set, repair, refusal}
 use Rattle.network_file.specs.Load.{faultOf}
+use Rattle.rows.specs.Rows.{rowDecided}
+use Rattle.rows.specs.declared.Row.{Row}
 use Rattle.repair.specs.declared.Refusal.{Refusal}
 use Rattle.repair.specs.declared.Refusal.the-variants.{File, ShortArea, ShortBuffer, NoSuchLink, NoSuchPrefix, NoPair}
 use Rattle.repair.specs.declared.Filled.{Filled}
@@ -11,6 +14,8 @@ use Rattle.repair.specs.declared.SpaceAnswer.{SpaceAnswer}
 use Rattle.repair.specs.declared.SpaceAnswer.the-variants.{Set, Refused as Turned}
 use Rattle.repair.specs.declared.Repair.{Repair}
 use Rattle.repair.specs.declared.Repair.the-variants.{Refused as Declined, Unreachable, Untouched, Pair}
+use Rattle.repair.specs.declared.question.Turned as question
+use Rattle.repair.specs.declared.question.Turned.the-variants.{Refused as TurnedAway, Ready}
 
 -- the row of each refusal, with the value that it returns
 unfoldable pub refusalAnswer : Refusal → Answer
@@ -34,3 +39,11 @@ repairOf (Declined r) = refusalAnswer r
 repairOf Unreachable = unreached
 repairOf Untouched = untouched
 repairOf (Pair p) = repair (p .first) (p .endpoint) (p .class) (p .cost)
+
+-- the answer of a row that looks at numbers alone, if it applies, and that of a question that is turned away
+unfoldable pub rowAnswer : Row → Option Answer
+rowAnswer row = elim (rowDecided row) [ some d ↦ some (refusal d) | none ↦ none ]
+
+unfoldable pub turnedAnswer : question.Turned → Option Answer
+turnedAnswer (TurnedAway r) = some (refusalAnswer r)
+turnedAnswer Ready = none

@@ -1,3 +1,4 @@
 pub mod Loaded
 pub mod Slot
 pub mod Named
+pub mod Posed

@@ -1,3 +1,3 @@
 pub mod Answer
-pub mod Asked
+pub mod Taken
 pub mod Laws

@@ -9,7 +9,7 @@ ghost use Rattle.repair.specs.Answer.{repairOf};
 ghost use Rattle.search.specs.Choice.{outcomeIn};
 
 // The answer of a repair call: row 14 where nothing was found.
-pub(crate) fn repair_answer(found: Found) -> Repair
+pub fn repair_answer(found: Found) -> Repair
     ensures { λ r. ⌜ repairOf r ≡ repairAnswer (outcomeIn found) ⌝ }
 {
     match found {

@@ -4,8 +4,9 @@ use answer::repair_answer;
 use distance::fill;
 use network_file::Fault;
 use question::Turned;
-use question::ask;
-use question::named;
+use question::pose;
+use rows::Asked;
+use rows::Call;
 use search::Which;
 use search::link_pair;
 use search::prefix_pair;
@@ -18,8 +19,8 @@ ghost use Rattle.lfa.specs.Contract.{Answered};
 ghost use Rattle.search.specs.Spaces.{spaceNamed};
 ghost use Rattle.repair.specs.Answer.{filledAnswer, repairOf, spaceAnswer};
 
-mod answer;
-mod question;
+pub mod answer;
+pub mod question;
 
 // What turns a question away: rows 1 to 9 as the file part tells them, and rows 10 to 14 with the value that each returns.
 pub enum Refusal {
@@ -62,12 +63,20 @@ pub enum Repair {
 pub fn distances(file: &[u8], work: &mut [u32]) -> Filled
     ensures { λ r. ⌜ Answered (filling (now (file .entry)) (length (now (work .entry)))) (filledAnswer r) (now (work .entry)) (now (work .exit)) ⌝ }
 {
-    let asked = ask(file, work.len());
-    let turned = asked.turned;
+    let asked = Asked {
+        call: Call::Distances,
+        area: work.len(),
+        buffer: 0,
+        link: 0,
+        end: 0,
+        prefix: 0,
+    };
+    let posed = pose(file, asked);
+    let turned = posed.turned;
     if let Turned::Refused(refusal) = turned {
         return Filled::Refused(refusal);
     }
-    let network = asked.network;
+    let network = posed.network;
     let routers = network.routers;
     let links = network.links;
     fill(
@@ -86,16 +95,20 @@ pub fn distances(file: &[u8], work: &mut [u32]) -> Filled
 pub fn link_repair(file: &[u8], work: &mut [u32], link: usize, end: usize) -> Repair
     ensures { λ r. ⌜ Answered (askLink (now (file .entry)) (length (now (work .entry))) link end) (repairOf r) (now (work .entry)) (now (work .exit)) ⌝ }
 {
-    let asked = ask(file, work.len());
-    let turned = asked.turned;
+    let asked = Asked {
+        call: Call::Link,
+        area: work.len(),
+        buffer: 0,
+        link,
+        end,
+        prefix: 0,
+    };
+    let posed = pose(file, asked);
+    let turned = posed.turned;
     if let Turned::Refused(refusal) = turned {
         return Repair::Refused(refusal);
     }
-    let network = asked.network;
-    let links = network.links;
-    if !named(links, link, end) {
-        return Repair::Refused(Refusal::NoSuchLink(links));
-    }
+    let network = posed.network;
     let serving = link_pair(network, link, end, work);
     repair_answer(serving)
 }
@@ -110,20 +123,20 @@ pub fn prefix_repair(
 ) -> Repair
     ensures { λ r. ⌜ Answered (askPrefix (now (file .entry)) (length (now (work .entry))) link end prefix) (repairOf r) (now (work .entry)) (now (work .exit)) ⌝ }
 {
-    let asked = ask(file, work.len());
-    let turned = asked.turned;
+    let asked = Asked {
+        call: Call::Prefix,
+        area: work.len(),
+        buffer: 0,
+        link,
+        end,
+        prefix,
+    };
+    let posed = pose(file, asked);
+    let turned = posed.turned;
     if let Turned::Refused(refusal) = turned {
         return Repair::Refused(refusal);
     }
-    let network = asked.network;
-    let links = network.links;
-    let prefixes = network.prefixes;
-    if !named(links, link, end) {
-        return Repair::Refused(Refusal::NoSuchLink(links));
-    }
-    if prefixes <= prefix {
-        return Repair::Refused(Refusal::NoSuchPrefix(prefixes));
-    }
+    let network = posed.network;
     let found = prefix_pair(network, link, end, prefix, work);
     repair_answer(found)
 }
@@ -132,16 +145,20 @@ pub fn prefix_repair(
 fn ask_space(file: &[u8], work: &mut [u32], link: usize, end: usize, which: Which) -> SpaceAnswer
     ensures { λ r. ⌜ Answered (askSpace (spaceNamed which) (now (file .entry)) (length (now (work .entry))) link end) (spaceAnswer r) (now (work .entry)) (now (work .exit)) ⌝ }
 {
-    let asked = ask(file, work.len());
-    let turned = asked.turned;
+    let asked = Asked {
+        call: Call::Link,
+        area: work.len(),
+        buffer: 0,
+        link,
+        end,
+        prefix: 0,
+    };
+    let posed = pose(file, asked);
+    let turned = posed.turned;
     if let Turned::Refused(refusal) = turned {
         return SpaceAnswer::Refused(refusal);
     }
-    let network = asked.network;
-    let links = network.links;
-    if !named(links, link, end) {
-        return SpaceAnswer::Refused(Refusal::NoSuchLink(links));
-    }
+    let network = posed.network;
     let set = space_in(which, network, link, end, work);
     SpaceAnswer::Set(set)
 }

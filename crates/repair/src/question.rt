@@ -1,55 +1,72 @@
-// The rows that turn a question away: rows 1 to 10, and row 12.
+// Whether a question is turned away before anything is searched for: rows 1 to 9 over the file, then rows 10 to 13 over numbers.
 use crate::Refusal;
 use network_file::Verdict;
 use network_file::load;
 use network_file::network::Network;
+use rows::Asked;
+use rows::Row;
+use rows::first_row;
+ghost use Prim.Native.Nat.{_≤_};
 ghost use mathlib.Core.Path.{_≡_};
-ghost use mathlib.Core.Bool.{_&&_};
-ghost use lib.Dec.{ltb, leb};
-ghost use Rattle.repair.specs.Asked.{Judged};
+ghost use Rattle.lfa.specs.Answer.{earlyAnswer, networkLoaded};
+ghost use Rattle.network_file.specs.Struct.{structOf};
+ghost use Rattle.rows.specs.Rows.{questionAbout};
+ghost use Rattle.repair.specs.Answer.{turnedAnswer, rowAnswer};
 
-// Whether rows 1 to 10 turn a question away.
-pub(crate) enum Turned {
+// What turns a question away, if anything does.
+pub enum Turned {
     Refused(Refusal),
     Ready,
 }
 
-// The answer of rows 1 to 10, and beside it the network of an accepted file.
-pub(crate) struct Asked {
-    pub(crate) turned: Turned,
-    pub(crate) network: Network,
+// What turns a question away, and the network of its file.
+pub struct Posed {
+    pub turned: Turned,
+    pub network: Network,
 }
 
-// Rows 1 to 10, for a work area of that many cells.
-pub(crate) fn ask(file: &[u8], area: usize) -> Asked
-    ensures { λ r. ⌜ Judged (now (file .entry)) area (r .network) (r .turned) ⌝ }
+// The number of routers of a network, of which there are at most 64.
+fn narrow(routers: usize) -> u8
+    requires { ⌜ routers ≤ 255 ⌝ }
+    ensures { λ r. ⌜ r ≡ routers ⌝ }
+{
+    routers as u8
+}
+
+// A row as a refusal.
+fn turned_by(row: Row) -> Turned
+    ensures { λ r. ⌜ turnedAnswer r ≡ rowAnswer row ⌝ }
+{
+    match row {
+        Row::ShortArea(cells) => Turned::Refused(Refusal::ShortArea(cells)),
+        Row::ShortBuffer(bytes) => Turned::Refused(Refusal::ShortBuffer(bytes)),
+        Row::NoSuchLink(links) => Turned::Refused(Refusal::NoSuchLink(links)),
+        Row::NoSuchPrefix(prefixes) => Turned::Refused(Refusal::NoSuchPrefix(prefixes)),
+        Row::Passed => Turned::Ready,
+    }
+}
+
+// Rows 1 to 13 for a question about a file, as far as its call tries them, and the network that the file holds.
+pub fn pose(file: &[u8], asked: Asked) -> Posed
+    ensures { λ r. ⌜ (turnedAnswer (r .turned) ≡ earlyAnswer (questionAbout (now (file .entry)) asked)) × (r .network ≡ structOf (networkLoaded (now (file .entry)))) ⌝ }
 {
     let loaded = load(file);
     let verdict = loaded.verdict;
     let network = loaded.network;
     if let Verdict::Refused(fault) = verdict {
-        return Asked {
+        return Posed {
             turned: Turned::Refused(Refusal::File(fault)),
             network,
         };
     }
-    let routers = network.routers;
-    let cells = routers * routers;
-    if area < cells {
-        return Asked {
-            turned: Turned::Refused(Refusal::ShortArea(cells)),
-            network,
-        };
-    }
-    Asked {
-        turned: Turned::Ready,
+    let row = first_row(
+        narrow(network.routers),
+        network.links,
+        network.prefixes,
+        asked,
+    );
+    Posed {
+        turned: turned_by(row),
         network,
     }
-}
-
-// Row 12: whether a link and one of its two ends are named.
-pub(crate) fn named(links: usize, link: usize, end: usize) -> bool
-    ensures { λ r. ⌜ r ≡ (ltb link links && leb end 1) ⌝ }
-{
-    link < links && end <= 1
 }

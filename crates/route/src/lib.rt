@@ -1,10 +1,14 @@
 // Played routes: the routers that a packet visits when the pair of a prefix repair carries it, choice bytes deciding between options.
-// The network is known from the file part's answer, the pair and the distances from the repair part's.
-use network_file::load;
+// The network and the refusals are known from the question's prologue, the pair and the distances from the search.
 use play::play;
 use repair::Refusal;
 use repair::Repair;
-use repair::prefix_repair;
+use repair::answer::repair_answer;
+use repair::question::Turned;
+use repair::question::pose;
+use rows::Asked;
+use rows::Call;
+use search::prefix_pair;
 ghost use mathlib.Core.Path.{_≡_};
 ghost use mathlib.Core.List.{List};
 ghost use Prim.Native.Nat.{ℕ, _<_};
@@ -67,16 +71,25 @@ pub fn route(
     ensures { λ r. ⌜ Routed (askRoute (now (file .entry)) (length (now (work .entry))) (length (now (buffer .entry))) link end prefix (now (choices .entry)))
         (playedOf r) (now (work .entry)) (now (work .exit)) (now (buffer .entry)) (now (buffer .exit)) ⌝ }
 {
-    let loaded = load(file);
-    let network = loaded.network;
-    let routers = network.routers;
-    if routers * routers <= work.len() && buffer.len() < 2 * routers {
-        return Played::Refused(Refusal::ShortBuffer(2 * routers));
+    let asked = Asked {
+        call: Call::Route,
+        area: work.len(),
+        buffer: buffer.len(),
+        link,
+        end,
+        prefix,
+    };
+    let posed = pose(file, asked);
+    let turned = posed.turned;
+    if let Turned::Refused(refusal) = turned {
+        return Played::Refused(refusal);
     }
-    let answer = prefix_repair(file, work, link, end, prefix);
+    let network = posed.network;
+    let answer = repair_answer(prefix_pair(network, link, end, prefix, work));
     let Repair::Pair(pair) = answer else {
         return passed_on(answer);
     };
+    let routers = network.routers;
     let links = network.links;
     let attached = network.attached;
     let count = wide(attached[prefix]);

@@ -46,9 +46,9 @@ module _ (b : Bytes) (a : Accepted b) where
   pub accepted-written : fileOf (networkOf b) ≡ b
   accepted-written = passes-written b bytes (accepted-passes b a)
 
-  pub accepted-passes-rowsed : networkLoaded b ≡ networkOf b
+  pub accepted-loaded : networkLoaded b ≡ networkOf b
   unfolding networkLoaded
-  accepted-passes-rowsed = rw (accepted-passes-rows b a, networkLoaded)
+  accepted-loaded = rw (accepted-passes-rows b a, networkLoaded)
 
   -- ---- the network of an accepted file
 

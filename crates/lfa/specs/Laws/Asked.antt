@@ -1,24 +1,20 @@
 -- Questions that no row before 14 turns away: each is answered with what its call computes, the work area holds the distances, and the
 -- route buffer the route.
 -- Assumes nothing.
-use Prim.Native.Nat.{ℕ, _<_}
+use Prim.Native.Nat.{ℕ}
 use mathlib.Core.Path.{_≡_, refl, sym, _∙_, subst}
 use mathlib.Core.Option.{Option, none, some}
 use mathlib.Core.List.{List, [], _∷_, _++_}
 use native.Mathlib.Omega.{arith}
 use lib.ListN.{length, drop}
-use lib.Dec.{ltb, leb}
-use borrow.Author.Tests.{ltb-true, leb-true}
 use Rattle.lfa.specs.Lists.{select}
-use Rattle.lfa.specs.File.{byteAt, linksOf, networkOf}
+use Rattle.lfa.specs.File.{networkOf}
 use Rattle.lfa.specs.Distance.{filled}
 use Rattle.lfa.specs.Repair.{Outcome, prefixUnreachable, prefixUntouched, noneServes, chosen}
-use Rattle.lfa.specs.Question.{Question, Call, load, fill, space, linkRepair, prefixRepair, route, HasInput, networkAsked, linkFound, prefixFound, searched}
-use Rattle.lfa.specs.Refusal.{FileRow, Row, shortArea, shortBuffer, noSuchLink, noSuchPrefix, noPair, leavesRoute, entryOf, questionRows, tries, rowsTried, Decided, decided, firstRow, ifNone, returned, fileRefusal, refusalOf, Accepted, Posed}
+use Rattle.lfa.specs.Question.{Question, Call, load, fill, space, linkRepair, prefixRepair, route, networkAsked, linkFound, prefixFound, searched}
+use Rattle.lfa.specs.Refusal.{shortArea, shortBuffer, noSuchLink, noSuchPrefix, noPair, leavesRoute, entryOf, earlyRows, questionRows, tries, decided, firstRow, ifNone, returned, refusalOf, Posed}
 use Rattle.lfa.specs.Answer.{refused, repair, refusal, repairAnswer, routeAnswer, routeFor, routePlayed, computed, answerTo, writtenTo, leave, exitBy, exitOf, workAfter, routeAfter}
-use Rattle.lfa.specs.Laws.Rows.{NoneApply, nothing, also, none-decides, passed-over, refused-file, loaded-rows, tried-rows, accepted-passes-rows, load-accepted}
-use Rattle.lfa.specs.Laws.Test.{and-left, and-right}
-use Rattle.lfa.specs.Laws.List.{unless-none}
+use Rattle.lfa.specs.Laws.Rows.{NoneApply, nothing, also, passed-over, loaded-rows, accepted-passes-rows}
 use Rattle.lfa.specs.Laws.Answers.{searches}
 use Rattle.lfa.specs.Laws.Passed.{area-passes, buffer-passes, link-passes, prefix-passes}
 use Rattle.lfa.specs.Laws.Accepted.{link-count, prefix-count}
@@ -36,7 +32,7 @@ module _ (q : Question) (p : Posed q) where
 
   -- only row 14 is left
   only-last : refusalOf q ≡ firstRow (returned q) (select (tries (q .call)) (noPair ∷ []))
-  unfolding questionRows
+  unfolding questionRows earlyRows
   only-last = loaded-rows q (accepted-passes-rows (q .file) (p .file)) ∙ passed-over (returned q) (tries (q .call)) (noPair ∷ []) none-before
 
 -- the row applies exactly where the search finds no pair
@@ -57,28 +53,6 @@ last-row q p = go (searched q (q .call)) refl
     go (some prefixUntouched) s = other (λ t. let e = sym s ∙ t in absurd (let z : _≡_ {A = ℕ} 0 1 = cc in omega arith)) (rw s)
     go (some noneServes) s = none-serves s (only-last q p ∙ rw (searches q (q .call) noneServes s) (rw (s, firstRow)))
     go (some (chosen n y class cost)) s = other (λ t. let e = sym s ∙ t in absurd (let z : _≡_ {A = ℕ} 0 1 = cc in omega arith)) (rw s)
-
--- Conversely, where nothing turns a question away, no row before 14 applies.
-pub passed-posed : (q : Question) → ((i : ℕ) → byteAt (q .file) i < 256) → refusalOf q ≡ none → Posed q
-unfolding refusalOf entryOf returned networkAsked networkOf
-passed-posed q bytes e = record {
-  file = accepted;
-  area = λ h. leb-true _ _ (unless-none _ _ (passes shortArea h));
-  buffer = λ h. leb-true _ _ (unless-none _ _ (passes shortBuffer h));
-  link = λ h. rw (link-count (q .file) accepted) (ltb-true _ _ (and-left _ (leb (q .end) 1) (unless-none _ _ (passes noSuchLink h))));
-  end = λ h. leb-true _ _ (and-right (ltb (q .link) (linksOf (q .file))) _ (unless-none _ _ (passes noSuchLink h)));
-  prefix = λ h. rw (prefix-count (q .file) accepted) (ltb-true _ _ (unless-none _ _ (passes noSuchPrefix h)));
-}
-  where
-    passes : (r : Row) → HasInput q (entryOf r .input) → returned q r ≡ none
-    passes r h = none-decides (returned q) (rowsTried (q .call)) e r (tried-rows (q .call) r .1 h)
-
-    file : (o : Option (Decided FileRow)) → fileRefusal (q .file) ≡ o → fileRefusal (q .file) ≡ none
-    file none p = p
-    file (some d) p = absurd (let c = sym e ∙ refused-file q d p in let z : _≡_ {A = ℕ} 0 1 = cc in omega arith)
-
-    accepted : Accepted (q .file)
-    accepted = load-accepted (q .file) bytes (file (fileRefusal (q .file)) refl)
 
 -- ---- the answers
 

@@ -9,7 +9,7 @@ use borrow.Author.Tests.{lt-ltb, le-ltb}
 use lib.Dec.{ltb}
 use Rattle.lfa.specs.File.{Bytes, linksOf, prefixesOf, linkEntry, prefixEntry}
 use Rattle.lfa.specs.Question.{Question, loading}
-use Rattle.lfa.specs.Refusal.{FileRow, Row, ofFile, entryOf, fileNumber, fileRows, questionRows, allRows, Decides, Decided, decided, inFile, fileRefusal}
+use Rattle.lfa.specs.Refusal.{FileRow, Row, ofFile, entryOf, fileNumber, fileRows, earlyRows, questionRows, allRows, Decides, Decided, decided, inFile, fileRefusal}
 use Rattle.lfa.specs.Answer.{partIf, linkPart, prefixPart}
 use Rattle.lfa.specs.Demands.{ByTheTable, PartGiven, Demand1}
 use Rattle.lfa.specs.Laws.Rows.{refused-file, load-passes, tried-rows}
@@ -48,7 +48,7 @@ part-given b k count entry = go (fileRefusal b) refl
     }
 
 pub the-demand-1 : Demand1
-unfolding allRows fileRows questionRows entryOf fileNumber countUp linkPart prefixPart
+unfolding allRows fileRows questionRows earlyRows entryOf fileNumber countUp linkPart prefixPart
 the-demand-1 = record {
   numbers = refl;
   by-the-table = by-the-table;

@@ -11,7 +11,7 @@ use native.Mathlib.Omega.{arith}
 use Rattle.lfa.specs.Lists.{select, keepIf, anyOf, memberOf}
 use Rattle.lfa.specs.File.{Bytes, byteAt, blocksIn, blocksNeeded, linksOf, prefixesOf, checkGood, blockGood, linkGood, linkNew, prefixGood, routersNew}
 use Rattle.lfa.specs.Question.{Question, Call, load, fill, space, linkRepair, prefixRepair, route, aFile, inputsOf, inputNumber, hasInput, loading}
-use Rattle.lfa.specs.Refusal.{FileRow, badLength, badCheck, badHead, badBlockCount, badBlock, badLink, parallelLink, badPrefix, routerTwice, fileReturned, fileRows, Row, ofFile, shortArea, shortBuffer, noSuchLink, noSuchPrefix, noPair, returned, entryOf, questionRows, allRows, tries, rowsTried, Decided, decided, firstRow, inFile, fileRefusal, refusalOf, Accepted}
+use Rattle.lfa.specs.Refusal.{FileRow, badLength, badCheck, badHead, badBlockCount, badBlock, badLink, parallelLink, badPrefix, routerTwice, fileReturned, fileRows, Row, ofFile, shortArea, shortBuffer, noSuchLink, noSuchPrefix, noPair, returned, entryOf, questionRows, allRows, tries, rowsTried, Decided, decided, firstRow, inFile, orLater, earlyRows, fileRefusal, refusalOf, Accepted}
 use Rattle.lfa.specs.Laws.List.{select-gives, select-make, none-failing, all-passing, unless-none, unless-good}
 use Rattle.lfa.specs.Laws.File.Passes.{AreBytes, Passes}
 
@@ -96,11 +96,48 @@ module _ {R : Type 0} (value : R → Option ℕ) (tried : R → Bool) where
       go true p e = rw (h p, firstRow) e
       go false p e = e
 
+  -- .. a row that decides among some decides among more ..
+  pub still-decides : (rows more : List R) (d : Decided R) → firstRow value (select tried rows) ≡ some d → firstRow value (select tried (rows ++ more)) ≡ some d
+  unfolding select firstRow
+  still-decides [] more d e = absurd (let z : _≡_ {A = ℕ} 0 1 = cc in omega arith)
+  still-decides (r ∷ rows) more d e = go (tried r) e (still-decides rows more d)
+    where
+      here : (o : Option ℕ) → _≡_ {A = Option (Decided R)} (elim o as (λ _. Option (Decided R)) [ some v ↦ some (decided r v) | none ↦ firstRow value (select tried rows) ]) (some d) →
+          (firstRow value (select tried rows) ≡ some d → firstRow value (select tried (rows ++ more)) ≡ some d) →
+          _≡_ {A = Option (Decided R)} (elim o as (λ _. Option (Decided R)) [ some v ↦ some (decided r v) | none ↦ firstRow value (select tried (rows ++ more)) ]) (some d)
+      here (some v) e rest = e
+      here none e rest = rest e
+
+      go : (b : Bool) → firstRow value (keepIf b r (select tried rows)) ≡ some d → (firstRow value (select tried rows) ≡ some d → firstRow value (select tried (rows ++ more)) ≡ some d) →
+          firstRow value (keepIf b r (select tried (rows ++ more))) ≡ some d
+      go true e rest = here (value r) e rest
+      go false e rest = rest e
+
   -- .. and the row after them decides, where it is tried and applies
   pub decides-after : {before : List R} (after : List R) (r : R) (v : ℕ) → NoneApply value tried before → tried r ≡ true → value r ≡ some v →
       firstRow value (select tried (before ++ r ∷ after)) ≡ some (decided r v)
   unfolding select firstRow
   decides-after after r v passed t a = passed-over (r ∷ after) passed ∙ rw (t) (rw (a, firstRow))
+
+-- two ways to compute what rows return, alike on a list of rows
+pub data SameOn {R : Type 0} (v w : R → Option ℕ) : List R → Type 0 where
+  nowhere : SameOn v w []
+  same-also : {r : R} {rows : List R} → v r ≡ w r → SameOn v w rows → SameOn v w (r ∷ rows)
+
+pub same-decides : {R : Type 0} (v w : R → Option ℕ) (tried : R → Bool) {rows : List R} → SameOn v w rows → firstRow v (select tried rows) ≡ firstRow w (select tried rows)
+unfolding select firstRow
+same-decides v w tried nowhere = refl
+same-decides {R} v w tried (same-also {r} {rows} e rest) = go (tried r) (same-decides v w tried rest)
+  where
+    here : (o : Option ℕ) → firstRow v (select tried rows) ≡ firstRow w (select tried rows) →
+        _≡_ {A = Option (Decided R)} (elim o as (λ _. Option (Decided R)) [ some x ↦ some (decided r x) | none ↦ firstRow v (select tried rows) ])
+        (elim o as (λ _. Option (Decided R)) [ some x ↦ some (decided r x) | none ↦ firstRow w (select tried rows) ])
+    here (some x) f = refl
+    here none f = f
+
+    go : (b : Bool) → firstRow v (select tried rows) ≡ firstRow w (select tried rows) → firstRow v (keepIf b r (select tried rows)) ≡ firstRow w (keepIf b r (select tried rows))
+    go true f = rw e (here (w r) f)
+    go false f = f
 
 -- ---- the rows of a file come first
 
@@ -117,11 +154,6 @@ has-file route = refl
 pub tries-file : (c : Call) (r : FileRow) → tries c (ofFile r) ≡ true
 unfolding tries entryOf
 tries-file c r = has-file c
-
--- what decides of a file, or else of what comes after
-unfoldable pub orLater : Option (Decided FileRow) → Option (Decided Row) → Option (Decided Row)
-orLater (some d) later = some (inFile d)
-orLater none later = later
 
 module _ (q : Question) where
   -- the rows of the question alone
@@ -157,12 +189,12 @@ module _ (q : Question) where
 
 -- the rows of `load` are those of its file
 pub load-passes : (b : Bytes) → fileRefusal b ≡ none → refusalOf (loading b) ≡ none
-unfolding loading questionRows select tries entryOf hasInput inputsOf inputNumber memberOf anyOf firstRow
+unfolding loading questionRows earlyRows select tries entryOf hasInput inputsOf inputNumber memberOf anyOf firstRow
 load-passes b e = loaded-rows (loading b) e
 
 -- ---- every row stands in the list
 
-first-listed : {R : Type 0} {r : R} {rows : List R} → List·Memᴰ r (r ∷ rows)
+pub first-listed : {R : Type 0} {r : R} {rows : List R} → List·Memᴰ r (r ∷ rows)
 first-listed = List·Memᴰ·head refl
 
 file-row-listed : (r : FileRow) → List·Memᴰ r fileRows
@@ -190,7 +222,7 @@ unfolding allRows
 in-questions m = Memᴰ·append-right (map ofFile fileRows) m
 
 row-listed : (r : Row) → List·Memᴰ r allRows
-unfolding allRows questionRows
+unfolding allRows questionRows earlyRows
 row-listed (ofFile r) = Memᴰ·append-left questionRows (of-file-listed r fileRows (file-row-listed r))
 row-listed shortArea = in-questions (search (first-listed, List·Memᴰ·tail) depth 8)
 row-listed shortBuffer = in-questions (search (first-listed, List·Memᴰ·tail) depth 8)

@@ -1,65 +1,46 @@
 -- `repair::prefix_repair` meets its contract. The rows decide in their order, then the search part answers.
 -- Assumes nothing.
-use Prim.Native.Nat.{_*_, _≤_}
-use mathlib.Core.Path.{_≡_, refl, sym, _∙_}
-use mathlib.Core.Bool.{true, _&&_, false≢true}
-use lib.Dec.{ltb, leb}
+use mathlib.Core.Path.{sym, _∙_}
+use native.Mathlib.Omega.{arith}
 use lib.ListN.{length}
-use borrow.Author.Tests.{not-true, not-false}
-use borrow.Author.Needs.{needs}
-use Rattle.lfa.specs.Lists.{memberOf, anyOf}
-use Rattle.lfa.specs.Question.{inputsOf, inputNumber, hasInput, askPrefix}
-use Rattle.repair.specs.Answer.{refusalAnswer, repairOf}
-use Rattle.repair.specs.Asked.{Taken}
-use Rattle.repair.proofs.QuestionLaws.{judged-refused, judged-ready, about-prefix, link-refused, prefix-refused}
+use Rattle.lfa.specs.File.{byteAt}
+use Rattle.lfa.specs.Question.{askPrefix}
+use Rattle.lfa.specs.Refusal.{Posed}
+use Rattle.rows.specs.Rows.{callOf, questionAbout}
+use Rattle.repair.specs.Answer.{repairOf}
+use Rattle.repair.specs.Taken.{Taken}
+use Rattle.repair.specs.Laws.Loaded.{taken-posed}
+use Rattle.repair.specs.Laws.Posed.{refused-away, ready-posed}
 use Rattle.repair.proofs.RepairLaws.{prefix-answered}
+use borrow.Author.Needs.{needs}
 use Rattle.repair.proofs.prefix_repair.Statement.{statement}
 use Rattle.repair.proofs.prefix_repair.Tie as tie
 
-ask-requires : tie.Need-ask-requires
-ask-requires c κs = search needs
+pose-requires : tie.Need-pose-requires
+pose-requires c κs = search needs
 
 enum-known-turned : tie.Need-enum-known-turned
 enum-known-turned c = search needs
 
 returns : tie.Need-returns
-unfolding repairOf
+unfolding repairOf askPrefix questionAbout callOf
 returns c =
-    let t = judged-refused _ _ _ _ (c .before .before .before .ask .ensures) (c .before .turned .given .1) (askPrefix _ _ _ _ _) (about-prefix _ _ _ _ _) in
+    let t = refused-away (askPrefix _ _ _ _ _) (c .before .before .before .pose .ensures .0) (c .before .turned .given .1) in
     record { answer-is = sym (t .answered); area-is = sym (t .area-left _) }
 
 enum-told : tie.Need-enum-told
 enum-told c = search needs
 
-named-requires : tie.Need-named-requires
-named-requires c κs = search needs
+-- no row before 14 applies
+posed : (c : tie.After-enum-told) → let a = c .before .before .before .before .before .args in Posed (askPrefix (a .file .now) (length (a .work .now)) (a .link) (a .end) (a .prefix))
+unfolding askPrefix questionAbout callOf byteAt
+posed c =
+    let l = c .before .before in
+    ready-posed (askPrefix _ _ _ _ _) (l .pose .ensures .0) (λ i. omega (arith, l .before .before .shared-slice-known .given i)) (c .enum-told .given .1)
 
--- rows 1 to 10 do not apply
-ready : (c : tie.After-enum-told) →
-    let network = c .before .before .ask .result .network in
-    let args = c .before .before .before .before .before .args in
-    Taken (args .file .now) network × (network .routers * network .routers ≤ length (args .work .now))
-ready c = judged-ready _ _ _ _ (c .before .before .ask .ensures) (c .enum-told .given .1)
-
-returns-2 : tie.Need-returns-2
-unfolding repairOf refusalAnswer askPrefix hasInput inputsOf inputNumber memberOf anyOf
-returns-2 c =
-    let r = ready (c .before .before .before) in
-    let t = link-refused (askPrefix _ _ _ _ _) (r .0) (r .1) false≢true refl (sym (c .before .named .ensures) ∙ not-true _ (c .if1 .taken)) in
-    record { answer-is = sym (t .answered); area-is = sym (t .area-left _) }
-
--- row 12 does not apply
-link-named : (c : tie.Else1) →
-    let args = c .before .before .before .before .before .before .before .before .args in
-    (ltb (args .link) (c .before .before .before .before .before .ask .result .network .links) && leb (args .end) 1) ≡ true
-link-named c = sym (c .before .named .ensures) ∙ not-false _ (c .if1 .left)
-
-returns-3 : tie.Need-returns-3
-unfolding repairOf refusalAnswer askPrefix hasInput inputsOf inputNumber memberOf anyOf
-returns-3 c =
-    let r = ready (c .before .before .before .before) in
-    let t = prefix-refused (askPrefix _ _ _ _ _) (r .0) (r .1) false≢true refl (link-named (c .before)) (c .if2 .taken) in
-    record { answer-is = sym (t .answered); area-is = sym (t .area-left _) }
+took : (c : tie.After-enum-told) → let l = c .before .before in Taken (l .before .before .before .args .file .now) (l .pose .result .network)
+unfolding askPrefix
+took c = taken-posed (askPrefix _ _ _ _ _) (posed c) (c .before .before .pose .ensures .1)
 
 prefix-pair-requires : tie.Need-prefix-pair-requires
 prefix-pair-requires c κs = search needs
@@ -70,25 +51,21 @@ repair-answer-requires c κs = search needs
 same-length : tie.Need-same-length
 same-length c = search needs
 
-returns-4 : tie.Need-returns-4
-returns-4 c =
-    let passed = c .before .before .before .before .before in
-    let r = ready (passed .before .before .before .before) in
-    let a = prefix-answered (r .0) _ _ (link-named (passed .before)) (passed .before .before .before .before .before .before .before .before .before .args .work .now) (r .1) _ (passed .if2 .left) (c .before .before .before .prefix-pair .ensures) in
+returns-2 : tie.Need-returns-2
+returns-2 c =
+    let l = c .before .before .before .before .before .before in
+    let a = prefix-answered (took l) _ _ (l .before .before .before .before .before .args .work .now) _ (posed l) (c .before .before .before .prefix-pair .ensures) in
     record { answer-is = c .repair-answer .ensures ∙ a .answer-is; area-is = a .area-is }
 
 pub prefix-repair-spec : {M : Type 1} → statement M
 prefix-repair-spec =
     tie.close
     (tie.spec
-    ask-requires
+    pose-requires
     enum-known-turned
     returns
     enum-told
-    named-requires
-    returns-2
-    returns-3
     prefix-pair-requires
     repair-answer-requires
     same-length
-    returns-4)
+    returns-2)

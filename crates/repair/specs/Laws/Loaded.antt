@@ -3,31 +3,25 @@
 -- Assumes nothing.
 use Prim.Native.Nat.{ℕ, _-_, _*_, _≤_, _<_}
 use mathlib.Core.Path.{_≡_, refl, sym, ap, _∙_}
-use mathlib.Core.Option.{none}
 use mathlib.Core.List.{List, map}
 use native.Mathlib.Omega.{arith}
 use native.Mathlib.Nat.{mul-le-mul}
 use lib.ListN.{length, getD, replicate, length-map, List·getD-append}
 use Rattle.lfa.specs.Network.{Link, link, Network}
-use Rattle.lfa.specs.File.{Bytes, byteAt, routersOf, linksOf, prefixesOf, networkOf}
+use Rattle.lfa.specs.File.{Bytes, routersOf, linksOf, prefixesOf, networkOf}
 use Rattle.lfa.specs.FileOf.{pad, WithinLimits}
-use Rattle.lfa.specs.Question.{Question, loading}
-use Rattle.lfa.specs.Refusal.{fileRefusal}
-use Rattle.lfa.specs.Answer.{answerTo, networkLoaded}
+use Rattle.lfa.specs.Question.{Question}
+use Rattle.lfa.specs.Refusal.{Posed}
+use Rattle.lfa.specs.Answer.{networkLoaded}
 use Rattle.lfa.specs.Laws.Chunks.{element-mapped, made-again}
-use Rattle.lfa.specs.Laws.Rows.{load-accepted}
-use Rattle.lfa.specs.Laws.Turned.{TurnedAway, load-refuses, load-accepts}
-use Rattle.lfa.specs.Laws.Accepted.{accepted-limits, link-count, prefix-count}
-use Rattle.network_file.specs.declared.Fault.{Fault}
+use Rattle.lfa.specs.Laws.Accepted.{accepted-limits, accepted-loaded, link-count, prefix-count}
 use Rattle.network_file.specs.declared.Verdict.the-variants as verdict
-use Rattle.network_file.specs.declared.Loaded.{Loaded}
 use Rattle.network_file.specs.Struct.{fromOf, toOf, outOf, backOf, linkColumn, structOf}
-use Rattle.network_file.specs.Load.{faultRow, faultOf, answerOf}
 use Rattle.network_file.specs.declared.network.Network as struct
 use Rattle.metric.specs.Fit.{ColumnsWithin}
 use Rattle.distance.specs.Columns.{linksIn, InColumns}
 use Rattle.distance.specs.Laws.Columns.{limits-columns}
-use Rattle.repair.specs.Asked.{Taken}
+use Rattle.repair.specs.Taken.{Taken}
 
 -- ---- columns
 
@@ -58,23 +52,11 @@ struct-columns net = record {
   links-are = sym (made-again _ (net .links) (link 0 0 0 0) (struct-link net));
 }
 
--- ---- the file part's answer
+-- ---- the network of a question that nothing turns away
 
--- document 01's answer to the load of a file, and its network
-abbrev pub Answers : Bytes → Loaded → Type 0
-Answers b r = (answerOf (r .verdict) ≡ answerTo (loading b)) × (r .network ≡ structOf (networkLoaded b))
-
-module _ (b : Bytes) (r : Loaded) (a : Answers b r) where
-  -- a refusal of the file turns every question about it away
-  pub fault-turned-away : (q : Question) (f : Fault) → q .file ≡ b → r .verdict ≡ verdict.Refused f → TurnedAway q (faultOf f)
-  unfolding answerOf faultOf
-  fault-turned-away q f e v = load-refuses q (faultRow f) (ap (λ (c : Bytes). answerTo (loading c)) e ∙ sym (a .0) ∙ ap answerOf v)
-
-  pub taken : ((i : ℕ) → getD b i 0 < 256) → r .verdict ≡ verdict.Accepted → Taken b (r .network)
-  unfolding answerOf networkLoaded byteAt
-  taken bytes v =
-      let n : fileRefusal b ≡ none = load-accepts b (sym (a .0) ∙ ap answerOf v) in
-      record { is-accepted = load-accepted b bytes n; network-is = a .1 ∙ ap structOf (rw (n, networkLoaded)) }
+-- what is handed over is the network of an accepted file
+pub taken-posed : (q : Question) → Posed q → {network : struct.Network} → network ≡ structOf (networkLoaded (q .file)) → Taken (q .file) network
+taken-posed q p e = record { is-accepted = p .file; network-is = e ∙ ap structOf (accepted-loaded (q .file) (p .file)) }
 
 module _ {b : Bytes} {network : struct.Network} (t : Taken b network) where
   pub limits : WithinLimits (networkOf b)

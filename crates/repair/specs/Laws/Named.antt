@@ -23,7 +23,7 @@ use Rattle.column.specs.Column.{slotsIn}
 use Rattle.distance.specs.Laws.Area.{held-filled}
 use Rattle.distance.specs.Laws.Columns.{arcs-columns}
 use Rattle.search.specs.Spaces.{protectedIn}
-use Rattle.repair.specs.Asked.{Taken}
+use Rattle.repair.specs.Taken.{Taken}
 use Rattle.repair.specs.Laws.Loaded.{limits, network-columns, routers-are, struct-link}
 use Rattle.repair.specs.Laws.Slot.{slots-prefix, slots-within}
 

@@ -1,8 +1,8 @@
--- `repair::question::named` meets its contract.
+-- `rows::named` meets its contract.
 -- Assumes nothing.
 use borrow.Author.Tests.{lt-ltb, le-ltb}
-use Rattle.repair.proofs.question.named.Statement.{statement}
-use Rattle.repair.proofs.question.named.Tie as tie
+use Rattle.rows.proofs.named.Statement.{statement}
+use Rattle.rows.proofs.named.Tie as tie
 
 returns : tie.Need-returns
 returns c = rw (lt-ltb _ _ (c .if1 .taken))
