@@ -19,6 +19,7 @@ pub mod Repair
 pub mod Network
 pub mod Route
 pub mod Rows
+pub mod FileRows
 pub mod Causes
 pub mod Answers
 pub mod Passed

@@ -10,7 +10,8 @@ use Rattle.lfa.specs.File.{Bytes, byteAt, routersOf, linksOf, prefixesOf}
 use Rattle.lfa.specs.Question.{loading}
 use Rattle.lfa.specs.Refusal.{Row, earlyRows, tries, returned, Decided, firstRow}
 use Rattle.lfa.specs.Answer.{Answer, refusal, earlyAnswer, answerTo, networkLoaded}
-use Rattle.lfa.specs.Laws.Rows.{SameOn, nowhere, same-also, same-decides, load-accepted}
+use Rattle.lfa.specs.Laws.Rows.{SameOn, nowhere, same-also, same-decides}
+use Rattle.lfa.specs.Laws.FileRows.{load-accepted}
 use Rattle.lfa.specs.Laws.Turned.{load-early, loaded-early, load-accepts}
 use Rattle.lfa.specs.Laws.Accepted.{accepted-loaded}
 use Rattle.network_file.specs.declared.Fault.{Fault}

@@ -1,3 +1,4 @@
 pub mod LegLaws
 pub mod PlayLaws
 pub mod RouteLaws
+pub mod HandedLaws

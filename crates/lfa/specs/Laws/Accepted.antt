@@ -19,7 +19,7 @@ use Rattle.lfa.specs.Laws.List.{getD-in}
 use Rattle.lfa.specs.Laws.Bound.{Sound, Capped}
 use Rattle.lfa.specs.Laws.Avoid.{Named}
 use Rattle.lfa.specs.Laws.Network.{limits-links, limits-sound, limits-distances, limits-named}
-use Rattle.lfa.specs.Laws.Rows.{accepted-passes-rows, accepted-passes, passes-accepted}
+use Rattle.lfa.specs.Laws.FileRows.{accepted-passes-rows, accepted-passes, passes-accepted}
 use Rattle.lfa.specs.Laws.File.Passes.{AreBytes}
 use Rattle.lfa.specs.Laws.File.Within.{links-length, prefixes-length, passes-within}
 use Rattle.lfa.specs.Laws.File.ReadBack.{passes-written}

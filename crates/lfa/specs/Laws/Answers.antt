@@ -13,7 +13,8 @@ use Rattle.lfa.specs.Repair.{Outcome, prefixUnreachable, prefixUntouched
 use Rattle.lfa.specs.Question.{Question, Call, load, fill, space, linkRepair, prefixRepair, route, Buffer, searching, inputsOf, inputNumber, hasInput, linkFound, prefixFound, searched}
 use Rattle.lfa.specs.Refusal.{Row, noPair, Applies, ifNone, returned, entryOf, rowsTried, Decides, Decided, decided, refusalOf}
 use Rattle.lfa.specs.Answer.{Answer, refused, refusal, repairAnswer, routeAnswer, routePlayed, computed, answerTo, writtenTo, leave, exitBy, exitOf}
-use Rattle.lfa.specs.Laws.Rows.{none-decides, none-applies, tried-rows}
+use Rattle.lfa.specs.Laws.Rows.{none-decides, none-applies}
+use Rattle.lfa.specs.Laws.FileRows.{tried-rows}
 use Rattle.lfa.specs.Laws.Causes.{returns-none, decides-found, found-decides}
 
 -- ---- the row that decides

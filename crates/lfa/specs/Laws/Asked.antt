@@ -14,7 +14,8 @@ use Rattle.lfa.specs.Repair.{Outcome, prefixUnreachable, prefixUntouched
 use Rattle.lfa.specs.Question.{Question, Call, load, fill, space, linkRepair, prefixRepair, route, networkAsked, linkFound, prefixFound, searched}
 use Rattle.lfa.specs.Refusal.{shortArea, shortBuffer, noSuchLink, noSuchPrefix, noPair, leavesRoute, entryOf, earlyRows, questionRows, tries, decided, firstRow, ifNone, returned, refusalOf, Posed}
 use Rattle.lfa.specs.Answer.{refused, repair, refusal, repairAnswer, routeAnswer, routeFor, routePlayed, computed, answerTo, writtenTo, leave, exitBy, exitOf, workAfter, routeAfter}
-use Rattle.lfa.specs.Laws.Rows.{NoneApply, nothing, also, passed-over, loaded-rows, accepted-passes-rows}
+use Rattle.lfa.specs.Laws.Rows.{NoneApply, nothing, also, passed-over}
+use Rattle.lfa.specs.Laws.FileRows.{loaded-rows, accepted-passes-rows}
 use Rattle.lfa.specs.Laws.Answers.{searches}
 use Rattle.lfa.specs.Laws.Passed.{area-passes, buffer-passes, link-passes, prefix-passes}
 use Rattle.lfa.specs.Laws.Accepted.{link-count, prefix-count}

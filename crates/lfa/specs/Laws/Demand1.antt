@@ -12,7 +12,7 @@ use Rattle.lfa.specs.Question.{Question, loading}
 use Rattle.lfa.specs.Refusal.{FileRow, Row, ofFile, entryOf, fileNumber, fileRows, earlyRows, questionRows, allRows, Decides, Decided, decided, inFile, fileRefusal}
 use Rattle.lfa.specs.Answer.{partIf, linkPart, prefixPart}
 use Rattle.lfa.specs.Demands.{ByTheTable, PartGiven, Demand1}
-use Rattle.lfa.specs.Laws.Rows.{refused-file, load-passes, tried-rows}
+use Rattle.lfa.specs.Laws.FileRows.{refused-file, load-passes, tried-rows}
 use Rattle.lfa.specs.Laws.Causes.{decides-found, found-decides}
 use Rattle.lfa.specs.Laws.Answers.{refusal-given, refusal-stated, row-leaves, no-row-leaves}
 

@@ -15,7 +15,8 @@ use Rattle.lfa.specs.Refusal.{FileRow, Row, ofFile, shortArea, shortBuff
 use Rattle.lfa.specs.Answer.{Answer, refused, accepted, refusal, earlyAnswer, computed, answerTo, leave, exitBy, exitOf, workAfter, routeAfter}
 use Rattle.lfa.specs.Laws.Test.{and-left, and-right}
 use Rattle.lfa.specs.Laws.List.{select-gives, select-make, unless-none}
-use Rattle.lfa.specs.Laws.Rows.{FirstFound, first-found, none-decides, still-decides, first-listed, loaded-rows, load-passes, refused-file, load-accepted}
+use Rattle.lfa.specs.Laws.Rows.{FirstFound, first-found, none-decides, still-decides}
+use Rattle.lfa.specs.Laws.FileRows.{first-listed, loaded-rows, load-passes, refused-file, load-accepted}
 use Rattle.lfa.specs.Laws.Accepted.{link-count, prefix-count}
 
 -- a question that is turned away with this answer, its buffers left as they were

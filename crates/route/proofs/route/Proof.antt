@@ -21,7 +21,8 @@ use Rattle.repair.specs.Laws.Posed.{refused-away, ready-posed}
 use Rattle.repair.specs.Laws.Named.{prefix-cell, link-in}
 use Rattle.repair.proofs.RepairLaws.{prefix-answered}
 use Rattle.route.specs.Answer.{playedOf}
-use Rattle.route.proofs.RouteLaws.{TheRoute, played-route, play-ready, route-answered, buffer-written, prefix-handed, link-handed, not-pair, for-prefix, work-same, passed, choices-apart}
+use Rattle.route.proofs.RouteLaws.{route-answered, buffer-written, prefix-handed, link-handed, not-pair, for-prefix, work-same, passed, choices-apart}
+use Rattle.route.proofs.HandedLaws.{TheRoute, played-route, play-ready}
 use borrow.Author.Needs.{needs}
 use Rattle.route.proofs.route.Statement.{statement}
 use Rattle.route.proofs.route.Tie as tie
