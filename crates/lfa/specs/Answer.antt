@@ -1,5 +1,5 @@
 -- The whole answer of every call, the exit of every lent buffer, and the file part's other answers. The contracts of the public calls
--- cite `answerTo`, `workAfter`, `routeAfter`, `networkLoaded`, `linkPart`, `prefixPart` and `Space.sizeOf`.
+-- cite `answerTo` and `exitOf` (by the records of `Contract`), `networkLoaded`, `linkPart`, `prefixPart` and `Space.sizeOf`.
 -- Assumes nothing.
 use Prim.Native.Nat.{ℕ}
 use mathlib.Core.Bool.{Bool, true, false}
@@ -55,7 +55,7 @@ routeAnswer prefixUntouched count = untouched
 routeAnswer noneServes count = refused (entryOf noPair .number) 0
 routeAnswer (chosen n y class cost) count = played count
 
--- the answer of a call that nothing turns away
+-- the answer of a call that no row before 14 turns away
 unfoldable pub computed : Question → Call → Answer
 computed q load = accepted
 computed q fill = done
@@ -88,10 +88,11 @@ exitBy (some (decided r v)) x before new = leave (entryOf r .left x) before new
 unfoldable pub exitOf : Question → Buffer → List ℕ → List ℕ
 exitOf q x before = exitBy (refusalOf q) x before (writtenTo q x before)
 
-unfoldable pub workAfter : Question → List ℕ → List ℕ
+-- the work area and the route buffer at exit
+abbrev pub workAfter : Question → List ℕ → List ℕ
 workAfter q area = exitOf q workArea area
 
-unfoldable pub routeAfter : Question → List ℕ → List ℕ
+abbrev pub routeAfter : Question → List ℕ → List ℕ
 routeAfter q buffer = exitOf q routeBuffer buffer
 
 -- ---- the file part's other answers

@@ -3,15 +3,15 @@
 use Prim.Native.Nat.{ℕ}
 use mathlib.Core.Path.{_≡_}
 use mathlib.Core.List.{List}
-use Rattle.lfa.specs.Question.{Question}
-use Rattle.lfa.specs.Answer.{Answer, answerTo, workAfter, routeAfter}
+use Rattle.lfa.specs.Question.{Question, workArea, routeBuffer}
+use Rattle.lfa.specs.Answer.{Answer, answerTo, exitOf}
 
--- a call that is lent a work area: `area` is what it held, `after` what it holds at exit
-pub record Answered (q : Question) (answer : Answer) (area after : List ℕ) : Type 0 where
+-- a call that is lent a work area: `area` is what it held, `areaAfter` what it holds at exit
+pub record Answered (q : Question) (answer : Answer) (area areaAfter : List ℕ) : Type 0 where
   pub answer-is : answer ≡ answerTo q
-  pub area-is : after ≡ workAfter q area
+  pub area-is : areaAfter ≡ exitOf q workArea area
 
--- a call that is lent a route buffer besides
-pub record Routed (q : Question) (answer : Answer) (area after buffer written : List ℕ) : Type 0 where
-  pub answered : Answered q answer area after
-  pub buffer-is : written ≡ routeAfter q buffer
+-- a call that is lent a route buffer besides: `buffer` is what it held, `bufferAfter` what it holds at exit
+pub record Routed (q : Question) (answer : Answer) (area areaAfter buffer bufferAfter : List ℕ) : Type 0 where
+  pub answered : Answered q answer area areaAfter
+  pub buffer-is : bufferAfter ≡ exitOf q routeBuffer buffer

@@ -1,38 +1,44 @@
 -- The three demands of the co-operative, in its words and its order, about the definitions that the contracts of the public calls cite:
--- `answerTo`, `workAfter` and `routeAfter` of a question, `linkPart` and `prefixPart` of a file. Statements only: `Laws/Demands.antt`
--- proves the last type of this page.
+-- `answerTo` and `exitOf` of a question, `networkLoaded`, `linkPart` and `prefixPart` of a file, `sizeOf` of a set. Statements only:
+-- `Laws/Demands.antt` proves the last type of this page.
 -- Assumes nothing.
 use Prim.Native.Nat.{ℕ, _+_, _*_, _≤_, _<_}
 use mathlib.Core.Path.{_≡_}
 use mathlib.Core.Logic.{_⊎_, _↔_}
 use mathlib.Core.Bool.{true}
-use mathlib.Core.List.{List, [], _++_, map, List·Memᴰ}
+use mathlib.Core.List.{List, [], _∷_, _++_, map, List·Memᴰ}
 use lib.ListN.{getD, length, drop}
 use Rattle.lfa.specs.Lists.{countUp, HowMany}
-use Rattle.lfa.specs.Network.{Arc, Target, router, arcs}
-use Rattle.lfa.specs.File.{Bytes, linksOf, prefixesOf, linkEntry, prefixEntry}
+use Rattle.lfa.specs.Network.{Arc, Target, Network, router, arcs}
+use Rattle.lfa.specs.File.{Bytes, byteAt, linksOf, prefixesOf, linkEntry, prefixEntry}
+use Rattle.lfa.specs.FileOf.{fileOf, WithinLimits}
 use Rattle.lfa.specs.Distance.{unreachable, LeastCosts, distances, distanceIn, towards}
 use Rattle.lfa.specs.Walk.{Crosses, Arrives}
 use Rattle.lfa.specs.Space.{Space, has, sizeOf, Member}
-use Rattle.lfa.specs.Repair.{IsPair, pair, keysOf, First, HasClass, MayCross}
-use Rattle.lfa.specs.Route.{NamedRoute}
-use Rattle.lfa.specs.Question.{Question, linkRepair, prefixRepair, route, space, loading, toPrefixRepair, Buffer, workArea, routeBuffer, aPrefix, lent, HasInput, networkAsked, linkAsked, prefixAsked}
-use Rattle.lfa.specs.Refusal.{Row, Applies, entryOf, allRows, rowsTried, Decides, Posed}
-use Rattle.lfa.specs.Answer.{Answer, refused, untouched, unreached, set, repair, played, answerTo, leave, writtenTo, exitOf, workAfter, routeAfter, linkPart, prefixPart}
+use Rattle.lfa.specs.Repair.{IsPair, Keys, First, HasClass, MayCross}
+use Rattle.lfa.specs.Route.{AreOptions, options, NamedRoute}
+use Rattle.lfa.specs.Question.{Question, Call, load, fill, linkRepair, prefixRepair, route, space, loading, toPrefixRepair, Buffer, workArea, routeBuffer, aPrefix, lent, HasInput, networkAsked, linkAsked, prefixAsked}
+use Rattle.lfa.specs.Refusal.{Row, noPair, Applies, entryOf, rowsTried, Decides, Accepted, Posed}
+use Rattle.lfa.specs.Answer.{Answer, refused, accepted, done, untouched, unreached, set, repair, played, answerTo, leave, writtenTo, exitOf, networkLoaded, linkPart, prefixPart}
 
 -- ---- demand 1: "every public call takes every input, always returns" (no contract has a `requires`, and each function is proved to
 -- end), "gives the refusal that the table in document 01 states, and leaves each lent buffer as that table says"
 
+-- no row that the call tries applies
+abbrev pub NoRow : Question → Type 0
+NoRow q = (r : Row) (v : ℕ) → List·Memᴰ r (rowsTried (q .call)) → Applies q r v → ⊥
+
 -- of every question
 pub record ByTheTable (q : Question) : Type 0 where
-  -- a call tries just the rows that it has inputs for
-  pub tried : (r : Row) → List·Memᴰ r (rowsTried (q .call)) ↔ HasInput q (entryOf r .input)
   -- the first row that applies is the refusal given, and nothing else is refused
   pub refusal-given : (r : Row) (v : ℕ) → Decides q r v → answerTo q ≡ refused (entryOf r .number) v
   pub refusal-stated : (k v : ℕ) → answerTo q ≡ refused k v → (r : Row) × (entryOf r .number ≡ k) × Decides q r v
   -- it leaves each buffer that the call is lent as the table says; where no row applies, the call writes the buffer
   pub row-leaves : (r : Row) (v : ℕ) → Decides q r v → (x : Buffer) → HasInput q (lent x) → (before : List ℕ) → exitOf q x before ≡ leave (entryOf r .left x) before (writtenTo q x before)
-  pub no-row-leaves : ((r : Row) (v : ℕ) → List·Memᴰ r (rowsTried (q .call)) → Applies q r v → ⊥) → (x : Buffer) → HasInput q (lent x) → (before : List ℕ) → exitOf q x before ≡ writtenTo q x before
+  pub no-row-leaves : NoRow q → (x : Buffer) → HasInput q (lent x) → (before : List ℕ) → exitOf q x before ≡ writtenTo q x before
+  -- a file without a fault is accepted, and distances are computed
+  pub loaded : q .call ≡ load → NoRow q → answerTo q ≡ accepted
+  pub filled : q .call ≡ fill → NoRow q → answerTo q ≡ done
 
 -- of the calls for the bytes of one entry: "for a refused file or a link or prefix number too large that part, its whole answer, is empty"
 pub record PartGiven (b : Bytes) (k count : ℕ) (entry part : Bytes) : Type 0 where
@@ -40,8 +46,27 @@ pub record PartGiven (b : Bytes) (k count : ℕ) (entry part : Bytes) : Type 0 w
   pub refused-file : (r : Row) (v : ℕ) → Decides (loading b) r v → part ≡ []
   pub too-large : count ≤ k → part ≡ []
 
+-- the numbers of the rows that a call tries, in the order of trying
+abbrev pub numbersTried : Call → List ℕ
+numbersTried c = map (λ r. entryOf r .number) (rowsTried c)
+
+-- "A call tries only the rows it has inputs for"
+pub record EachCallTries : Type 0 where
+  pub load : numbersTried load ≡ countUp 1 9
+  pub distances : numbersTried fill ≡ countUp 1 10
+  pub space : (s : Space) → numbersTried (space s) ≡ countUp 1 10 ++ 12 ∷ []
+  pub link-repair : numbersTried linkRepair ≡ countUp 1 10 ++ 12 ∷ 14 ∷ []
+  pub prefix-repair : numbersTried prefixRepair ≡ countUp 1 10 ++ 12 ∷ 13 ∷ 14 ∷ []
+  pub route : numbersTried route ≡ countUp 1 14
+
+-- rows 1 to 9 together: accepted files and networks within the limits of document 01 are the same thing
+pub record FilesAndNetworks : Type 0 where
+  pub written : (net : Network) → WithinLimits net → Accepted (fileOf net) × (networkLoaded (fileOf net) ≡ net)
+  pub read : (b : Bytes) → Accepted b → WithinLimits (networkLoaded b) × (fileOf (networkLoaded b) ≡ b)
+
 pub record Demand1 : Type 0 where
-  pub numbers : map (λ r. entryOf r .number) allRows ≡ countUp 1 14
+  pub rows : EachCallTries
+  pub files : FilesAndNetworks
   pub by-the-table : (q : Question) → ByTheTable q
   pub link-given : (b : Bytes) (k : ℕ) → PartGiven b k (linksOf b) (linkEntry b k) (linkPart b k)
   pub prefix-given : (b : Bytes) (k : ℕ) → PartGiven b k (prefixesOf b) (prefixEntry b k) (prefixPart b k)
@@ -69,13 +94,17 @@ pub record HasThis (q : Question) (to : Target) (n y : ℕ) : Type 0 where
 abbrev pub Candidate : Question → ℕ → ℕ → ℕ → ℕ → Type 0
 Candidate q n cost over y = IsPair (N q) (Hops q) (linkAsked q) n cost over y
 
+-- what the order of repairs looks at: class, D(S,y), y, tunnel cost, n
+abbrev pub keys : Question → (n y class cost : ℕ) → Keys
+keys q n y class cost = record { class = class; distance = D q (linkAsked q .near) y; endpoint = y; tunnel = cost; hop = n }
+
 -- "A repair is a first hop and an endpoint, the pair that document 01 puts first", with its class and tunnel cost
 pub record IsRepair (q : Question) (to : Target) (n y class cost : ℕ) : Type 0 where
   pub hop-cost : ℕ
   pub over : ℕ
   pub candidate : Candidate q n hop-cost over y
   pub has-this : HasThis q to n y
-  pub first : (n′ c′ l′ y′ : ℕ) → Candidate q n′ c′ l′ y′ → HasThis q to n′ y′ → First (keysOf (D q) (linkAsked q) to (pair n hop-cost over y)) (keysOf (D q) (linkAsked q) to (pair n′ c′ l′ y′))
+  pub first : (n′ c′ l′ y′ k′ : ℕ) → Candidate q n′ c′ l′ y′ → HasThis q to n′ y′ → HasClass (D q) (linkAsked q) to n′ y′ k′ → First (keys q n y class cost) (keys q n′ y′ k′ (c′ + D q n′ y′))
   pub class-is : HasClass (D q) (linkAsked q) to n y class
   pub cost-is : cost ≡ hop-cost + D q n y
 
@@ -96,12 +125,12 @@ pub record RouteNamed (q : Question) (n y : ℕ) : Type 0 where
   pub only : (other : List ℕ) → NamedRoute (N q) (Hops q) (D q) (prefixAsked q) (q .choices) (linkAsked q .near) n y other → other ≡ routers
   pub fits : length routers ≤ 2 * N q
   pub count : answerTo q ≡ played (length routers)
-  pub written : (buffer : List ℕ) → routeAfter q buffer ≡ routers ++ drop (length routers) buffer
+  pub written : (buffer : List ℕ) → exitOf q routeBuffer buffer ≡ routers ++ drop (length routers) buffer
 
 pub record Demand2 (q : Question) : Type 0 where
   pub least-costs : LeastCosts (Hops q) (D q)
-  pub distances-left : HasInput q (lent workArea) → (area : List ℕ) (x t : ℕ) → x < N q → t < N q → getD (workAfter q area) (x * N q + t) 0 ≡ D q x t
-  pub later-cells-untouched : HasInput q (lent workArea) → (area : List ℕ) (k : ℕ) → N q * N q ≤ k → getD (workAfter q area) k 0 ≡ getD area k 0
+  pub distances-left : HasInput q (lent workArea) → (area : List ℕ) (x t : ℕ) → x < N q → t < N q → getD (exitOf q workArea area) (x * N q + t) 0 ≡ D q x t
+  pub later-cells-untouched : HasInput q (lent workArea) → (area : List ℕ) (k : ℕ) → N q * N q ≤ k → getD (exitOf q workArea area) k 0 ≡ getD area k 0
   pub space-held : (s : Space) → q .call ≡ space s → SpaceHeld q s
   pub link-repair-first : q .call ≡ linkRepair → (n y class cost : ℕ) → answerTo q ≡ repair n y class cost → IsRepair q (router (linkAsked q .far)) n y class cost
   pub prefix-repair-first : q .call ≡ prefixRepair → (n y class cost : ℕ) → answerTo q ≡ repair n y class cost →
@@ -110,8 +139,10 @@ pub record Demand2 (q : Question) : Type 0 where
   pub unreachable-when : HasInput q aPrefix → (answerTo q ≡ unreached) ↔ (towards (D q) (prefixAsked q) (linkAsked q .near) ≡ unreachable)
   pub untouched-when : HasInput q aPrefix →
       (answerTo q ≡ untouched) ↔ ((towards (D q) (prefixAsked q) (linkAsked q .near) < unreachable) × (MayCross (Hops q) (D q) (linkAsked q) (prefixAsked q) → ⊥))
-  pub write-nothing : HasInput q (lent routeBuffer) → (answerTo q ≡ unreached) ⊎ (answerTo q ≡ untouched) → (buffer : List ℕ) → routeAfter q buffer ≡ buffer
-  -- the pair of the prefix repair is played
+  pub write-nothing : HasInput q (lent routeBuffer) → (answerTo q ≡ unreached) ⊎ (answerTo q ≡ untouched) → (buffer : List ℕ) → exitOf q routeBuffer buffer ≡ buffer
+  -- the pair of the prefix repair is played, and where it has none the route has none
+  pub options-are : (to : Target) (x : ℕ) → AreOptions (Hops q) (D q) to x (options (N q) (Hops q) (D q) to x)
+  pub route-14 : q .call ≡ route → (answerTo q ≡ refused 14 0) ↔ (answerTo (toPrefixRepair q) ≡ refused 14 0)
   pub route-named : q .call ≡ route → (n y class cost : ℕ) → answerTo (toPrefixRepair q) ≡ repair n y class cost → RouteNamed q n y
 
 -- ---- demand 3
@@ -136,9 +167,13 @@ pub record Demand3 (q : Question) (answer : Answer) : Type 0 where
       × ((p : ℕ) → p < length (networkAsked q .prefixes) →
       MayCross (Hops q) (D q) (linkAsked q) (getD (networkAsked q .prefixes) p []) → HasThis q (getD (networkAsked q .prefixes) p []) n y)
 
--- ---- the demands: 1 of every question at all; 2 and 3 "for every accepted file, every link and end of it", with work area enough
+-- ---- the demands: 1 of every question at all; 2 and 3 of those that no row before 14 turns away, "for every accepted file, every link and
+-- end of it, and every prefix .. with work area enough"
 
 pub record Demands : Type 0 where
   pub demand-1 : Demand1
   pub demand-2 : (q : Question) → Posed q → Demand2 q
   pub demand-3 : (q : Question) → Posed q → Demand3 q (answerTo q)
+  -- of a file of bytes, that is what `Posed` means
+  pub posed-when : (q : Question) → ((i : ℕ) → byteAt (q .file) i < 256) →
+      Posed q ↔ ((r : Row) (v : ℕ) → List·Memᴰ r (rowsTried (q .call)) → (r ≡ noPair → ⊥) → Applies q r v → ⊥)

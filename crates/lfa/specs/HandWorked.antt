@@ -22,8 +22,8 @@ use Rattle.lfa.specs.Laws.Passed.{area-passes, buffer-passes}
 use Rattle.lfa.specs.Laws.Turned.{early-turned-away}
 use mathlib.Core.Bool.{true}
 use Rattle.lfa.specs.Question.{Question, workArea, routeBuffer, aLink, lent, inputsOf, inputNumber, hasInput, HasInput, loading, askSpace, askLink, askPrefix, askRoute, networkAsked, linkAsked, prefixAsked, withDistances, linkFound, prefixFound, searched}
-use Rattle.lfa.specs.Refusal.{noSuchLink, noSuchPrefix, decided, orLater, earlyRefusal, ifNone, fileReturned, returned, fileNumber, entryOf, fileRows, earlyRows, questionRows, allRows, tries, rowsTried, firstRow, inFile, fileRefusal, refusalOf}
-use Rattle.lfa.specs.Answer.{Answer, refused, accepted, set, repair, played, untouched, refusal, routeFor, routePlayed, repairAnswer, routeAnswer, computed, answerTo}
+use Rattle.lfa.specs.Refusal.{noSuchLink, noSuchPrefix, decided, orLater, earlyRefusal, ifNone, fileReturned, returned, fileNumber, entryOf, fileRows, earlyRows, questionRows, allRows, tries, rowsTried, firstRow, inFile, fileRefusal, refusalOf, sizedReturned}
+use Rattle.lfa.specs.Answer.{Answer, refused, accepted, set, repair, played, untouched, refusal, routeFor, routePlayed, repairAnswer, routeAnswer, computed, answerTo, writtenTo, leave, exitBy, exitOf}
 
 -- ---- the networks
 
@@ -68,7 +68,7 @@ unfoldable pub members : List ℕ → ℕ
 members [] = 0
 members (r ∷ rs) = 2 ^ r + members rs
 
--- a question about the file of a network, and the answer that document 01 works out; of a route also its routers
+-- a question about the file of a network, and the answer that document 01 works out; of a route also the routers that it writes
 pub data Worked : Type 0 where
   asked : (question : Question) (answer : Answer) → Worked
   route : (question : Question) (answer : Answer) (routers : List ℕ) → Worked
@@ -95,7 +95,7 @@ starred =
 -- what the definitions answer to the question of a row, in the row's form
 unfoldable pub yielded : Worked → Worked
 yielded (asked q a) = asked q (answerTo q)
-yielded (route q a rs) = route q (answerTo q) (routePlayed q)
+yielded (route q a rs) = route q (answerTo q) (exitOf q routeBuffer [])
 
 unfoldable pub yieldedAll : List Worked → List Worked
 yieldedAll [] = []
@@ -103,10 +103,10 @@ yieldedAll (w ∷ ws) = yielded w ∷ yieldedAll ws
 
 -- to unfold this is to unfold every definition that an answer rests on
 unfoldable opened : Unit {0}
-unfolding countUp below select anyOf everyBelow memberOf flat count firstFailing unless table cell router arcs arcsFrom byteAt wordAt partOf allZero blocksIn blockOf sumWords checkOf routersOf linksOf prefixesOf ceil linkBlocks prefixBlocks blocksNeeded linkEntry linkIn prefixEntry attachments slotRouter slot prefixIn linkOf prefixOf networkOf lengthGood checkGood headGood blockCountGood laterGood entriesIn soundBlock blockGood soundLink linkGood joinSame linkNew slotGood soundPrefix prefixGood slotNew routersNew fileOf blocksOf prefixBlock linkBlock entriesBlock prefixBytes slotBytes linkBytes headBlock blockBytes pad wordBytes least costOver towards hopCost direct through stage distances distanceIn isStep leads takers over overFrom avoids crosses protectedBy protected isFirst firstOver firstHops hopRouter inSpace setOf spaceOf isEndpoint withEndpoint pairsOf pairs serves mayCross orElse classOf tunnelCost keysOf key noLater earlier choose pairKey firstPair outcomeOf linkOutcome prefixOutcome isStepTo nextRouters attachedAt delivers movesOf options choiceAt optionTaken playTo playOn routeOf answerTo routePlayed loading askSpace askLink askPrefix askRoute networkAsked linkAsked prefixAsked withDistances linkFound prefixFound searched inputsOf inputNumber hasInput ifNone fileReturned returned fileNumber entryOf fileRows earlyRows questionRows allRows tries rowsTried firstRow inFile fileRefusal refusalOf refusal routeFor repairAnswer routeAnswer computed
+unfolding countUp below select anyOf everyBelow memberOf flat count firstFailing unless table cell router arcs arcsFrom byteAt wordAt partOf allZero blocksIn blockOf sumWords checkOf routersOf linksOf prefixesOf ceil linkBlocks prefixBlocks blocksNeeded linkEntry linkIn prefixEntry attachments slotRouter slot prefixIn linkOf prefixOf networkOf lengthGood checkGood headGood blockCountGood laterGood entriesIn soundBlock blockGood soundLink linkGood joinSame linkNew slotGood soundPrefix prefixGood slotNew routersNew fileOf blocksOf prefixBlock linkBlock entriesBlock prefixBytes slotBytes linkBytes headBlock blockBytes pad wordBytes least costOver towards hopCost direct through stage distances distanceIn isStep leads takers over overFrom avoids crosses protectedBy protected isFirst firstOver firstHops hopRouter inSpace setOf spaceOf isEndpoint withEndpoint pairsOf pairs serves mayCross orElse classOf tunnelCost keysOf key noLater earlier choose pairKey firstPair outcomeOf linkOutcome prefixOutcome isStepTo nextRouters attachedAt delivers movesOf options choiceAt optionTaken playTo playOn routeOf answerTo routePlayed loading askSpace askLink askPrefix askRoute networkAsked linkAsked prefixAsked withDistances linkFound prefixFound searched inputsOf inputNumber hasInput ifNone fileReturned returned sizedReturned fileNumber entryOf fileRows earlyRows questionRows allRows tries rowsTried firstRow inFile fileRefusal refusalOf refusal routeFor repairAnswer routeAnswer computed writtenTo leave exitBy exitOf
 opened = tt
 
--- every row but the last
+-- the table; the lone router's "any link question" follows
 rows-yielded : yieldedAll starred ≡ starred
 unfolding opened ringFrom ring ring4prefix ring5prefix ring3cost2 ring4cost10 twoRouters oneRouter members starred yielded yieldedAll
 rows-yielded = refl

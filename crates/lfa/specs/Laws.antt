@@ -19,8 +19,8 @@ pub mod Repair
 pub mod Network
 pub mod Route
 pub mod Rows
-pub mod FileRows
 pub mod Causes
+pub mod FileRows
 pub mod Answers
 pub mod Passed
 pub mod Accepted
@@ -28,6 +28,7 @@ pub mod Turned
 pub mod Asked
 pub mod Work
 pub mod File
+pub mod PosedWhen
 pub mod Demand1
 pub mod HasThis
 pub mod Replies

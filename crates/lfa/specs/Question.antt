@@ -15,6 +15,7 @@ use Rattle.lfa.specs.Repair.{Outcome, linkOutcome, prefixOutcome}
 
 -- the calls that answer with a refusal or something else. The two calls for the bytes of an entry have answers of their own
 -- (`Answer.linkPart`, `prefixPart`).
+-- `fill` is the call for the distances.
 pub data Call : Type 0 where
   load fill linkRepair prefixRepair route : Call
   space : Space → Call
@@ -61,7 +62,7 @@ toPrefixRepair q = askPrefix (q .file) (q .area) (q .link) (q .end) (q .prefix)
 pub data Buffer : Type 0 where
   workArea routeBuffer : Buffer
 
--- `searched`: the call searches for a pair
+-- what a row of the table looks at; `searching`: the call searches for a pair
 pub data Input : Type 0 where
   aFile aLink aPrefix searching : Input
   lent : Buffer → Input

@@ -139,13 +139,22 @@ ifNone (some prefixUntouched) value = none
 ifNone (some noneServes) value = some value
 ifNone (some (chosen n y class cost)) value = none
 
+-- the value that one of rows 10 to 13 returns where it applies, by the counts of any file; other rows look at more than numbers
+unfoldable pub sizedReturned : (routers links prefixes : ℕ) → Question → Row → Option ℕ
+sizedReturned n l p q (ofFile r) = none
+sizedReturned n l p q shortArea = unless (leb (n * n) (q .area)) (n * n)
+sizedReturned n l p q shortBuffer = unless (leb (2 * n) (q .buffer)) (2 * n)
+sizedReturned n l p q noSuchLink = unless (ltb (q .link) l && leb (q .end) 1) l
+sizedReturned n l p q noSuchPrefix = unless (ltb (q .prefix) p) p
+sizedReturned n l p q noPair = none
+
 -- the value that a row returns where it applies to the question
 unfoldable pub returned : Question → Row → Option ℕ
 returned q (ofFile r) = fileReturned (q .file) r
-returned q shortArea = unless (leb (routersOf (q .file) * routersOf (q .file)) (q .area)) (routersOf (q .file) * routersOf (q .file))
-returned q shortBuffer = unless (leb (2 * routersOf (q .file)) (q .buffer)) (2 * routersOf (q .file))
-returned q noSuchLink = unless (ltb (q .link) (linksOf (q .file)) && leb (q .end) 1) (linksOf (q .file))
-returned q noSuchPrefix = unless (ltb (q .prefix) (prefixesOf (q .file))) (prefixesOf (q .file))
+returned q shortArea = sizedReturned (routersOf (q .file)) (linksOf (q .file)) (prefixesOf (q .file)) q shortArea
+returned q shortBuffer = sizedReturned (routersOf (q .file)) (linksOf (q .file)) (prefixesOf (q .file)) q shortBuffer
+returned q noSuchLink = sizedReturned (routersOf (q .file)) (linksOf (q .file)) (prefixesOf (q .file)) q noSuchLink
+returned q noSuchPrefix = sizedReturned (routersOf (q .file)) (linksOf (q .file)) (prefixesOf (q .file)) q noSuchPrefix
 returned q noPair = ifNone (searched q (q .call)) 0
 
 -- the row that decides, and the value that it returns
@@ -180,7 +189,7 @@ earlyRefusal q = orLater (fileRefusal (q .file)) (firstRow (returned q) (select 
 -- "A file is accepted when none of rows 1 to 9 applies to it"; a file is a list of bytes
 pub record Accepted (b : Bytes) : Type 0 where
   pub bytes : (i : ℕ) → byteAt b i < 256
-  pub none-applies : (r : FileRow) → fileReturned b r ≡ none
+  pub none-applies : (r : FileRow) (v : ℕ) → FileApplies b r v → ⊥
 
 -- A question that no row before 14 turns away: an accepted file, buffers that are long enough, and a link, an end and a prefix of it,
 -- as far as the call has them. "work area is enough when row 10 doesn't apply"

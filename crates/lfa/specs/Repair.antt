@@ -112,7 +112,7 @@ pub record SameKeys (a b : Keys) : Type 0 where
   pub tunnel : a .tunnel ≡ b .tunnel
   pub hop : a .hop ≡ b .hop
 
--- no key of b is before a: a precedes b, or the two have the same keys
+-- b does not come before a: a precedes b, or the two have the same keys
 abbrev pub First : Keys → Keys → Type 0
 First a b = Precedes a b ⊎ SameKeys a b
 

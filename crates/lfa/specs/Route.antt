@@ -1,15 +1,16 @@
 -- "Played routes": options, choice bytes, the route that choice bytes name, and how it is computed.
 -- Assumes nothing.
-use Prim.Native.Nat.{ℕ, zero, suc, _%_}
+use Prim.Native.Nat.{ℕ, zero, suc, _%_, _<_}
 use mathlib.Core.Path.{_≡_}
+use mathlib.Core.Logic.{_⊎_}
 use mathlib.Core.Bool.{Bool, true, false, _&&_}
-use mathlib.Core.List.{List, [], _∷_, _++_, map}
+use mathlib.Core.List.{List, [], _∷_, _++_, map, List·Memᴰ}
 use lib.Dec.{eqb, ltb}
 use lib.ListN.{getD, length}
 use Rattle.lfa.specs.Lists.{below, select, anyOf}
 use Rattle.lfa.specs.Network.{Arc, arc, Attachment, at, Target, router}
 use Rattle.lfa.specs.Distance.{unreachable, towards}
-use Rattle.lfa.specs.Walk.{isStep}
+use Rattle.lfa.specs.Walk.{Step, Delivers, isStep}
 
 -- ---- options at a router
 
@@ -37,7 +38,25 @@ unfoldable pub movesOf : Bool → List ℕ → List Move
 movesOf true zs = deliver ∷ map go zs
 movesOf false zs = map go zs
 
--- "Options at a router stand with delivery first, then next routers ascending"
+-- a move that a walk has at x
+abbrev pub HasMove : List Arc → (ℕ → ℕ → ℕ) → Target → ℕ → Move → Type 0
+HasMove hops d to x deliver = Delivers d to x
+HasMove hops d to x (go z) = (l : ℕ) × Step hops d to x z l
+
+-- each number is below those that follow
+pub data Ascending : List ℕ → Type 0 where
+  nothing : Ascending []
+  before : {x : ℕ} {l : List ℕ} → ((y : ℕ) → List·Memᴰ y l → x < y) → Ascending l → Ascending (x ∷ l)
+
+-- "Options at a router stand with delivery first, then next routers ascending": these moves are the options at x
+pub record AreOptions (hops : List Arc) (d : ℕ → ℕ → ℕ) (to : Target) (x : ℕ) (moves : List Move) : Type 0 where
+  pub each : (m : Move) → List·Memᴰ m moves → HasMove hops d to x m
+  pub every : (m : Move) → HasMove hops d to x m → List·Memᴰ m moves
+  pub nexts : List ℕ
+  pub ascending : Ascending nexts
+  pub delivery-first : (moves ≡ deliver ∷ map go nexts) ⊎ (moves ≡ map go nexts)
+
+-- how they are computed
 unfoldable pub options : ℕ → List Arc → (ℕ → ℕ → ℕ) → Target → ℕ → List Move
 options n hops d to x = movesOf (delivers d to x) (nextRouters n hops d to x)
 
@@ -47,7 +66,7 @@ options n hops d to x = movesOf (delivers d to x) (nextRouters n hops d to x)
 unfoldable pub choiceAt : List ℕ → ℕ → ℕ
 choiceAt choices i = getD choices i 0
 
--- "option number is the next choice byte modulo the number of options"
+-- "option number is the next choice byte modulo the number of options"; a router of a route has some
 unfoldable pub optionTaken : List Move → ℕ → Move
 optionTaken ms byte = getD ms (byte % length ms) deliver
 

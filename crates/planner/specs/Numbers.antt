@@ -3,8 +3,8 @@
 use Prim.Native.Nat.{ℕ}
 use mathlib.Core.Path.{_≡_}
 use mathlib.Core.List.{List}
-use Rattle.lfa.specs.Question.{Question}
-use Rattle.lfa.specs.Answer.{Answer, refused, accepted, done, untouched, unreached, set, repair, played, answerTo, workAfter, routeAfter}
+use Rattle.lfa.specs.Question.{Question, workArea, routeBuffer}
+use Rattle.lfa.specs.Answer.{Answer, refused, accepted, done, untouched, unreached, set, repair, played, answerTo, exitOf}
 use Rattle.network_file.specs.declared.network.Network as file
 use Rattle.planner.specs.declared.answer.Numbers.{Numbers}
 use Rattle.planner.specs.declared.LoadedNetwork.{LoadedNetwork}
@@ -44,10 +44,10 @@ loadedAs answer net =
     }
 
 -- What a C function owes for a question: its answer as numbers, and what each lent buffer holds at exit.
-pub record Numbered (q : Question) (r : Numbers) (area after : List ℕ) : Type 0 where
+pub record Numbered (q : Question) (r : Numbers) (area areaAfter : List ℕ) : Type 0 where
   pub numbers-are : r ≡ numbersOf (answerTo q)
-  pub area-is : after ≡ workAfter q area
+  pub area-is : areaAfter ≡ exitOf q workArea area
 
-pub record NumberedRoute (q : Question) (r : Numbers) (area after buffer written : List ℕ) : Type 0 where
-  pub numbered : Numbered q r area after
-  pub buffer-is : written ≡ routeAfter q buffer
+pub record NumberedRoute (q : Question) (r : Numbers) (area areaAfter buffer bufferAfter : List ℕ) : Type 0 where
+  pub numbered : Numbered q r area areaAfter
+  pub buffer-is : bufferAfter ≡ exitOf q routeBuffer buffer

@@ -1,19 +1,16 @@
 -- Rows 1 to 13 in one place: what the file part refuses is refused early, and where it refuses nothing, the counts of the network that it
 -- hands over decide rows 10 to 13.
 -- Assumes nothing.
-use Prim.Native.Nat.{ℕ, _<_}
+use Prim.Native.Nat.{ℕ}
 use mathlib.Core.Path.{_≡_, refl, sym, ap, _∙_}
 use mathlib.Core.Option.{Option, none, some}
-use lib.ListN.{getD}
 use Rattle.lfa.specs.Lists.{select}
-use Rattle.lfa.specs.File.{Bytes, byteAt, routersOf, linksOf, prefixesOf}
+use Rattle.lfa.specs.File.{Bytes, routersOf, linksOf, prefixesOf}
 use Rattle.lfa.specs.Question.{loading}
-use Rattle.lfa.specs.Refusal.{Row, earlyRows, tries, returned, Decided, firstRow}
+use Rattle.lfa.specs.Refusal.{Row, earlyRows, tries, returned, Decided, firstRow, sizedReturned}
 use Rattle.lfa.specs.Answer.{Answer, refusal, earlyAnswer, answerTo, networkLoaded}
 use Rattle.lfa.specs.Laws.Rows.{SameOn, nowhere, same-also, same-decides}
-use Rattle.lfa.specs.Laws.FileRows.{load-accepted}
-use Rattle.lfa.specs.Laws.Turned.{load-early, loaded-early, load-accepts}
-use Rattle.lfa.specs.Laws.Accepted.{accepted-loaded}
+use Rattle.lfa.specs.Laws.Turned.{load-early, loaded-early}
 use Rattle.network_file.specs.declared.Fault.{Fault}
 use Rattle.network_file.specs.declared.Loaded.{Loaded}
 use Rattle.network_file.specs.declared.Verdict.the-variants as verdict
@@ -21,7 +18,7 @@ use Rattle.network_file.specs.Load.{faultRow, faultOf, answerOf}
 use Rattle.network_file.specs.Struct.{structOf}
 use Rattle.rows.specs.declared.Asked.{Asked}
 use Rattle.rows.specs.declared.Row as enum
-use Rattle.rows.specs.Rows.{callOf, questionAbout, questionOf, sizedReturned, rowDecided}
+use Rattle.rows.specs.Rows.{callOf, questionAbout, questionOf, rowDecided}
 use Rattle.repair.specs.Answer.{rowAnswer}
 use Rattle.repair.specs.Taken.{Taken}
 use Rattle.repair.specs.Laws.Loaded.{routers-are, links-are, prefixes-are}
@@ -40,12 +37,6 @@ module _ (b : Bytes) (a : Asked) (r : Loaded) (answered : (answerOf (r .verdict)
   module _ (v : r .verdict ≡ verdict.Accepted) where
     accepted-answer : answerOf verdict.Accepted ≡ answerTo (loading b)
     accepted-answer = ap answerOf (sym v) ∙ answered .0
-
-    pub taken : ((i : ℕ) → getD b i 0 < 256) → Taken b (r .network)
-    unfolding answerOf byteAt
-    taken bytes =
-        let a = load-accepted b bytes (load-accepts b (sym accepted-answer)) in
-        record { is-accepted = a; network-is = answered .1 ∙ ap structOf (accepted-loaded b a) }
 
     -- the rows of the question, by the counts of the network
     pub row-early : Taken b (r .network) → (n : ℕ) → n ≡ r .network .routers → (row : enum.Row) →

@@ -12,11 +12,11 @@ use lib.Seq.{take-suc-set, drop-set-lt, drop-drop, length-take-le}
 use Rattle.lfa.specs.Network.{Arc, Target}
 use Rattle.lfa.specs.Distance.{towards}
 use Rattle.lfa.specs.Walk.{Step}
-use Rattle.lfa.specs.Route.{Move, deliver, go, options, choiceAt, optionTaken, Takes, FirstLeg, arrived, onward as first-on, SecondLeg, delivered as second-end, onward as second-on}
+use Rattle.lfa.specs.Route.{Move, deliver, go, options, choiceAt, optionTaken, Takes, FirstLeg, arrived, onward as first-on, SecondLeg, delivered as second-end, onward as second-on, HasMove}
 use Rattle.lfa.specs.Laws.List.{getD-in}
 use Rattle.lfa.specs.Laws.Walk.{Positive}
 use Rattle.lfa.specs.Laws.Arrive.{Within}
-use Rattle.lfa.specs.Laws.Route.{HasMove, options-give, move-next, never-both}
+use Rattle.lfa.specs.Laws.Route.{options-give, move-next, never-both}
 use Rattle.route.specs.Leg.{Leg, stopped, delivered, onward}
 
 -- ---- a step that a choice byte takes

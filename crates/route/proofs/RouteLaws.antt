@@ -19,7 +19,7 @@ use Rattle.lfa.specs.Space.{protected}
 use Rattle.lfa.specs.Repair.{Outcome, prefixUnreachable, prefixUntouched, noneServes, chosen}
 use Rattle.lfa.specs.Route.{NamedRoute}
 use Rattle.lfa.specs.Question.{Question, inputsOf, inputNumber, hasInput, askPrefix, askRoute, toPrefixRepair, networkAsked, linkAsked, prefixAsked, withDistances, prefixFound}
-use Rattle.lfa.specs.Refusal.{FileRow, Decided, decided, inFile, Posed, entryOf, earlyRows, tries, returned, firstRow, earlyRefusal}
+use Rattle.lfa.specs.Refusal.{FileRow, Decided, decided, inFile, Posed, entryOf, earlyRows, tries, returned, firstRow, earlyRefusal, sizedReturned}
 use Rattle.lfa.specs.Answer.{Answer, refused, repair, played, refusal, repairAnswer, routeAnswer, routeFor, routePlayed, computed, answerTo, workAfter, routeAfter, earlyAnswer}
 use Rattle.lfa.specs.Demands.{IsRepair, RouteNamed}
 use Rattle.lfa.specs.Laws.Test.{and-make}
@@ -79,7 +79,7 @@ not-pair (answer.Pair p) k = absurd (third k)
 
 pub choices-apart : (b : Bytes) (area buffer l e p : ℕ) (choices : List ℕ) →
     earlyAnswer (askRoute b area buffer l e p []) ≡ earlyAnswer (askRoute b area buffer l e p choices)
-unfolding earlyAnswer earlyRefusal earlyRows select tries entryOf hasInput inputsOf inputNumber memberOf anyOf firstRow returned askRoute
+unfolding earlyAnswer earlyRefusal earlyRows select tries entryOf hasInput inputsOf inputNumber memberOf anyOf firstRow returned sizedReturned askRoute
 choices-apart b area buffer l e p choices = refl
 
 -- ---- a route question that no row before 14 turns away, beside the same question put to the prefix repair

@@ -9,13 +9,13 @@ use lib.Dec.{ltb, leb}
 use borrow.Author.Tests.{le-leb, lt-leb, lt-ltb, le-ltb}
 use Rattle.lfa.specs.Lists.{unless, select, memberOf, anyOf}
 use Rattle.lfa.specs.Question.{workArea, routeBuffer, aLink, aPrefix, lent, inputsOf, inputNumber, hasInput}
-use Rattle.lfa.specs.Refusal.{Row, shortArea, shortBuffer, noSuchLink, noSuchPrefix, entryOf, earlyRows, tries, Decided, decided, firstRow}
+use Rattle.lfa.specs.Refusal.{Row, shortArea, shortBuffer, noSuchLink, noSuchPrefix, entryOf, earlyRows, tries, Decided, decided, firstRow, sizedReturned}
 use Rattle.lfa.specs.Laws.List.{unless-good}
-use Rattle.lfa.specs.Laws.Rows.{NoneApply, nothing, also, passed-over, decides-after}
+use Rattle.lfa.specs.Laws.Rows.{nothing, also, passed-over, decides-after}
 use Rattle.rows.specs.declared.Call.{Call}
 use Rattle.rows.specs.declared.Call.the-variants.{Distances, Link, Prefix, Route}
 use Rattle.rows.specs.declared.Asked.{Asked}
-use Rattle.rows.specs.Rows.{callOf, questionAbout, questionOf, sizedReturned}
+use Rattle.rows.specs.Rows.{callOf, questionAbout, questionOf}
 
 -- every call has a work area
 has-area : (c : Call) → hasInput (callOf c) (lent workArea) ≡ true

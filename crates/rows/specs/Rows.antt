@@ -1,12 +1,8 @@
 -- The question that the numbers of a call make, and the rows that look at numbers alone, by the counts of any file.
 -- Assumes nothing.
-use Prim.Native.Nat.{ℕ, _*_}
-use mathlib.Core.Bool.{_&&_}
 use mathlib.Core.Option.{Option, none, some}
 use mathlib.Core.List.{[]}
-use lib.Dec.{ltb, leb}
-use Rattle.lfa.specs.Lists.{unless}
-use Rattle.lfa.specs.File.{Bytes, routersOf, linksOf, prefixesOf}
+use Rattle.lfa.specs.File.{Bytes}
 use Rattle.lfa.specs.Question as question
 use Rattle.lfa.specs.Refusal as table
 use Rattle.rows.specs.declared.Call.{Call}
@@ -27,15 +23,6 @@ questionAbout b a = record { call = callOf (a .call); file = b; area = a .area; 
 
 unfoldable pub questionOf : Asked → question.Question
 questionOf a = questionAbout [] a
-
--- the value that a row returns where it applies, by the counts of a file; rows that look at more than numbers are left out
-unfoldable pub sizedReturned : (routers links prefixes : ℕ) → question.Question → table.Row → Option ℕ
-sizedReturned n l p q (table.ofFile r) = none
-sizedReturned n l p q table.shortArea = unless (leb (n * n) (q .area)) (n * n)
-sizedReturned n l p q table.shortBuffer = unless (leb (2 * n) (q .buffer)) (2 * n)
-sizedReturned n l p q table.noSuchLink = unless (ltb (q .link) l && leb (q .end) 1) l
-sizedReturned n l p q table.noSuchPrefix = unless (ltb (q .prefix) p) p
-sizedReturned n l p q table.noPair = none
 
 -- the row that decides, with the value that it returns, for each case of the enum
 unfoldable pub rowDecided : Row → Option (table.Decided table.Row)

@@ -1,13 +1,13 @@
 // Rows 10 to 13 of the table of refusals, for every call. They look at numbers alone: the counts of a file's head and those of the
 // question.
-ghost use Prim.Native.Nat.{ℕ, _+_, _*_, _<_, _≤_};
+ghost use Prim.Native.Nat.{_*_, _<_};
 ghost use mathlib.Core.Path.{_≡_};
 ghost use mathlib.Core.Bool.{not, _&&_};
 ghost use lib.Dec.{ltb, leb};
 ghost use Rattle.lfa.specs.Lists.{select};
 ghost use Rattle.lfa.specs.Question.{routeBuffer, aLink, aPrefix, lent, hasInput};
-ghost use Rattle.lfa.specs.Refusal.{earlyRows, tries, firstRow};
-ghost use Rattle.rows.specs.Rows.{callOf, questionOf, sizedReturned, rowDecided};
+ghost use Rattle.lfa.specs.Refusal.{earlyRows, tries, firstRow, sizedReturned};
+ghost use Rattle.rows.specs.Rows.{callOf, questionOf, rowDecided};
 
 // The calls, by the inputs that these rows look at. A space is asked for with the inputs of a link repair.
 pub enum Call {

@@ -34,6 +34,11 @@ pub no-row-leaves : (q : Question) → ((r : Row) (v : ℕ) → List·Memᴰ r (
 unfolding exitOf exitBy refusalOf
 no-row-leaves q h x before = rw (none-applies (returned q) (rowsTried (q .call)) (λ r m. returns-none q r (λ v. h r v m)))
 
+-- the call answers what it computes
+pub no-row-computes : (q : Question) → ((r : Row) (v : ℕ) → List·Memᴰ r (rowsTried (q .call)) → Applies q r v → ⊥) → answerTo q ≡ computed q (q .call)
+unfolding answerTo refusalOf
+no-row-computes q h = rw (none-applies (returned q) (rowsTried (q .call)) (λ r m. returns-none q r (λ v. h r v m)), answerTo)
+
 -- ---- nothing else is refused
 
 -- an outcome that is answered with a refusal is that no pair serves

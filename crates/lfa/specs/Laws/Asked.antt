@@ -79,7 +79,7 @@ module _ (q : Question) (p : Posed q) where
 
   -- The work area holds the distances, whatever is found.
   pub posed-work : (area : List ℕ) → workAfter q area ≡ filled (networkAsked q) area
-  unfolding workAfter exitOf exitBy writtenTo entryOf leavesRoute leave
+  unfolding exitOf exitBy writtenTo entryOf leavesRoute leave
   posed-work area = go (last-row q p)
     where
       go : Searched q → workAfter q area ≡ filled (networkAsked q) area
@@ -88,7 +88,7 @@ module _ (q : Question) (p : Posed q) where
 
   -- The route buffer holds the routers of the route, of which there are none where there is no pair.
   pub posed-route : q .call ≡ route → (buffer : List ℕ) → routeAfter q buffer ≡ routePlayed q ++ drop (length (routePlayed q)) buffer
-  unfolding routeAfter exitOf exitBy writtenTo entryOf leavesRoute leave routePlayed routeFor searched
+  unfolding exitOf exitBy writtenTo entryOf leavesRoute leave routePlayed routeFor searched
   posed-route c buffer = go (last-row q p)
     where
       found : searched q (q .call) ≡ some noneServes → prefixFound q ≡ noneServes

@@ -13,7 +13,7 @@ use Rattle.lfa.specs.Lists.{unless, firstFailing, FirstFails}
 use Rattle.lfa.specs.File.{Bytes, routersOf, linksOf, prefixesOf, blocksIn, blocksNeeded, lengthGood, checkGood, headGood, blockCountGood, blockGood, linkGood, linkNew, prefixGood, routersNew}
 use Rattle.lfa.specs.Repair.{Outcome, prefixUnreachable, prefixUntouched, noneServes, chosen}
 use Rattle.lfa.specs.Question.{Question, searched}
-use Rattle.lfa.specs.Refusal.{FileRow, badLength, badCheck, badHead, badBlockCount, badBlock, badLink, parallelLink, badPrefix, routerTwice, FileApplies, fileReturned, Row, ofFile, shortArea, shortBuffer, noSuchLink, noSuchPrefix, noPair, Applies, ifNone, returned, rowsTried, Decides, decided, refusalOf}
+use Rattle.lfa.specs.Refusal.{FileRow, badLength, badCheck, badHead, badBlockCount, badBlock, badLink, parallelLink, badPrefix, routerTwice, FileApplies, fileReturned, Row, ofFile, shortArea, shortBuffer, noSuchLink, noSuchPrefix, noPair, Applies, ifNone, returned, rowsTried, Decides, decided, refusalOf, sizedReturned}
 use Rattle.lfa.specs.Laws.Test.{and-fails, fails-left, fails-right, not-fails}
 use Rattle.lfa.specs.Laws.List.{first-failing, failing-first}
 use Rattle.lfa.specs.Laws.Rows.{FirstFound, first-found, found-first}
@@ -88,7 +88,7 @@ file-row-applies b badPrefix v = tested-each (prefixGood b) 0 (prefixesOf b) v
 file-row-applies b routerTwice v = tested-each (routersNew b) 0 (prefixesOf b) v
 
 pub row-applies : (q : Question) (r : Row) (v : ℕ) → (returned q r ≡ some v) ↔ Applies q r v
-unfolding returned
+unfolding returned sizedReturned
 row-applies q (ofFile r) v = file-row-applies (q .file) r v
 row-applies q shortArea v = tested (leb (routersOf (q .file) * routersOf (q .file)) (q .area)) _ v (λ e. leb-false _ _ e) (λ h. lt-leb _ _ h)
 row-applies q shortBuffer v = tested (leb (2 * routersOf (q .file)) (q .buffer)) _ v (λ e. leb-false _ _ e) (λ h. lt-leb _ _ h)

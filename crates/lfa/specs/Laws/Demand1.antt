@@ -1,30 +1,33 @@
 -- Demand 1 holds: every question is answered by the table, and every part of a file is the entry or empty.
 -- Assumes nothing.
 use Prim.Native.Nat.{ℕ}
-use mathlib.Core.Path.{_≡_, refl, sym, _∙_}
+use mathlib.Core.Path.{_≡_, refl, sym, ap, _∙_}
 use mathlib.Core.Option.{Option, none, some}
 use native.Mathlib.Omega.{arith}
-use Rattle.lfa.specs.Lists.{countUp}
+use Rattle.lfa.specs.Lists.{countUp, select, memberOf, anyOf}
 use borrow.Author.Tests.{lt-ltb, le-ltb}
 use lib.Dec.{ltb}
 use Rattle.lfa.specs.File.{Bytes, linksOf, prefixesOf, linkEntry, prefixEntry}
-use Rattle.lfa.specs.Question.{Question, loading}
-use Rattle.lfa.specs.Refusal.{FileRow, Row, ofFile, entryOf, fileNumber, fileRows, earlyRows, questionRows, allRows, Decides, Decided, decided, inFile, fileRefusal}
-use Rattle.lfa.specs.Answer.{partIf, linkPart, prefixPart}
-use Rattle.lfa.specs.Demands.{ByTheTable, PartGiven, Demand1}
-use Rattle.lfa.specs.Laws.FileRows.{refused-file, load-passes, tried-rows}
+use Rattle.lfa.specs.Question.{Question, loading, inputsOf, inputNumber, hasInput}
+use Rattle.lfa.specs.Refusal.{FileRow, Row, ofFile, entryOf, fileNumber, fileRows, earlyRows, questionRows, allRows, Decides, Decided, decided, inFile, fileRefusal, tries, rowsTried}
+use Rattle.lfa.specs.Answer.{partIf, linkPart, prefixPart, computed}
+use Rattle.lfa.specs.Demands.{ByTheTable, PartGiven, EachCallTries, FilesAndNetworks, Demand1}
+use Rattle.lfa.specs.Laws.FileRows.{refused-file, load-passes}
 use Rattle.lfa.specs.Laws.Causes.{decides-found, found-decides}
-use Rattle.lfa.specs.Laws.Answers.{refusal-given, refusal-stated, row-leaves, no-row-leaves}
+use Rattle.lfa.specs.Laws.Answers.{refusal-given, refusal-stated, row-leaves, no-row-leaves, no-row-computes}
+use Rattle.lfa.specs.Laws.Accepted.{written-accepted, written-loaded, accepted-loaded, accepted-limits, accepted-written}
 
 -- ---- demand 1
 
 pub by-the-table : (q : Question) → ByTheTable q
+unfolding computed
 by-the-table q = record {
-  tried = tried-rows (q .call);
   refusal-given = refusal-given q;
   refusal-stated = refusal-stated q;
   row-leaves = λ r v f x h before. row-leaves q r v f x before;
   no-row-leaves = λ none x h before. no-row-leaves q none x before;
+  loaded = λ c none. no-row-computes q none ∙ ap (computed q) c;
+  filled = λ c none. no-row-computes q none ∙ ap (computed q) c;
 }
 
 -- a part is given exactly where no row turns the file away and the number is below the count
@@ -47,10 +50,29 @@ part-given b k count entry = go (fileRefusal b) refl
       too-large = λ h. refl;
     }
 
+-- the rows of each call, by computing them
+each-call-tries : EachCallTries
+unfolding rowsTried allRows fileRows questionRows earlyRows tries entryOf fileNumber select hasInput inputsOf inputNumber memberOf anyOf countUp
+each-call-tries = record {
+  load = refl;
+  distances = refl;
+  space = λ s. refl;
+  link-repair = refl;
+  prefix-repair = refl;
+  route = refl;
+}
+
+files-and-networks : FilesAndNetworks
+files-and-networks = record {
+  written = λ net h. (written-accepted net h, written-loaded net h);
+  read = λ b a. (rw (accepted-loaded b a) (accepted-limits b a), rw (accepted-loaded b a) (accepted-written b a));
+}
+
 pub the-demand-1 : Demand1
-unfolding allRows fileRows questionRows earlyRows entryOf fileNumber countUp linkPart prefixPart
+unfolding linkPart prefixPart
 the-demand-1 = record {
-  numbers = refl;
+  rows = each-call-tries;
+  files = files-and-networks;
   by-the-table = by-the-table;
   link-given = λ b k. part-given b k (linksOf b) (linkEntry b k);
   prefix-given = λ b k. part-given b k (prefixesOf b) (prefixEntry b k);

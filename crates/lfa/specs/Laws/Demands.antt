@@ -20,7 +20,9 @@ use Rattle.lfa.specs.Laws.Repair.{SearchMeans, PrefixMeans, unreachable-
 use Rattle.lfa.specs.Laws.Serve.{far-serves}
 use Rattle.lfa.specs.Laws.Demand1.{the-demand-1}
 use Rattle.lfa.specs.Laws.HasThis.{sound, least-costs, named, has-this, serves-it, first-repair, repaired, crossing-searched}
-use Rattle.lfa.specs.Laws.Replies.{computes, link-answer, link-has-link, link-meaning, prefix-has-link, prefix-meaning, Tells, prefix-tells, has-buffer, space-has-link, prefix-has-prefix, route-has-prefix, nothing-written, pair-found, played-named}
+use Rattle.lfa.specs.Laws.Replies.{computes, link-answer, link-has-link, link-meaning, prefix-has-link, prefix-meaning, Tells, prefix-tells, has-buffer, space-has-link, prefix-has-prefix, route-has-prefix, nothing-written, prefix-tells-same, pair-found, played-named}
+use Rattle.lfa.specs.Laws.Route.{are-options}
+use Rattle.lfa.specs.Laws.PosedWhen.{posed-when}
 
 -- ---- demand 2
 
@@ -45,11 +47,16 @@ the-demand-2 q p = record {
   unreachable-when = λ h. both (prefix-tells q p h .is-unreached) (unreachable-when (N q) (Hops q) (D q) (linkAsked q) (prefixAsked q) (prefixFound q) (prefix-meaning q p h));
   untouched-when = λ h. both (prefix-tells q p h .is-untouched) (untouched-when (N q) (Hops q) (D q) (linkAsked q) (prefixAsked q) (prefixFound q) (prefix-meaning q p h));
   write-nothing = λ h a. nothing-written q p (has-buffer (q .call) h) (either (prefix-tells q p (route-has-prefix (q .call) (has-buffer (q .call) h))) a);
+  options-are = λ to x. are-options (N q) (Hops q) (D q) to (sound q p .within) x;
+  route-14 = λ c. both (prefix-tells q p (route-has-prefix (q .call) c) .is-14) (turned (prefix-tells-same q p c .is-14));
   route-named = λ c n y class cost r. played-named q p c (pair-found q p c r);
 }
   where
     both : {A B C : Type 0} → A ↔ B → B ↔ C → A ↔ C
     both f g = (λ a. g .0 (f .0 a), λ c. f .1 (g .1 c))
+
+    turned : {A B : Type 0} → A ↔ B → B ↔ A
+    turned f = (f .1, f .0)
 
     either : Tells (answerTo q) (prefixFound q) → (answerTo q ≡ unreached) ⊎ (answerTo q ≡ untouched) → (prefixFound q ≡ prefixUnreachable) ⊎ (prefixFound q ≡ prefixUntouched)
     either t (inl e) = inl (t .is-unreached .0 e)
@@ -83,4 +90,4 @@ the-demand-3 q p = record {
 -- ---- the demands
 
 pub demands : Demands
-demands = record { demand-1 = the-demand-1; demand-2 = the-demand-2; demand-3 = the-demand-3 }
+demands = record { demand-1 = the-demand-1; demand-2 = the-demand-2; demand-3 = the-demand-3; posed-when = posed-when }

@@ -11,15 +11,16 @@ use native.Mathlib.Omega.{arith}
 use Rattle.lfa.specs.Lists.{select, anyOf, memberOf}
 use Rattle.lfa.specs.File.{Bytes, byteAt, blocksIn, blocksNeeded, linksOf, prefixesOf, checkGood, blockGood, linkGood, linkNew, prefixGood, routersNew}
 use Rattle.lfa.specs.Question.{Question, Call, load, fill, space, linkRepair, prefixRepair, route, aFile, inputsOf, inputNumber, hasInput, loading}
-use Rattle.lfa.specs.Refusal.{FileRow, badLength, badCheck, badHead, badBlockCount, badBlock, badLink, parallelLink, badPrefix, routerTwice, fileReturned, fileRows, Row, ofFile, shortArea, shortBuffer, noSuchLink, noSuchPrefix, noPair, returned, entryOf, questionRows, allRows, tries, rowsTried, Decided, decided, firstRow, inFile, orLater, earlyRows, fileRefusal, refusalOf, Accepted}
+use Rattle.lfa.specs.Refusal.{FileApplies, FileRow, badLength, badCheck, badHead, badBlockCount, badBlock, badLink, parallelLink, badPrefix, routerTwice, fileReturned, fileRows, Row, ofFile, shortArea, shortBuffer, noSuchLink, noSuchPrefix, noPair, returned, entryOf, questionRows, allRows, tries, rowsTried, Decided, decided, firstRow, inFile, orLater, earlyRows, fileRefusal, refusalOf, Accepted}
 use Rattle.lfa.specs.Laws.List.{select-gives, select-make, none-failing, all-passing, unless-none, unless-good}
 use Rattle.lfa.specs.Laws.File.Passes.{AreBytes, Passes}
+use Rattle.lfa.specs.Laws.Causes.{file-row-applies}
 use Rattle.lfa.specs.Laws.Rows.{none-decides, none-applies}
 
 -- ---- the rows of a file come first
 
 -- every call has a file
-has-file : (c : Call) → hasInput c aFile ≡ true
+pub has-file : (c : Call) → hasInput c aFile ≡ true
 unfolding hasInput inputsOf inputNumber memberOf anyOf
 has-file load = refl
 has-file fill = refl
@@ -114,28 +115,42 @@ tried-rows c r = (λ m. select-gives (tries c) allRows m .1, λ h. select-make (
 
 -- ---- accepted files
 
+-- a row that does not apply to a file returns nothing
+accepted-returns : (b : Bytes) → Accepted b → (r : FileRow) → fileReturned b r ≡ none
+accepted-returns b a r = go (fileReturned b r) refl
+  where
+    go : (o : Option ℕ) → fileReturned b r ≡ o → fileReturned b r ≡ none
+    go none p = p
+    go (some v) p = absurd (a .none-applies r v (file-row-applies b r v .0 p))
+
+returns-accepted : (b : Bytes) → ((i : ℕ) → byteAt b i < 256) → ((r : FileRow) → fileReturned b r ≡ none) → Accepted b
+returns-accepted b bytes h = record { bytes = bytes; none-applies = applies }
+  where
+    applies : (r : FileRow) (v : ℕ) → FileApplies b r v → ⊥
+    applies r v a = let s = file-row-applies b r v .1 a in let n = h r in let z : _≡_ {A = ℕ} 0 1 = cc in omega arith
+
 -- a file is accepted exactly when no row turns it away
 pub accepted-passes-rows : (b : Bytes) → Accepted b → fileRefusal b ≡ none
 unfolding fileRefusal
-accepted-passes-rows b a = none-applies (fileReturned b) fileRows (λ r m. a .none-applies r)
+accepted-passes-rows b a = none-applies (fileReturned b) fileRows (λ r m. accepted-returns b a r)
 
 pub load-accepted : (b : Bytes) → ((i : ℕ) → byteAt b i < 256) → fileRefusal b ≡ none → Accepted b
 unfolding fileRefusal
-load-accepted b h e = record { bytes = h; none-applies = λ r. none-decides (fileReturned b) fileRows e r (file-row-listed r) }
+load-accepted b h e = returns-accepted b h (λ r. none-decides (fileReturned b) fileRows e r (file-row-listed r))
 
 -- a file is accepted exactly when each test passes everywhere
 pub accepted-passes : (b : Bytes) → Accepted b → Passes b
 unfolding fileReturned
 accepted-passes b a = record {
-  row1 = unless-none _ _ (a .none-applies badLength);
-  row2 = λ i h. none-failing (checkGood b) 0 (blocksIn b) (a .none-applies badCheck) i (omega arith) (omega arith);
-  row3 = unless-none _ _ (a .none-applies badHead);
-  row4 = unless-none _ _ (a .none-applies badBlockCount);
-  row5 = λ i h k. none-failing (blockGood b) 1 (blocksIn b - 1) (a .none-applies badBlock) i h (omega arith);
-  row6 = λ k h. none-failing (linkGood b) 0 (linksOf b) (a .none-applies badLink) k (omega arith) (omega arith);
-  row7 = λ k h. none-failing (linkNew b) 0 (linksOf b) (a .none-applies parallelLink) k (omega arith) (omega arith);
-  row8 = λ k h. none-failing (prefixGood b) 0 (prefixesOf b) (a .none-applies badPrefix) k (omega arith) (omega arith);
-  row9 = λ k h. none-failing (routersNew b) 0 (prefixesOf b) (a .none-applies routerTwice) k (omega arith) (omega arith);
+  row1 = unless-none _ _ (accepted-returns b a badLength);
+  row2 = λ i h. none-failing (checkGood b) 0 (blocksIn b) (accepted-returns b a badCheck) i (omega arith) (omega arith);
+  row3 = unless-none _ _ (accepted-returns b a badHead);
+  row4 = unless-none _ _ (accepted-returns b a badBlockCount);
+  row5 = λ i h k. none-failing (blockGood b) 1 (blocksIn b - 1) (accepted-returns b a badBlock) i h (omega arith);
+  row6 = λ k h. none-failing (linkGood b) 0 (linksOf b) (accepted-returns b a badLink) k (omega arith) (omega arith);
+  row7 = λ k h. none-failing (linkNew b) 0 (linksOf b) (accepted-returns b a parallelLink) k (omega arith) (omega arith);
+  row8 = λ k h. none-failing (prefixGood b) 0 (prefixesOf b) (accepted-returns b a badPrefix) k (omega arith) (omega arith);
+  row9 = λ k h. none-failing (routersNew b) 0 (prefixesOf b) (accepted-returns b a routerTwice) k (omega arith) (omega arith);
 }
 
 passes-none : (b : Bytes) → Passes b → (r : FileRow) → fileReturned b r ≡ none
@@ -152,4 +167,4 @@ passes-none b p routerTwice = all-passing (routersNew b) 0 (prefixesOf b) (λ k 
 
 pub passes-accepted : (b : Bytes) → AreBytes b → Passes b → Accepted b
 unfolding byteAt
-passes-accepted b bytes p = record { bytes = bytes .small; none-applies = passes-none b p }
+passes-accepted b bytes p = returns-accepted b (bytes .small) (passes-none b p)

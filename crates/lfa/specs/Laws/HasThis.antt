@@ -9,7 +9,7 @@ use native.Mathlib.Omega.{arith}
 use Rattle.lfa.specs.Network.{Arc, Target, router}
 use Rattle.lfa.specs.Distance.{LeastCosts}
 use Rattle.lfa.specs.Space.{Protected}
-use Rattle.lfa.specs.Repair.{Serves, MayCross, Outcome, prefixUnreachable, prefixUntouched, noneServes, chosen}
+use Rattle.lfa.specs.Repair.{Serves, MayCross, Outcome, prefixUnreachable, prefixUntouched, noneServes, chosen, keysOf, tunnelCost}
 use Rattle.lfa.specs.Question.{Question, aLink, HasInput, networkAsked, linkAsked}
 use Rattle.lfa.specs.Refusal.{entryOf, Posed}
 use Rattle.lfa.specs.Answer.{repairAnswer}
@@ -19,7 +19,7 @@ use Rattle.lfa.specs.Laws.Asked.{answer-chosen}
 use Rattle.lfa.specs.Laws.Network.{protected-number}
 use Rattle.lfa.specs.Laws.Avoid.{Named}
 use Rattle.lfa.specs.Laws.Bound.{Sound}
-use Rattle.lfa.specs.Laws.Repair.{SearchMeans, PrefixMeans, IsFirstPair}
+use Rattle.lfa.specs.Laws.Repair.{SearchMeans, PrefixMeans, IsFirstPair, class-once}
 use Rattle.lfa.specs.Laws.Serve.{serves-arrives, arrives-reachable}
 
 -- ---- the network of a question
@@ -67,12 +67,13 @@ module _ (q : Question) (p : Posed q) (l : HasInput q aLink) (to : Target) (n y 
 module _ (q : Question) (p : Posed q) (l : HasInput q aLink) (to : Target) where
   -- the pair that a search puts first is a repair
   pub first-repair : {n y class cost : ℕ} → IsFirstPair (N q) (Hops q) (D q) (linkAsked q) to n y class cost → IsRepair q to n y class cost
+  unfolding keysOf tunnelCost
   first-repair {n} {y} f = record {
     hop-cost = f .hop;
     over = f .over;
     candidate = f .is-pair;
     has-this = has-this q p l to n y (sound q p .within .to (f .is-pair .joined)) (f .is-pair .end-in) (f .serves);
-    first = λ n′ c′ l′ y′ is h. f .first n′ c′ l′ y′ is (serves-it q p l to n′ y′ h);
+    first = λ n′ c′ l′ y′ k′ is h k. rw (class-once (f .hop) (f .over) (f .class-is), f .cost-is, class-once c′ l′ k) (f .first n′ c′ l′ y′ is (serves-it q p l to n′ y′ h));
     class-is = f .class-is;
     cost-is = f .cost-is;
   }

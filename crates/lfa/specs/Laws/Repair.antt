@@ -8,7 +8,7 @@ use mathlib.Core.Option.{Option, none, some}
 use mathlib.Core.List.{List}
 use native.Mathlib.Omega.{arith}
 use lib.Dec.{eqb, ltb}
-use borrow.Author.Tests.{ltb-true, ltb-false, eqb-true, eqb-false}
+use borrow.Author.Tests.{ltb-true, ltb-false, lt-ltb, le-ltb, eqb-true, eqb-false, eq-eqb, ne-eqb}
 use Rattle.lfa.specs.Network.{Arc, Target, router}
 use Rattle.lfa.specs.Distance.{unreachable, towards}
 use Rattle.lfa.specs.Space.{Protected}
@@ -28,6 +28,14 @@ class-has d q to n c l y = go (eqb y n) refl (ltb (towards d to y) (towards d to
     go true e false f = neighbour-other (eqb-true y n e) (ltb-false _ _ f)
     go false e true f = tunnel-downstream (eqb-false y n e) (ltb-true _ _ f)
     go false e false f = tunnel-other (eqb-false y n e) (ltb-false _ _ f)
+
+-- and it is the only one
+pub class-once : {d : ℕ → ℕ → ℕ} {q : Protected} {to : Target} {n y k : ℕ} (c l : ℕ) → HasClass d q to n y k → k ≡ classOf d q to (pair n c l y)
+unfolding classOf orElse
+class-once c l (neighbour-downstream e h) = rw (eq-eqb _ _ e, lt-ltb _ _ h)
+class-once c l (neighbour-other e h) = rw (eq-eqb _ _ e, le-ltb _ _ h)
+class-once c l (tunnel-downstream e h) = rw (ne-eqb _ _ e, lt-ltb _ _ h)
+class-once c l (tunnel-other e h) = rw (ne-eqb _ _ e, le-ltb _ _ h)
 
 module _ (n : ℕ) (hops : List Arc) (d : ℕ → ℕ → ℕ) (q : Protected) where
   -- no pair serves

@@ -12,8 +12,8 @@ use Rattle.lfa.specs.Space.{Space}
 use Rattle.lfa.specs.Repair.{Outcome, prefixUnreachable, prefixUntouched, noneServes, chosen}
 use Rattle.lfa.specs.Route.{routeOf}
 use Rattle.lfa.specs.Question.{Question, Call, load, fill, space, linkRepair, prefixRepair, route, askPrefix, toPrefixRepair, workArea, routeBuffer, aLink, aPrefix, lent, Input, inputsOf, inputNumber, hasInput, HasInput, networkAsked, linkAsked, prefixAsked, withDistances, linkFound, prefixFound}
-use Rattle.lfa.specs.Refusal.{Posed}
-use Rattle.lfa.specs.Answer.{Answer, untouched, unreached, repair, repairAnswer, routeAnswer, routeFor, routePlayed, computed, answerTo, routeAfter}
+use Rattle.lfa.specs.Refusal.{entryOf, Posed}
+use Rattle.lfa.specs.Answer.{refused, Answer, untouched, unreached, repair, repairAnswer, routeAnswer, routeFor, routePlayed, computed, answerTo, routeAfter}
 use Rattle.lfa.specs.Demands.{N, Hops, D, RouteNamed}
 use Rattle.lfa.specs.Laws.Asked.{posed-answer, posed-route, answer-chosen}
 use Rattle.lfa.specs.Laws.Repair.{SearchMeans, PrefixMeans, IsFirstPair, link-means, prefix-means}
@@ -63,20 +63,21 @@ module _ (q : Question) (p : Posed q) where
 pub record Tells (answer : Answer) (o : Outcome) : Type 0 where
   pub is-unreached : (answer ≡ unreached) ↔ (o ≡ prefixUnreachable)
   pub is-untouched : (answer ≡ untouched) ↔ (o ≡ prefixUntouched)
+  pub is-14 : (answer ≡ refused 14 0) ↔ (o ≡ noneServes)
 
 pub repair-tells : (o : Outcome) → Tells (repairAnswer o) o
-unfolding repairAnswer
-repair-tells prefixUnreachable = record { is-unreached = (λ e. refl, λ e. refl); is-untouched = (λ e. cc, λ e. cc) }
-repair-tells prefixUntouched = record { is-unreached = (λ e. cc, λ e. cc); is-untouched = (λ e. refl, λ e. refl) }
-repair-tells noneServes = record { is-unreached = (λ e. cc, λ e. cc); is-untouched = (λ e. cc, λ e. cc) }
-repair-tells (chosen n y class cost) = record { is-unreached = (λ e. cc, λ e. cc); is-untouched = (λ e. cc, λ e. cc) }
+unfolding repairAnswer entryOf
+repair-tells prefixUnreachable = record { is-unreached = (λ e. refl, λ e. refl); is-untouched = (λ e. cc, λ e. cc); is-14 = (λ e. cc, λ e. cc) }
+repair-tells prefixUntouched = record { is-unreached = (λ e. cc, λ e. cc); is-untouched = (λ e. refl, λ e. refl); is-14 = (λ e. cc, λ e. cc) }
+repair-tells noneServes = record { is-unreached = (λ e. cc, λ e. cc); is-untouched = (λ e. cc, λ e. cc); is-14 = (λ e. refl, λ e. refl) }
+repair-tells (chosen n y class cost) = record { is-unreached = (λ e. cc, λ e. cc); is-untouched = (λ e. cc, λ e. cc); is-14 = (λ e. cc, λ e. cc) }
 
 pub route-tells : (o : Outcome) (count : ℕ) → Tells (routeAnswer o count) o
-unfolding routeAnswer
-route-tells prefixUnreachable count = record { is-unreached = (λ e. refl, λ e. refl); is-untouched = (λ e. cc, λ e. cc) }
-route-tells prefixUntouched count = record { is-unreached = (λ e. cc, λ e. cc); is-untouched = (λ e. refl, λ e. refl) }
-route-tells noneServes count = record { is-unreached = (λ e. cc, λ e. cc); is-untouched = (λ e. cc, λ e. cc) }
-route-tells (chosen n y class cost) count = record { is-unreached = (λ e. cc, λ e. cc); is-untouched = (λ e. cc, λ e. cc) }
+unfolding routeAnswer entryOf
+route-tells prefixUnreachable count = record { is-unreached = (λ e. refl, λ e. refl); is-untouched = (λ e. cc, λ e. cc); is-14 = (λ e. cc, λ e. cc) }
+route-tells prefixUntouched count = record { is-unreached = (λ e. cc, λ e. cc); is-untouched = (λ e. refl, λ e. refl); is-14 = (λ e. cc, λ e. cc) }
+route-tells noneServes count = record { is-unreached = (λ e. cc, λ e. cc); is-untouched = (λ e. cc, λ e. cc); is-14 = (λ e. refl, λ e. refl) }
+route-tells (chosen n y class cost) count = record { is-unreached = (λ e. cc, λ e. cc); is-untouched = (λ e. cc, λ e. cc); is-14 = (λ e. cc, λ e. cc) }
 
 module _ (q : Question) (p : Posed q) where
   pub prefix-tells : HasInput q aPrefix → Tells (answerTo q) (prefixFound q)
@@ -132,6 +133,11 @@ module _ (q : Question) (p : Posed q) (c : q .call ≡ route) where
     end = λ h. p .end (has q p aLink c refl);
     prefix = λ h. p .prefix (has q p aPrefix c refl);
   }
+
+  -- the prefix repair tells of the same search
+  pub prefix-tells-same : Tells (answerTo (toPrefixRepair q)) (prefixFound q)
+  unfolding toPrefixRepair askPrefix prefixFound networkAsked linkAsked prefixAsked hasInput inputsOf inputNumber memberOf anyOf
+  prefix-tells-same = prefix-tells (toPrefixRepair q) prefix-posed refl
 
   pub pair-found : {n y class cost : ℕ} → answerTo (toPrefixRepair q) ≡ repair n y class cost → prefixFound q ≡ chosen n y class cost
   unfolding computed toPrefixRepair askPrefix prefixFound networkAsked linkAsked prefixAsked

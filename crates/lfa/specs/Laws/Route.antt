@@ -15,7 +15,7 @@ use Rattle.lfa.specs.Lists.{countUp, below, select, keepIf, anyOf}
 use Rattle.lfa.specs.Network.{Arc, arc, Attachment, at, Target, router}
 use Rattle.lfa.specs.Distance.{unreachable, LeastCosts, towards}
 use Rattle.lfa.specs.Walk.{Step, Delivers, Walk, here, hop, isStep}
-use Rattle.lfa.specs.Route.{isStepTo, nextRouters, attachedAt, delivers, Move, deliver, go, movesOf, options, choiceAt, optionTaken, FirstLeg, arrived, onward, SecondLeg, delivered, NamedRoute, playTo, playOn, routeOf}
+use Rattle.lfa.specs.Route.{HasMove, Ascending, nothing, before, AreOptions, isStepTo, nextRouters, attachedAt, delivers, Move, deliver, go, movesOf, options, choiceAt, optionTaken, FirstLeg, arrived, onward, SecondLeg, delivered, NamedRoute, playTo, playOn, routeOf}
 use Rattle.lfa.specs.Laws.Test.{and-left, and-right, and-make}
 use Rattle.lfa.specs.Laws.List.{any-gives, any-make, mem-below, from-counted, select-gives, select-make, map-gives, map-make, getD-in}
 use Rattle.lfa.specs.Laws.Walk.{onward as walk-onward}
@@ -24,16 +24,6 @@ use Rattle.lfa.specs.Laws.Bound.{Sound}
 use Rattle.lfa.specs.Laws.Avoid.{step-gives, step-make}
 
 -- ---- the options at a router
-
--- a move that a walk has at x
-abbrev pub HasMove : List Arc → (ℕ → ℕ → ℕ) → Target → ℕ → Move → Type 0
-HasMove hops d to x deliver = Delivers d to x
-HasMove hops d to x (go z) = (l : ℕ) × Step hops d to x z l
-
--- each number is below those that follow
-pub data Ascending : List ℕ → Type 0 where
-  nothing : Ascending []
-  before : {x : ℕ} {l : List ℕ} → ((y : ℕ) → List·Memᴰ y l → x < y) → Ascending l → Ascending (x ∷ l)
 
 select-ascending : (p : ℕ → Bool) (i n : ℕ) → Ascending (select p (countUp i n))
 unfolding select countUp
@@ -120,6 +110,21 @@ module _ (n : ℕ) (hops : List Arc) (d : ℕ → ℕ → ℕ) (to : Target) whe
       by : (b : Bool) → List·Memᴰ (go z) (map go (nextRouters n hops d to x)) → List·Memᴰ (go z) (movesOf b (nextRouters n hops d to x))
       by true k = List·Memᴰ·tail k
       by false k = k
+
+  -- The options are those of document 01: each is a move, every move is one, delivery first and then the next routers ascending.
+  pub are-options : Within hops n → (x : ℕ) → AreOptions hops d to x (options n hops d to x)
+  unfolding options movesOf
+  are-options within x = record {
+    each = options-give x;
+    every = λ m h. options-make x m within h;
+    nexts = nextRouters n hops d to x;
+    ascending = next-ascending x;
+    delivery-first = by (delivers d to x);
+  }
+    where
+      by : (b : Bool) → (movesOf b (nextRouters n hops d to x) ≡ deliver ∷ map go (nextRouters n hops d to x)) ⊎ (movesOf b (nextRouters n hops d to x) ≡ map go (nextRouters n hops d to x))
+      by true = inl refl
+      by false = inr refl
 
   -- at a finite distance there is an option
   options-some : LeastCosts hops d → Within hops n → (x : ℕ) → towards d to x < unreachable → 0 < length (options n hops d to x)

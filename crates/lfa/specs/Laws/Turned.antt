@@ -11,7 +11,7 @@ use borrow.Author.Tests.{ltb-true, leb-true}
 use Rattle.lfa.specs.Lists.{select}
 use Rattle.lfa.specs.File.{Bytes, byteAt, linksOf, networkOf}
 use Rattle.lfa.specs.Question.{Question, Buffer, workArea, routeBuffer, HasInput, networkAsked, loading}
-use Rattle.lfa.specs.Refusal.{FileRow, Row, ofFile, shortArea, shortBuffer, noSuchLink, noSuchPrefix, noPair, asLent, leavesAll, entryOf, earlyRows, questionRows, tries, returned, Decided, decided, firstRow, inFile, orLater, earlyRefusal, fileRefusal, refusalOf, Accepted, Posed}
+use Rattle.lfa.specs.Refusal.{FileRow, Row, ofFile, shortArea, shortBuffer, noSuchLink, noSuchPrefix, noPair, asLent, leavesAll, entryOf, earlyRows, questionRows, tries, returned, Decided, decided, firstRow, inFile, orLater, earlyRefusal, fileRefusal, refusalOf, Accepted, Posed, sizedReturned}
 use Rattle.lfa.specs.Answer.{Answer, refused, accepted, refusal, earlyAnswer, computed, answerTo, leave, exitBy, exitOf, workAfter, routeAfter}
 use Rattle.lfa.specs.Laws.Test.{and-left, and-right}
 use Rattle.lfa.specs.Laws.List.{select-gives, select-make, unless-none}
@@ -36,7 +36,7 @@ leaves-all routeBuffer = refl
 
 module _ (q : Question) (r : Row) (v : ℕ) where
   turned-away : refusalOf q ≡ some (decided r v) → LeavesAll r → TurnedAway q (refused (entryOf r .number) v)
-  unfolding answerTo refusal workAfter routeAfter exitOf exitBy leave
+  unfolding answerTo refusal exitOf exitBy leave
   turned-away e l = record {
     answered = rw (e, answerTo);
     area-left = λ area. rw (e, l workArea);
@@ -116,7 +116,7 @@ early-turned-away q d e = go (fileRefusal (q .file)) refl d e
 
 -- Where nothing is refused early, no row before 14 applies.
 pub early-posed : (q : Question) → ((i : ℕ) → byteAt (q .file) i < 256) → earlyRefusal q ≡ none → Posed q
-unfolding earlyRefusal orLater tries entryOf returned networkAsked networkOf earlyRows
+unfolding earlyRefusal orLater tries entryOf returned sizedReturned networkAsked networkOf earlyRows
 early-posed q bytes e = go (fileRefusal (q .file)) refl e
   where
     posed : Accepted (q .file) → firstRow (returned q) (select (tries (q .call)) earlyRows) ≡ none → Posed q

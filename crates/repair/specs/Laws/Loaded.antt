@@ -8,11 +8,11 @@ use native.Mathlib.Omega.{arith}
 use native.Mathlib.Nat.{mul-le-mul}
 use lib.ListN.{length, getD, replicate, length-map, List·getD-append}
 use Rattle.lfa.specs.Network.{Link, link, Network}
-use Rattle.lfa.specs.File.{Bytes, routersOf, linksOf, prefixesOf, networkOf}
+use Rattle.lfa.specs.File.{Bytes, byteAt, routersOf, linksOf, prefixesOf, networkOf}
 use Rattle.lfa.specs.FileOf.{pad, WithinLimits}
 use Rattle.lfa.specs.Question.{Question}
 use Rattle.lfa.specs.Refusal.{Posed}
-use Rattle.lfa.specs.Answer.{networkLoaded}
+use Rattle.lfa.specs.Answer.{answerTo, networkLoaded}
 use Rattle.lfa.specs.Laws.Chunks.{element-mapped, made-again}
 use Rattle.lfa.specs.Laws.Accepted.{accepted-limits, accepted-loaded, link-count, prefix-count}
 use Rattle.network_file.specs.declared.Verdict.the-variants as verdict
@@ -21,6 +21,12 @@ use Rattle.network_file.specs.declared.network.Network as struct
 use Rattle.metric.specs.Fit.{ColumnsWithin}
 use Rattle.distance.specs.Columns.{linksIn, InColumns}
 use Rattle.distance.specs.Laws.Columns.{limits-columns}
+use Rattle.network_file.specs.declared.Loaded.{Loaded}
+use Rattle.network_file.specs.declared.Verdict.the-variants as verdict
+use Rattle.network_file.specs.Load.{answerOf}
+use Rattle.lfa.specs.Question.{loading}
+use Rattle.lfa.specs.Laws.FileRows.{load-accepted}
+use Rattle.lfa.specs.Laws.Turned.{load-accepts}
 use Rattle.repair.specs.Taken.{Taken}
 
 -- ---- columns
@@ -52,7 +58,15 @@ struct-columns net = record {
   links-are = sym (made-again _ (net .links) (link 0 0 0 0) (struct-link net));
 }
 
--- ---- the network of a question that nothing turns away
+-- ---- the network that the file part hands over
+
+-- where it accepts the file, the network is the file's
+pub taken : (b : Bytes) (r : Loaded) → (answerOf (r .verdict) ≡ answerTo (loading b)) × (r .network ≡ structOf (networkLoaded b)) →
+    ((i : ℕ) → getD b i 0 < 256) → r .verdict ≡ verdict.Accepted → Taken b (r .network)
+unfolding answerOf byteAt
+taken b r answered bytes v =
+    let a = load-accepted b bytes (load-accepts b (sym (answered .0) ∙ ap answerOf v)) in
+    record { is-accepted = a; network-is = answered .1 ∙ ap structOf (accepted-loaded b a) }
 
 -- what is handed over is the network of an accepted file
 pub taken-posed : (q : Question) → Posed q → {network : struct.Network} → network ≡ structOf (networkLoaded (q .file)) → Taken (q .file) network

@@ -6,7 +6,7 @@ use Rattle.lfa.specs.Lists.{select, memberOf, anyOf}
 use Rattle.lfa.specs.File.{Bytes, byteAt}
 use Rattle.lfa.specs.Space.{Space}
 use Rattle.lfa.specs.Question.{Question, inputsOf, inputNumber, hasInput, askSpace, askLink}
-use Rattle.lfa.specs.Refusal.{entryOf, earlyRows, tries, returned, firstRow, earlyRefusal, Posed}
+use Rattle.lfa.specs.Refusal.{entryOf, earlyRows, tries, returned, firstRow, earlyRefusal, Posed, sizedReturned}
 use Rattle.lfa.specs.Answer.{earlyAnswer}
 use Rattle.lfa.specs.Laws.Turned.{TurnedAway, answer-turned-away, answer-posed}
 use Rattle.repair.specs.declared.Refusal.{Refusal}
@@ -25,5 +25,5 @@ module _ (q : Question) {turned : Turned} (told : turnedAnswer turned ≡ earlyA
 
 -- a space is turned away as the link repair is: what is tried before the search is the same
 pub space-as-link : (s : Space) (b : Bytes) (area l e : ℕ) → earlyAnswer (askLink b area l e) ≡ earlyAnswer (askSpace s b area l e)
-unfolding earlyAnswer earlyRefusal earlyRows select tries entryOf hasInput inputsOf inputNumber memberOf anyOf firstRow returned askLink askSpace
+unfolding earlyAnswer earlyRefusal earlyRows select tries entryOf hasInput inputsOf inputNumber memberOf anyOf firstRow returned sizedReturned askLink askSpace
 space-as-link s b area l e = refl

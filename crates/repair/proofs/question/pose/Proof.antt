@@ -4,8 +4,8 @@ use mathlib.Core.Path.{_∙_}
 use native.Mathlib.Omega.{arith}
 use Rattle.repair.specs.Answer.{refusalAnswer, turnedAnswer}
 use Rattle.repair.specs.Taken.{Taken}
-use Rattle.repair.specs.Laws.Loaded.{columns-within}
-use Rattle.repair.proofs.QuestionLaws.{fault-early, taken, row-early}
+use Rattle.repair.specs.Laws.Loaded.{taken, columns-within}
+use Rattle.repair.proofs.QuestionLaws.{fault-early, row-early}
 use borrow.Author.Needs.{needs}
 use Rattle.repair.proofs.question.pose.Statement.{statement}
 use Rattle.repair.proofs.question.pose.Tie as tie
@@ -27,7 +27,7 @@ enum-told c = search needs
 took : (c : tie.After-enum-told) → let l = c .before .before .before in Taken (l .before .before .args .file .now) (l .load .result .network)
 took c =
     let l = c .before .before .before in
-    taken _ (l .before .before .args .asked) _ (l .load .ensures) (c .enum-told .given .1) (λ i. omega (arith, l .before .shared-slice-known .given i))
+    taken _ _ (l .load .ensures) (λ i. omega (arith, l .before .shared-slice-known .given i)) (c .enum-told .given .1)
 
 narrow-requires : tie.Need-narrow-requires
 narrow-requires c κs = omega (arith, columns-within (took c) .few-routers)
