@@ -14,7 +14,7 @@ use types.Run.{OneOf, miss}
 use denote.Enum.Declared.{tagOf}
 use borrow.Author.Tests.{ltb-true, leb-true, lt-leb, le-leb, lt-ltb}
 use Rattle.lfa.specs.Laws.Work.{work-length}
-use Rattle.lfa.specs.Laws.Accepted.{accepted-sound, accepted-distances, accepted-named, link-count}
+use Rattle.lfa.specs.Laws.Accepted.{accepted-descend, accepted-sound, accepted-distances, accepted-named, link-count}
 use Rattle.lfa.specs.Laws.Repair.{IsFirstPair, PrefixMeans, prefix-means}
 use Rattle.lfa.specs.Laws.Route.{route-named, route-walks}
 use Rattle.lfa.specs.Lists.{unless}
@@ -36,13 +36,12 @@ use Rattle.network_file.specs.Load.{faultRow, faultOf}
 use Rattle.distance.specs.Columns.{arcsIn}
 use Rattle.distance.specs.Area.{held}
 use Rattle.column.specs.Column.{slotsIn}
-use Rattle.distance.specs.Laws.Columns.{limits-positive}
 use Rattle.search.specs.Spaces.{protectedIn}
 use Rattle.repair.specs.Laws.Named.{routers-same, hops-are, held-is, prefix-slots, prefix-target, protected-is}
 use Rattle.repair.proofs.Repair.{the-type}
 use Rattle.repair.specs.Answer.{refusalAnswer, repairOf}
 use Rattle.repair.specs.Asked.{Taken}
-use Rattle.repair.specs.Laws.Loaded.{routers-are, links-are, prefixes-are, columns-within, limits}
+use Rattle.repair.specs.Laws.Loaded.{routers-are, links-are, prefixes-are, columns-within}
 use Rattle.repair.specs.declared.Refusal.{Refusal}
 use Rattle.repair.specs.declared.Refusal.the-variants.{File, ShortArea, ShortBuffer, NoSuchLink, NoSuchPrefix, NoPair}
 use Rattle.repair.specs.declared.Repair.{Repair}
@@ -350,7 +349,7 @@ module _ {b : Bytes} {network : Network} (t : Taken b network) (p : ℕ) (p-in :
       Playable (network .routers) cells (network .links) (network .from) (network .to) (network .out) (network .back) (network .at) (8 * p) count
   playable enough = record {
     within = columns-within t;
-    positive = rw (hops-are t) (limits-positive (limits t));
+    descends = rw (hops-are t) (accepted-descend b (t .is-accepted));
     slots = prefix-slots t p p-in count-is;
     long = enough;
   }
