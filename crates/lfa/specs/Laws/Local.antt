@@ -1,12 +1,13 @@
 -- LeastCosts are determined by the arcs, and a table that passes a test at each arc holds them, whoever filled it.
 -- Assumes nothing.
 use Prim.Native.Nat.{ℕ, zero, suc, _+_, _*_, _≤_, _<_}
-use mathlib.Core.Path.{_≡_, sym}
+use mathlib.Core.Path.{_≡_, refl, sym}
 use mathlib.Core.Logic.{_⊎_, inl, inr}
 use mathlib.Core.Bool.{true, false}
 use mathlib.Core.List.{List, List·Memᴰ}
 use native.Mathlib.Omega.{arith}
 use native.Mathlib.Nat.{not-suc-le-zero, le-antisymm}
+use native.Mathlib.Decide.{decLt}
 use lib.Dec.{ltb}
 use borrow.Author.Tests.{ltb-true, ltb-false}
 use Rattle.lfa.specs.Laws.Test.{decide}
@@ -40,6 +41,26 @@ module _ {height : ℕ → ℕ} (hops : List Arc) (d : ℕ → ℕ → ℕ) (loc
   -- cost nothing and lead back and forth, each would be tight for any number in the cells of both.)
   pub local-distances : LeastCosts hops d
   local-distances = record { least = λ r. local-least r; path = λ x t f. local-path (suc (2 * d x t + height x)) x t (omega arith) f; most = local .most }
+
+-- Least costs of paths pass at each arc: an arc before a path of least cost is a path, and a path of least cost starts with a tight arc.
+pub distances-local : {hops : List Arc} {d : ℕ → ℕ → ℕ} → LeastCosts hops d → Local hops d
+distances-local {hops} {d} least = record {
+  self = λ x. omega (arith, least .least (stay {x = x}));
+  hop = λ t m. hop t m;
+  first = λ x t f. first (least .path x t f) refl;
+  most = least .most;
+}
+  where
+    hop : {x z c l : ℕ} (t : ℕ) → List·Memᴰ (arc x z c l) hops → d x t ≤ c + d z t
+    hop {x} {z} {c} t m = go (decLt (d z t) unreachable)
+      where
+        go : Dec (d z t < unreachable) → d x t ≤ c + d z t
+        go (yes f) = least .least (via m (least .path z t f))
+        go (no f) = omega (arith, least .most x t)
+
+    first : {x t k : ℕ} → RouterPath hops x t k → k ≡ d x t → (x ≡ t) ⊎ ((z : ℕ) × (c : ℕ) × (l : ℕ) × List·Memᴰ (arc x z c l) hops × (c + d z t ≡ d x t))
+    first stay e = inl refl
+    first (via {z = z} {t = t} {c = c} {l = l} m r) e = inr (z, c, l, m, omega (arith, hop t m, least .least r))
 
 -- There is only one table of distances: each is at most the other, since a finite cell of one is the cost of a path, which bounds the
 -- other.
