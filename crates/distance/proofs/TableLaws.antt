@@ -15,13 +15,12 @@ use Rattle.lfa.specs.Distance.{unreachable, LeastCosts, distances, distanceIn, 
 use Rattle.lfa.specs.Laws.Arrive.{Within}
 use Rattle.lfa.specs.Laws.Walk.{Descends}
 use Rattle.lfa.specs.Laws.Distance.{distances-least}
-use Rattle.lfa.specs.Laws.Local.{Local, local-distances, distances-unique}
+use Rattle.lfa.specs.Laws.Local.{Local, local-distances, distances-local, distances-unique}
 use Rattle.lfa.specs.Laws.Work.{work-cell}
 use Rattle.distance.specs.RightTable.{areaCell, RightTable}
 use Rattle.distance.specs.Area.{held}
 use Rattle.distance.specs.Laws.Area.{held-cell}
-use Rattle.distance.proofs.BitLaws.{least-local}
-use Rattle.distance.proofs.RowLaws.{rows-all}
+use Rattle.distance.proofs.AreaLaws.{area-filled}
 
 module _ (n : ℕ) (area : List ℕ) (x t : ℕ) where
   outside : (n ≤ x) ⊎ (n ≤ t) → (ltb x n && ltb t n) ≡ false
@@ -114,7 +113,7 @@ module _ (net : Network) (within : Within (arcs net) (net .routers)) where
   }
     where
       d : Local (arcs net) (distanceIn (distances net))
-      d = least-local (distances-least (net .routers) (arcs net) within)
+      d = distances-local (distances-least (net .routers) (arcs net) within)
 
       cell : (x t : ℕ) → x < net .routers → t < net .routers → areaCell (net .routers) (filled net w) x t ≡ distanceIn (distances net) x t
       cell x t hx ht = work-cell net w x t hx ht
@@ -128,8 +127,6 @@ module _ (net : Network) (within : Within (arcs net) (net .routers)) where
 
   -- an area that is a right table is filled already
   pub right-filled : {height : ℕ → ℕ} → Descends (arcs net) height → (area : List ℕ) → net .routers * net .routers ≤ length area → RightTable (arcs net) (net .routers) area → area ≡ filled net area
-  right-filled descends area enough right = rows-all net within enough (record {
-    long = refl;
-    cell = λ d least x t hx ht. right-least (arcs net) (net .routers) area within right descends d least x t hx ht;
-    rest = λ i h. refl;
-  })
+  unfolding distances
+  right-filled descends area enough right = area-filled net area enough
+      (λ x t hx ht. right-least (arcs net) (net .routers) area within right descends (distanceIn (distances net)) (distances-least (net .routers) (arcs net) within) x t hx ht)

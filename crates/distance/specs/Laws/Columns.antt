@@ -44,16 +44,6 @@ pub arcs-columns : {net : Network} {routers links : ℕ} {from to out back : Lis
 unfolding arcs arcsIn
 arcs-columns c = ap (arcsFrom 0) (c .links-are)
 
--- routers are numbers below 64
-pub within-64 : {n links : ℕ} {from to : List ℕ} → ColumnsWithin n links from to → ColumnsWithin 64 links from to
-within-64 w = record {
-  few-routers = omega arith;
-  few-links = w .few-links;
-  from-in = λ k h. omega (arith, w .from-in k h, w .few-routers);
-  to-in = λ k h. omega
-      (arith, w .to-in k h, w .few-routers);
-}
-
 module _ (from to out back : List ℕ) (links : ℕ) where
   -- the arcs of the links lead from and to routers below n
   pub columns-within : (n : ℕ) → ColumnsWithin n links from to → Within (arcsIn from to out back links) n
