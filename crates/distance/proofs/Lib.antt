@@ -1,8 +1,7 @@
-pub mod BitLaws
-pub mod ChainLaws
-pub mod LinedLaws
-pub mod SearchLaws
+pub mod StoreLaws
+pub mod DirectLaws
 pub mod RowLaws
-pub mod ColumnLaws
+pub mod BoundLaws
+pub mod StageLaws
+pub mod AreaLaws
 pub mod TableLaws
-pub mod CallLaws

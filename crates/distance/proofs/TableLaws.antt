@@ -13,15 +13,14 @@ use borrow.Author.Tests.{le-ltb, eq-eqb, ne-eqb}
 use Rattle.lfa.specs.Network.{Arc, arc, Network, arcs}
 use Rattle.lfa.specs.Distance.{unreachable, LeastCosts, distances, distanceIn, filled}
 use Rattle.lfa.specs.Laws.Arrive.{Within}
-use Rattle.lfa.specs.Laws.Walk.{Positive}
+use Rattle.lfa.specs.Laws.Walk.{Descends}
 use Rattle.lfa.specs.Laws.Distance.{distances-least}
-use Rattle.lfa.specs.Laws.Local.{Local, local-distances, distances-unique}
+use Rattle.lfa.specs.Laws.Local.{Local, local-distances, distances-local, distances-unique}
 use Rattle.lfa.specs.Laws.Work.{work-cell}
 use Rattle.distance.specs.RightTable.{areaCell, RightTable}
 use Rattle.distance.specs.Area.{held}
 use Rattle.distance.specs.Laws.Area.{held-cell}
-use Rattle.distance.proofs.BitLaws.{least-local}
-use Rattle.distance.proofs.RowLaws.{rows-all}
+use Rattle.distance.proofs.AreaLaws.{area-filled}
 
 module _ (n : ℕ) (area : List ℕ) (x t : ℕ) where
   outside : (n ≤ x) ⊎ (n ≤ t) → (ltb x n && ltb t n) ≡ false
@@ -97,10 +96,10 @@ module _ (hops : List Arc) (n : ℕ) (area : List ℕ) (within : Within hops n) 
           go (inr o) (yes e) = inl e
           go (inr o) (no e) = absurd (omega (arith, held-out n area x t o e))
 
-  -- a right table holds the least costs of paths, where every arc costs something
-  pub right-least : Positive hops → (d : ℕ → ℕ → ℕ) → LeastCosts hops d → (x t : ℕ) → x < n → t < n → areaCell n area x t ≡ d x t
-  right-least positive d least x t hx ht = sym (held-cell n area x t hx ht)
-      ∙ distances-unique hops (held n area) d (local-distances hops (held n area) right-local positive) least x t
+  -- a right table holds the least costs of paths, where the hops descend
+  pub right-least : {height : ℕ → ℕ} → Descends hops height → (d : ℕ → ℕ → ℕ) → LeastCosts hops d → (x t : ℕ) → x < n → t < n → areaCell n area x t ≡ d x t
+  right-least descends d least x t hx ht = sym (held-cell n area x t hx ht)
+      ∙ distances-unique hops (held n area) d (local-distances hops (held n area) right-local descends) least x t
 
 module _ (net : Network) (within : Within (arcs net) (net .routers)) where
   -- the filled area is a right table
@@ -114,7 +113,7 @@ module _ (net : Network) (within : Within (arcs net) (net .routers)) where
   }
     where
       d : Local (arcs net) (distanceIn (distances net))
-      d = least-local (distances-least (net .routers) (arcs net) within)
+      d = distances-local (distances-least (net .routers) (arcs net) within)
 
       cell : (x t : ℕ) → x < net .routers → t < net .routers → areaCell (net .routers) (filled net w) x t ≡ distanceIn (distances net) x t
       cell x t hx ht = work-cell net w x t hx ht
@@ -127,9 +126,7 @@ module _ (net : Network) (within : Within (arcs net) (net .routers)) where
       shown x t hx ht (inr (z, c, l, m, e)) = inr (z, c, l, m, ap (λ (k : ℕ). c + k) (cell z t (within .to m) ht) ∙ e ∙ sym (cell x t hx ht))
 
   -- an area that is a right table is filled already
-  pub right-filled : Positive (arcs net) → (area : List ℕ) → net .routers * net .routers ≤ length area → RightTable (arcs net) (net .routers) area → area ≡ filled net area
-  right-filled positive area enough right = rows-all net within enough (record {
-    long = refl;
-    cell = λ d least x t hx ht. right-least (arcs net) (net .routers) area within right positive d least x t hx ht;
-    rest = λ i h. refl;
-  })
+  pub right-filled : {height : ℕ → ℕ} → Descends (arcs net) height → (area : List ℕ) → net .routers * net .routers ≤ length area → RightTable (arcs net) (net .routers) area → area ≡ filled net area
+  unfolding distances
+  right-filled descends area enough right = area-filled net area enough
+      (λ x t hx ht. right-least (arcs net) (net .routers) area within right descends (distanceIn (distances net)) (distances-least (net .routers) (arcs net) within) x t hx ht)

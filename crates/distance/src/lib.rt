@@ -3,12 +3,12 @@
 // It takes any numbers. Where they are not those of a network, the area stays as it was.
 use metric::fit::cells_fit;
 use metric::fit::links_fit;
-use rows::fill_area;
+use stages::fill_cells;
 ghost use mathlib.Core.Path.{_≡_};
 ghost use Rattle.distance.specs.Calls.{areaFilled};
 
-mod arcs;
-mod rows;
+mod direct;
+mod stages;
 
 // Fills the first routers * routers cells with the distances, row by row, row = start.
 pub fn fill<'a>(
@@ -28,5 +28,6 @@ pub fn fill<'a>(
     if !links_fit(routers, links, from, to) {
         return;
     }
-    fill_area(routers, links, from, to, out, back, work);
+    let end = routers * routers;
+    fill_cells(routers, links, from, to, out, back, &mut work[0..end]);
 }

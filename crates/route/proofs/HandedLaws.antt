@@ -18,11 +18,11 @@ use Rattle.network_file.specs.declared.network.Network.{Network}
 use Rattle.distance.specs.Columns.{arcsIn}
 use Rattle.distance.specs.Area.{held}
 use Rattle.column.specs.Column.{slotsIn}
-use Rattle.distance.specs.Laws.Columns.{limits-positive}
+use Rattle.lfa.specs.Laws.Accepted.{accepted-descend}
 use Rattle.search.specs.Spaces.{protectedIn}
 use Rattle.repair.specs.Laws.Named.{routers-same, hops-are, held-is, prefix-slots, prefix-target, protected-is}
 use Rattle.repair.specs.Taken.{Taken}
-use Rattle.repair.specs.Laws.Loaded.{routers-are, columns-within, limits}
+use Rattle.repair.specs.Laws.Loaded.{routers-are, columns-within}
 use Rattle.repair.specs.declared.Repair.the-variants as answer
 use Rattle.route.specs.Leg.{Playable}
 use Rattle.route.proofs.RouteLaws.{area-long, buffer-long, prefix-handed, link-handed, area-filled, near-below, hop-below, endpoint-below, named-route, route-short, Route}
@@ -32,7 +32,7 @@ module _ {b : Bytes} {network : Network} (t : Taken b network) (p : ℕ) (p-in :
       Playable (network .routers) cells (network .links) (network .from) (network .to) (network .out) (network .back) (network .at) (8 * p) count
   playable enough = record {
     within = columns-within t;
-    positive = rw (hops-are t) (limits-positive (limits t));
+    descends = rw (hops-are t) (accepted-descend b (t .is-accepted));
     slots = prefix-slots t p p-in count-is;
     long = enough;
   }

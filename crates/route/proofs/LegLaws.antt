@@ -10,11 +10,10 @@ use native.Mathlib.Omega.{arith}
 use lib.ListN.{length, getD, take, drop, set, take-append-drop, length-append, length-set}
 use lib.Seq.{take-suc-set, drop-set-lt, drop-drop, length-take-le}
 use Rattle.lfa.specs.Network.{Arc, Target}
-use Rattle.lfa.specs.Distance.{towards}
 use Rattle.lfa.specs.Walk.{Step}
 use Rattle.lfa.specs.Route.{Move, deliver, go, options, choiceAt, optionTaken, Takes, FirstLeg, arrived, onward as first-on, SecondLeg, delivered as second-end, onward as second-on, HasMove}
 use Rattle.lfa.specs.Laws.List.{getD-in}
-use Rattle.lfa.specs.Laws.Walk.{Positive}
+use Rattle.lfa.specs.Laws.Walk.{Descends, measure, step-lowers}
 use Rattle.lfa.specs.Laws.Arrive.{Within}
 use Rattle.lfa.specs.Laws.Route.{options-give, move-next, never-both}
 use Rattle.route.specs.Leg.{Leg, stopped, delivered, onward}
@@ -34,12 +33,12 @@ module _ (n : ℕ) (hops : List Arc) (d : ℕ → ℕ → ℕ) (to : Target) whe
           let k : i < length (m ∷ ms) = mod-lt byte (let p : 0 < length (m ∷ ms) = omega arith in p) in
           subst (HasMove hops d to x) e (options-give n hops d to x (getD (m ∷ ms) i deliver) (rw s (getD-in (m ∷ ms) i deliver k)))
 
-  module _ (within : Within hops n) (positive : Positive hops) where
+  module _ {height : ℕ → ℕ} (within : Within hops n) (descends : Descends hops height) where
     -- it leads to a router, nearer to the target
-    pub step-nearer : {z : ℕ} (x byte : ℕ) → optionTaken (options n hops d to x) byte ≡ go z → (z < n) × (towards d to z < towards d to x)
+    pub step-nearer : {z : ℕ} (x byte : ℕ) → optionTaken (options n hops d to x) byte ≡ go z → (z < n) × (measure height d to z < measure height d to x)
     step-nearer {z} x byte e =
         let s = taken-step x byte z e .1 in
-        (within .to (s .joined), omega (arith, s .tight, positive .cost (s .joined)))
+        (within .to (s .joined), step-lowers descends s)
 
 -- ---- one leg
 
@@ -74,13 +73,13 @@ first-leg arrived = stopped refl
 first-leg (first-on h t r) = onward h t (first-leg r)
 
 -- a second leg stops nowhere: 64 is no router
-module _ (n : ℕ) (few : n ≤ 64) (hops : List Arc) (within : Within hops n) (positive : Positive hops) (d : ℕ → ℕ → ℕ) (to : Target) (choices : List ℕ) where
+module _ (n : ℕ) (few : n ≤ 64) (hops : List Arc) (within : Within hops n) (d : ℕ → ℕ → ℕ) (to : Target) (choices : List ℕ) where
   no-stop : {x : ℕ} → x < n → x ≡ 64 → ⊥
   no-stop h e = omega arith
 
   pub second-leg : {i x : ℕ} {rs : List ℕ} → x < n → SecondLeg (options n hops d to) choices i x rs → Leg (options n hops d to) choices 64 i x rs
   second-leg h (second-end t) = delivered (no-stop h) t
-  second-leg h (second-on {i} {x} t r) = onward (no-stop h) t (second-leg (step-nearer n hops d to within positive x (choiceAt choices i) t .0) r)
+  second-leg h (second-on {i} {x} t r) = onward (no-stop h) t (second-leg (within .to (taken-step n hops d to x (choiceAt choices i) _ t .1 .joined)) r)
 
 -- ---- what is written
 

@@ -36,7 +36,7 @@ pub tunnel-playable : {n cells links first count : ℕ} {from to out back router
     Playable n cells links from to out back (slots y) 0 1
 tunnel-playable {n} y h p = record {
   within = p .within;
-  positive = p .positive;
+  descends = p .descends;
   slots = record { few = omega arith; router-in = λ s k. slot-in s k };
   long = p .long;
 }
@@ -60,7 +60,7 @@ module _ {n cells links first count : ℕ} {from to out back routers : List ℕ}
   pub rest-leg : {k : ℕ} → k ≡ 2 + length (r .tunnel) → Leg (options n hops d target) choices 64 (k - 2) y (r .rest)
   rest-leg {k} e =
       let u : r .used ≡ k - 2 = omega (arith, bytes-used (options n hops d (router y)) choices (r .first-leg)) in
-      rw u at (second-leg n (p .within .few-routers) hops (columns-within from to out back links n (p .within)) (p .positive) d target choices y-in (r .second-leg))
+      rw u at (second-leg n (p .within .few-routers) hops (columns-within from to out back links n (p .within)) d target choices y-in (r .second-leg))
 
 -- ---- the buffer
 

@@ -3,9 +3,8 @@
 use Prim.Native.Nat.{ℕ, suc, _*_, _≤_}
 use mathlib.Core.Path.{_≡_}
 use mathlib.Core.List.{List, [], _∷_}
-use lib.ListN.{length}
 use Rattle.lfa.specs.Route.{Move, deliver, go, Takes}
-use Rattle.lfa.specs.Laws.Walk.{Positive}
+use Rattle.lfa.specs.Laws.Walk.{Descends, level}
 use Rattle.metric.specs.Fit.{ColumnsWithin, SlotsWithin}
 use Rattle.distance.specs.Columns.{arcsIn}
 
@@ -16,9 +15,9 @@ pub data Leg (moves : ℕ → List Move) (choices : List ℕ) (stop : ℕ) : ℕ
   delivered : {i x : ℕ} → (x ≡ stop → ⊥) → Takes moves choices i x deliver → Leg moves choices stop i x []
   onward : {i x z : ℕ} {rs : List ℕ} → (x ≡ stop → ⊥) → Takes moves choices i x (go z) → Leg moves choices stop (suc i) z rs → Leg moves choices stop i x (z ∷ rs)
 
--- the columns hold a network whose hops all cost something, and the slots of a target; the area is long enough for its distances
+-- the columns hold a network whose hops descend, and the slots of a target; the area is long enough for its distances
 pub record Playable (n cells links : ℕ) (from to out back routers : List ℕ) (first count : ℕ) : Type 0 where
   pub within : ColumnsWithin n links from to
-  pub positive : Positive (arcsIn from to out back links)
+  pub descends : Descends (arcsIn from to out back links) level
   pub slots : SlotsWithin n first count routers
   pub long : n * n ≤ cells

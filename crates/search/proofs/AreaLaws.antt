@@ -13,7 +13,7 @@ use Rattle.distance.specs.Laws.Area.{held-filled}
 use Rattle.avoid.specs.Known.{Known}
 
 -- Of a network with sound links and of one of them, all is known that spaces and repairs need.
-pub known-filled : (net : Network) → LinksSound net → (area : List ℕ) → net .routers * net .routers ≤ length area → (l e : ℕ) → l < length (net .links) →
+pub known-filled : (net : Network) {height : ℕ → ℕ} → LinksSound net height → (area : List ℕ) → net .routers * net .routers ≤ length area → (l e : ℕ) → l < length (net .links) →
     Known (net .routers) (arcs net) (protected net l e) (filled net area)
 known-filled net links-sound area long l e h = record {
   long = omega (arith, work-length net area long);

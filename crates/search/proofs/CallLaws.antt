@@ -15,6 +15,7 @@ use Rattle.lfa.specs.Repair.{Outcome, noneServes, linkOutcome, prefixOutcome}
 use Rattle.lfa.specs.Laws.Test.{and-left, and-right, and-make, fails-left, fails-right, same-test}
 use Rattle.lfa.specs.Laws.List.{every-gives, every-make}
 use Rattle.lfa.specs.Laws.Counting.{length-map-below, map-below-gives, map-below-at}
+use Rattle.lfa.specs.Laws.Walk.{level}
 use Rattle.lfa.specs.Laws.Network.{LinkSound, LinksSound}
 use Rattle.network_file.specs.declared.network.Network.{Network}
 use Rattle.metric.specs.Fit.{ColumnsWithin, SlotsWithin, cellsFit, joins, linksFit, slotsFit}
@@ -120,7 +121,7 @@ module _ (network : Network) (l e : ℕ) (area : List ℕ) (passes : answered ne
       let rest = and-right (linksPriced (network .routers) (network .links) (network .from) (network .to) (network .out) (network .back)) _ (and-right (cellsFit (network .routers) (length area)) _ passes) in
       ltb-true l (network .links) (and-left _ _ rest)
 
-  each : (k : ℕ) → k < network .links → LinkSound (network .routers) (getD (network .from) k 0) (getD (network .to) k 0) (getD (network .out) k 0) (getD (network .back) k 0)
+  each : (k : ℕ) → k < network .links → LinkSound (network .routers) level (getD (network .from) k 0) (getD (network .to) k 0) (getD (network .out) k 0) (getD (network .back) k 0)
   unfolding linksPriced
   each k h =
       let t = every-gives (linkPriced (network .routers) (network .from) (network .to) (network .out) (network .back)) (network .links) (and-right (leb (network .links) 128) _ links-tested) k h in
@@ -131,8 +132,8 @@ module _ (network : Network) (l e : ℕ) (area : List ℕ) (passes : answered ne
       record {
         a-in = ltb-true _ _ (and-left _ _ ends);
         b-in = ltb-true _ _ (and-right (ltb (getD (network .from) k 0) (network .routers)) _ ends);
-        out-some = ltb-true _ _ (and-left _ _ out);
-        back-some = ltb-true _ _ (and-left _ _ back);
+        out-falls = omega (arith, ltb-true 0 (getD (network .out) k 0) (and-left _ _ out));
+        back-falls = omega (arith, ltb-true 0 (getD (network .back) k 0) (and-left _ _ back));
         out-most = leb-true _ _ (and-right (ltb 0 (getD (network .out) k 0)) _ out);
         back-most = leb-true _ _ (and-right (ltb 0 (getD (network .back) k 0)) _ back);
       }
@@ -150,14 +151,14 @@ module _ (network : Network) (l e : ℕ) (area : List ℕ) (passes : answered ne
   long = cells-tested .1
 
   -- the links that the columns hold are sound
-  sound : LinksSound (heldBy network)
+  sound : LinksSound (heldBy network) level
   unfolding linksIn
   sound = record { few-routers = cells-tested .0; link-sound = λ {a} {b} {ab} {ba} m. go a b ab ba (map-below-gives f (network .links) m) }
     where
       f : ℕ → Link
       f k = link (getD (network .from) k 0) (getD (network .to) k 0) (getD (network .out) k 0) (getD (network .back) k 0)
 
-      go : (a b ab ba : ℕ) → ((k : ℕ) × (k < network .links) × (link a b ab ba ≡ f k)) → LinkSound (network .routers) a b ab ba
+      go : (a b ab ba : ℕ) → ((k : ℕ) × (k < network .links) × (link a b ab ba ≡ f k)) → LinkSound (network .routers) level a b ab ba
       go a b ab ba r =
           let s = each (r .0) (r .1) in
           let e = r .2 in
@@ -165,7 +166,7 @@ module _ (network : Network) (l e : ℕ) (area : List ℕ) (passes : answered ne
           let eb : b ≡ getD (network .to) (r .0) 0 = cc in
           let eab : ab ≡ getD (network .out) (r .0) 0 = cc in
           let eba : ba ≡ getD (network .back) (r .0) 0 = cc in
-          record { a-in = omega (arith, s .a-in); b-in = omega (arith, s .b-in); out-some = omega (arith, s .out-some); back-some = omega (arith, s .back-some); out-most = omega (arith, s .out-most); back-most = omega (arith, s .back-most) }
+          record { a-in = omega (arith, s .a-in); b-in = omega (arith, s .b-in); out-falls = omega (arith, s .out-falls); back-falls = omega (arith, s .back-falls); out-most = omega (arith, s .out-most); back-most = omega (arith, s .back-most) }
 
   -- the columns hold the protected link
   protected-is : protectedIn (network .from) (network .to) (network .out) (network .back) l e ≡ protected (heldBy network) l e

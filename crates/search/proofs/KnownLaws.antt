@@ -15,7 +15,7 @@ use borrow.Author.Tests.{ltb-true, lt-ltb, le-ltb, eqb-true, eq-eqb}
 use Rattle.lfa.specs.Lists.{below, select, flat}
 use Rattle.lfa.specs.Network.{Arc, arc, Target, router}
 use Rattle.lfa.specs.Distance.{unreachable, towards, stay}
-use Rattle.lfa.specs.Walk.{avoids}
+use Rattle.lfa.specs.Walk.{Step, here, hop, avoids}
 use Rattle.lfa.specs.Space.{Protected, FirstHop, first, hopRouter, firstHops, pSpace, extendedP, qSpace, inSpace, spaceOf, setOf, has}
 use Rattle.lfa.specs.Repair.{pair, MayCross, mayCross, isEndpoint, withEndpoint, pairsOf, pairs, serves, classOf, tunnelCost, Keys, keysOf, firstPair, Outcome, outcomeOf, prefixUnreachable, prefixUntouched, prefixOutcome}
 use Rattle.lfa.specs.Laws.Test.{and-left, and-right, and-make, same-test}
@@ -24,6 +24,7 @@ use Rattle.lfa.specs.Laws.Set.{setOf-same, has-setOf, has-and}
 use Rattle.lfa.specs.Laws.Target.{towards-router, towards-most}
 use Rattle.lfa.specs.Laws.Bound.{distance-small}
 use Rattle.lfa.specs.Laws.Walk.{equation-crossing}
+use Rattle.lfa.specs.Laws.Arrive.{never-twice}
 use Rattle.lfa.specs.Laws.Pair.{firsts-give}
 use Rattle.lfa.specs.Laws.Repair.{may-gives, may-make}
 use Rattle.distance.specs.Area.{held}
@@ -93,7 +94,10 @@ module _ (n : ℕ) (hops : List Arc) (q : Protected) (area : List ℕ) (known : 
       cost : (r : MayCross hops d q to) → ((q .near ≡ q .near) × (q .far ≡ q .far) × (r .step .cost ≡ q .out)) ⊎ ((q .near ≡ q .far) × (q .far ≡ q .near) × (r .step .cost ≡ q .back)) →
           q .out + towards d to (q .far) ≡ towards d to (q .near)
       cost r (inl k) = omega (arith, k .2, r .step .tight)
-      cost r (inr k) = let s : towards d to (q .near) ≡ towards d to (q .far) = ap (towards d to) (k .0) in absurd (omega (arith, k .2, r .step .tight, known .named .back-some))
+      cost r (inr k) =
+          let g = known .sound .falls d to in
+          let back : Step hops d to (q .far) (q .far) (q .number) = rw (k .0) at (r .step) in
+          absurd (never-twice hops d to n (g .0) (known .sound .within) (g .1) (hop back here))
 
       back : mayCross n hops d q to ≡ true → crossesOut q (λ x. getD l x 0) ≡ true
       back t =

@@ -1,6 +1,6 @@
 -- Laws of the distances that an area holds.
 -- Assumes nothing.
-use Prim.Native.Nat.{ℕ, zero, suc, _+_, _*_, _≤_, _<_}
+use Prim.Native.Nat.{ℕ, _+_, _*_, _≤_, _<_}
 use mathlib.Core.Path.{_≡_, refl, sym, ap, fun-ext}
 use mathlib.Core.Bool.{Bool, true, false, _&&_}
 use mathlib.Core.Logic.{_⊎_, inl, inr}
@@ -10,11 +10,11 @@ use lib.Dec.{eqb, ltb}
 use lib.ListN.{length, getD}
 use lib.Arith.{digits-lt}
 use borrow.Author.Tests.{lt-ltb, ltb-true, ltb-false}
-use Rattle.lfa.specs.Lists.{table, cell}
-use Rattle.lfa.specs.Network.{Arc, Network, arcs}
-use Rattle.lfa.specs.Distance.{unreachable, direct, through, stage, distances, distanceIn, filled}
+use Rattle.lfa.specs.Lists.{cell}
+use Rattle.lfa.specs.Network.{Network, arcs}
+use Rattle.lfa.specs.Distance.{unreachable, distances, distanceIn, filled}
 use Rattle.lfa.specs.Laws.Table.{cell-out}
-use Rattle.lfa.specs.Laws.Work.{work-cell}
+use Rattle.lfa.specs.Laws.Work.{stage-table, work-cell}
 use Rattle.distance.specs.Area.{held}
 
 -- ---- the area
@@ -29,12 +29,6 @@ module _ (n : ℕ) (area : List ℕ) (x t : ℕ) (hx : x < n) (ht : t < n) where
   held-cell = rw (lt-ltb x n hx, lt-ltb t n ht, held)
 
 -- ---- the table of distances
-
--- each stage is a table
-stage-table : (n : ℕ) (hops : List Arc) (k : ℕ) → (f : ℕ → ℕ → ℕ) × (stage n hops k ≡ table n f)
-unfolding stage through
-stage-table n hops zero = (direct hops, refl)
-stage-table n hops (suc k) = (_, refl)
 
 -- a number that is no router is unreachable from every other
 distance-out : (net : Network) (x t : ℕ) → (net .routers ≤ x) ⊎ (net .routers ≤ t) → cell unreachable (distances net) x t ≡ unreachable

@@ -7,7 +7,6 @@ use mathlib.Core.List.{[], _∷_, _++_, List, map, List·Memᴰ, Memᴰ·cast}
 use native.Mathlib.Nat.{add-zero}
 use native.Mathlib.Omega.{arith}
 use lib.ListN.{length, getD}
-use Rattle.lfa.specs.Laws.Walk.{Positive}
 use Rattle.lfa.specs.Network.{Arc, arc, Link, link, Network, arcsFrom, arcs}
 use Rattle.lfa.specs.Laws.Arrive.{Within}
 use Rattle.lfa.specs.Laws.Network.{arcs-give, Direction, LinkSound, LinksSound, limits-links}
@@ -20,14 +19,14 @@ use Rattle.metric.specs.Fit.{ColumnsWithin}
 use Rattle.distance.specs.Columns.{linksIn, arcsIn, InColumns}
 
 -- link k of the columns is a link between routers, where the network's links are
-pub link-held : {net : Network} {n links : ℕ} {from to out back : List ℕ} → LinksSound net → InColumns net n links from to out back → (k : ℕ) → k < links →
-    LinkSound n (getD from k 0) (getD to k 0) (getD out k 0) (getD back k 0)
+pub link-held : {net : Network} {height : ℕ → ℕ} {n links : ℕ} {from to out back : List ℕ} → LinksSound net height → InColumns net n links from to out back → (k : ℕ) → k < links →
+    LinkSound n height (getD from k 0) (getD to k 0) (getD out k 0) (getD back k 0)
 unfolding linksIn
-link-held {net} {n} {links} {from} {to} {out} {back} sound c k h =
+link-held {net} {height} {n} {links} {from} {to} {out} {back} sound c k h =
     let f : ℕ → Link = λ k. link (getD from k 0) (getD to k 0) (getD out k 0) (getD back k 0) in
     let m : List·Memᴰ (f k) (map f (below links)) = Memᴰ·cast (sym (map-below-at f (link 0 0 0 0) links k h))
     (getD-in (map f (below links)) k (link 0 0 0 0) (omega (arith, length-map-below f links))) in
-    let w : LinkSound (net .routers) (getD from k 0) (getD to k 0) (getD out k 0) (getD back k 0) = sound .link-sound (rw (c .links-are) m) in
+    let w : LinkSound (net .routers) height (getD from k 0) (getD to k 0) (getD out k 0) (getD back k 0) = sound .link-sound (rw (c .links-are) m) in
     rw (c .routers-are) at w
 
 -- columns that hold the links of a network within the limits
@@ -44,16 +43,6 @@ limits-columns {net} {n} {links} {from} {to} {out} {back} limits c = record {
 pub arcs-columns : {net : Network} {routers links : ℕ} {from to out back : List ℕ} → InColumns net routers links from to out back → arcs net ≡ arcsIn from to out back links
 unfolding arcs arcsIn
 arcs-columns c = ap (arcsFrom 0) (c .links-are)
-
--- routers are numbers below 64
-pub within-64 : {n links : ℕ} {from to : List ℕ} → ColumnsWithin n links from to → ColumnsWithin 64 links from to
-within-64 w = record {
-  few-routers = omega arith;
-  few-links = w .few-links;
-  from-in = λ k h. omega (arith, w .from-in k h, w .few-routers);
-  to-in = λ k h. omega
-      (arith, w .to-in k h, w .few-routers);
-}
 
 module _ (from to out back : List ℕ) (links : ℕ) where
   -- the arcs of the links lead from and to routers below n
@@ -93,17 +82,3 @@ arcsIn-more from to out back k =
     let e : 0 + length (map f (below k)) ≡ k = omega (arith, length-map-below f k) in
     ap (arcsFrom 0) (map-below-more f k) ∙ arcs-more 0 (map f (below k)) (getD from k 0) (getD to k 0) (getD out k 0) (getD back k 0)
     ∙ ap (λ (j : ℕ). arcsFrom 0 (map f (below k)) ++ (arc (getD from k 0) (getD to k 0) (getD out k 0) j ∷ arc (getD to k 0) (getD from k 0) (getD back k 0) j ∷ [])) e
-
--- ---- a network within the limits
-
--- every arc costs something
-pub limits-positive : {net : Network} → WithinLimits net → Positive (arcs net)
-unfolding arcs
-limits-positive {net} limits = record { cost = λ m. go m }
-  where
-    side : (k : Link) (u v c : ℕ) → List·Memᴰ k (net .links) → Direction k u v c → 0 < c
-    side (link a b ab ba) u v c m (inl e) = omega (arith, limits .link-within m, e)
-    side (link a b ab ba) u v c m (inr e) = omega (arith, limits .link-within m, e)
-
-    go : {u v c l : ℕ} → List·Memᴰ (arc u v c l) (arcsFrom 0 (net .links)) → 0 < c
-    go {u} {v} {c} m = let r = arcs-give 0 (net .links) m in side (getD (net .links) (r .0) (link 0 0 0 0)) u v c (r .3) (r .4)

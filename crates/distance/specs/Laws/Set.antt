@@ -25,7 +25,7 @@ max-eqb (suc zero) (suc (suc v)) hu hv = absurd (not-suc-le-zero (le-of-suc-le-s
 max-eqb (suc (suc u)) v hu hv = absurd (not-suc-le-zero (le-of-suc-le-suc (le-of-suc-le-suc hu)))
 
 -- a member of a union is a member of one of the two
-pub has-or : (a b r : ℕ) → has (bitOr a b) r ≡ (has a r || has b r)
+has-or : (a b r : ℕ) → has (bitOr a b) r ≡ (has a r || has b r)
 unfolding has
 has-or a b r =
     ap (λ (x : ℕ). eqb (x % 2) 1) (or-shr a b r) ∙ ap (λ (x : ℕ). eqb x 1) (or-low (a / 2 ^ r) (b / 2 ^ r))

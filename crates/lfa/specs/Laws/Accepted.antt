@@ -16,9 +16,10 @@ use Rattle.lfa.specs.Space.{protected}
 use Rattle.lfa.specs.Refusal.{FileRow, Decided, fileRefusal, Accepted}
 use Rattle.lfa.specs.Answer.{networkLoaded, partIf, linkPart, prefixPart}
 use Rattle.lfa.specs.Laws.List.{getD-in}
+use Rattle.lfa.specs.Laws.Walk.{Descends, level}
 use Rattle.lfa.specs.Laws.Bound.{Sound, Capped}
 use Rattle.lfa.specs.Laws.Avoid.{Named}
-use Rattle.lfa.specs.Laws.Network.{limits-links, limits-sound, limits-distances, limits-named}
+use Rattle.lfa.specs.Laws.Network.{limits-links, limits-descend, limits-sound, limits-distances, limits-named}
 use Rattle.lfa.specs.Laws.FileRows.{accepted-passes-rows, accepted-passes, passes-accepted}
 use Rattle.lfa.specs.Laws.File.Passes.{AreBytes}
 use Rattle.lfa.specs.Laws.File.Within.{links-length, prefixes-length, passes-within}
@@ -54,6 +55,9 @@ module _ (b : Bytes) (a : Accepted b) where
 
   pub accepted-limits : WithinLimits (networkOf b)
   accepted-limits = passes-within b bytes (accepted-passes b a)
+
+  pub accepted-descend : Descends (arcs (networkOf b)) level
+  accepted-descend = limits-descend (networkOf b) (limits-links accepted-limits)
 
   pub accepted-sound : Sound (networkOf b .routers) (arcs (networkOf b))
   accepted-sound = limits-sound (networkOf b) (limits-links accepted-limits)

@@ -14,7 +14,7 @@ use Rattle.lfa.specs.Lists.{one, count}
 use Rattle.lfa.specs.Network.{Arc, arc, Target}
 use Rattle.lfa.specs.Distance.{unreachable, LeastCosts, towards}
 use Rattle.lfa.specs.Walk.{Step, Walk, here, hop, Arrives}
-use Rattle.lfa.specs.Laws.Walk.{Positive, step-lowers, walk-finite, onward}
+use Rattle.lfa.specs.Laws.Walk.{Descends, measure, step-lowers, walk-finite, onward}
 
 one-mono : (a b : Bool) → (a ≡ true → b ≡ true) → one a ≤ one b
 one-mono true b f = rw (f refl) (omega arith)
@@ -63,9 +63,9 @@ rank m n b = count (λ i. ltb (m i) b) n
 pub record Falls (hops : List Arc) (d : ℕ → ℕ → ℕ) (to : Target) (m : ℕ → ℕ) : Type 0 where
   pub fall : {x z l : ℕ} → Step hops d to x z l → m z < m x
 
--- where every hop costs something, the distance does
-pub distance-falls : (hops : List Arc) (d : ℕ → ℕ → ℕ) (to : Target) → Positive hops → Falls hops d to (towards d to)
-distance-falls hops d to p = record { fall = λ s. step-lowers p s }
+-- where the hops descend, the measure does
+pub measure-falls : {hops : List Arc} {height : ℕ → ℕ} (d : ℕ → ℕ → ℕ) (to : Target) → Descends hops height → Falls hops d to (measure height d to)
+measure-falls d to g = record { fall = λ s. step-lowers g s }
 
 module _ (hops : List Arc) (d : ℕ → ℕ → ℕ) (to : Target) (n : ℕ) (m : ℕ → ℕ) (within : Within hops n) (falls : Falls hops d to m) where
   pub rank-falls : {x z l : ℕ} → Step hops d to x z l → rank m n (m z) < rank m n (m x)

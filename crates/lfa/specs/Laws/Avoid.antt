@@ -145,12 +145,10 @@ avoids-make n hops d to l x a = and-make _ _ (lt-ltb _ _ (a .reachable)) (not-ma
 
 -- ---- the inequalities
 
--- the arcs over the protected link are its two directions, and no others; each direction costs something
+-- the arcs over the protected link are its two directions, and no others
 pub record Named (hops : List Arc) (q : Protected) : Type 0 where
   pub outward : List·Memᴰ (arc (q .near) (q .far) (q .out) (q .number)) hops
   pub backward : List·Memᴰ (arc (q .far) (q .near) (q .back) (q .number)) hops
-  pub out-some : 0 < q .out
-  pub back-some : 0 < q .back
   pub only : {u v c : ℕ} → List·Memᴰ (arc u v c (q .number)) hops → ((u ≡ q .near) × (v ≡ q .far) × (c ≡ q .out)) ⊎ ((u ≡ q .far) × (v ≡ q .near) × (c ≡ q .back))
 
 -- D(x,t) is finite, and below the cost over the link in either direction

@@ -27,7 +27,7 @@ route-cost e r = rw e at r
 
 -- ---- one hop
 
-least-most : (l : List ℕ) → least l ≤ unreachable
+pub least-most : (l : List ℕ) → least l ≤ unreachable
 unfolding least
 least-most [] = omega arith
 least-most (x ∷ l) = omega (arith, least-most l)
@@ -46,12 +46,13 @@ hop-given x z u v c l f = go (eqb u x && eqb v z) refl f
     go false e f = omega arith
 
 module _ (x z : ℕ) where
-  hop-least : {c l : ℕ} {hops : List Arc} → List·Memᴰ (arc x z c l) hops → least (map (hopCost x z) hops) ≤ c
+  -- the least is at most the cost of each hop from x to z, and where it is finite that of one
+  pub hop-least : {c l : ℕ} {hops : List Arc} → List·Memᴰ (arc x z c l) hops → least (map (hopCost x z) hops) ≤ c
   unfolding least
   hop-least {c} {l} (List·Memᴰ·head e) = omega (arith, ap (hopCost x z) e, hop-self x z c l)
   hop-least (List·Memᴰ·tail m) = omega (arith, hop-least m)
 
-  hop-found : (hops : List Arc) → least (map (hopCost x z) hops) < unreachable → (c : ℕ) × (l : ℕ) × List·Memᴰ (arc x z c l) hops × (c ≡ least (map (hopCost x z) hops))
+  pub hop-found : (hops : List Arc) → least (map (hopCost x z) hops) < unreachable → (c : ℕ) × (l : ℕ) × List·Memᴰ (arc x z c l) hops × (c ≡ least (map (hopCost x z) hops))
   unfolding least
   hop-found [] f = absurd (omega arith)
   hop-found (arc u v c l ∷ hops) f = go (hop-found hops) (decide (leb (hopCost x z (arc u v c l)) (least (map (hopCost x z) hops))))

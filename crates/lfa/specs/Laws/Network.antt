@@ -1,7 +1,7 @@
--- Where each link joins routers at costs of 1 to 65,535, the arcs are sound, the distances are least path costs, and the arcs over a
--- link are its two directions. A network within the limits is such a network.
+-- Where each link joins routers at costs up to 65,535 and the hops over it descend, the arcs are sound, the distances are least path
+-- costs, and the arcs over a link are its two directions. A network within the limits is such a network.
 -- Assumes nothing.
-use Prim.Native.Nat.{ℕ, zero, suc, _+_, _≤_, _<_}
+use Prim.Native.Nat.{ℕ, zero, suc, _+_, _*_, _≤_, _<_}
 use mathlib.Core.Path.{_≡_, refl, ap, _∙_, subst}
 use mathlib.Core.Logic.{_⊎_, inl, inr, ⊎-swap}
 use mathlib.Core.List.{List, [], _∷_, List·Memᴰ, List·Memᴰ·head, List·Memᴰ·tail, List·Memᴰ·cases-cons, List·Memᴰ·not-nil, Memᴰ·cast}
@@ -10,9 +10,10 @@ use native.Mathlib.Nat.{zero-add, add-zero, le-of-suc-le-suc, not-suc-le-zero}
 use lib.ListN.{getD, length}
 use Rattle.lfa.specs.Network.{Link, link, arc, Network, arcsFrom, arcs}
 use Rattle.lfa.specs.FileOf.{WithinLimits}
-use Rattle.lfa.specs.Distance.{LeastCosts, distances, distanceIn, towards}
+use Rattle.lfa.specs.Distance.{LeastCosts, distances, distanceIn}
 use Rattle.lfa.specs.Space.{protectedBy, protected}
-use Rattle.lfa.specs.Laws.Arrive.{distance-falls}
+use Rattle.lfa.specs.Laws.Walk.{Descends, level, measure}
+use Rattle.lfa.specs.Laws.Arrive.{measure-falls}
 use Rattle.lfa.specs.Laws.Bound.{Sound}
 use Rattle.lfa.specs.Laws.Avoid.{Named}
 use Rattle.lfa.specs.Laws.Distance.{distances-least}
@@ -61,41 +62,46 @@ protected-number net l e = go e (getD (net .links) l (link 0 0 0 0))
     go zero (link a b ab ba) = refl
     go (suc e) (link a b ab ba) = refl
 
--- a link between routers, at costs of 1 to 65,535
-pub record LinkSound (n a b ab ba : ℕ) : Type 0 where
+-- a link between routers, at costs up to 65,535, and neither hop over it climbs as much as twice its cost
+pub record LinkSound (n : ℕ) (height : ℕ → ℕ) (a b ab ba : ℕ) : Type 0 where
   pub a-in : a < n
   pub b-in : b < n
-  pub out-some : 1 ≤ ab
-  pub back-some : 1 ≤ ba
+  pub out-falls : height b < 2 * ab + height a
+  pub back-falls : height a < 2 * ba + height b
   pub out-most : ab ≤ 65535
   pub back-most : ba ≤ 65535
 
 -- at most 64 routers, and such links between them
-pub record LinksSound (net : Network) : Type 0 where
+pub record LinksSound (net : Network) (height : ℕ → ℕ) : Type 0 where
   pub few-routers : net .routers ≤ 64
-  pub link-sound : {a b ab ba : ℕ} → List·Memᴰ (link a b ab ba) (net .links) → LinkSound (net .routers) a b ab ba
+  pub link-sound : {a b ab ba : ℕ} → List·Memᴰ (link a b ab ba) (net .links) → LinkSound (net .routers) height a b ab ba
 
-pub limits-links : {net : Network} → WithinLimits net → LinksSound net
+-- within the limits every cost is 1 or more, and all routers are at one height
+pub limits-links : {net : Network} → WithinLimits net → LinksSound net level
 limits-links limits = record {
   few-routers = limits .few-routers;
-  link-sound = λ m. let w = limits .link-within m in record { a-in = w .a-in; b-in = w .b-in; out-some = w .out-some; back-some = w .back-some; out-most = w .out-most; back-most = w .back-most };
+  link-sound = λ m. let w = limits .link-within m in
+      record { a-in = w .a-in; b-in = w .b-in; out-falls = omega (arith, w .out-some); back-falls = omega (arith, w .back-some); out-most = w .out-most; back-most = w .back-most };
 }
 
-module _ (net : Network) (sound : LinksSound net) where
+module _ (net : Network) {height : ℕ → ℕ} (sound : LinksSound net height) where
   -- what is known of an arc
-  sound-arc : {u v c k : ℕ} → List·Memᴰ (arc u v c k) (arcs net) → (u < net .routers) × (v < net .routers) × (0 < c) × (c ≤ 65535)
+  sound-arc : {u v c k : ℕ} → List·Memᴰ (arc u v c k) (arcs net) → (u < net .routers) × (v < net .routers) × (height v < 2 * c + height u) × (c ≤ 65535)
   unfolding arcs
   sound-arc {u} {v} {c} {k} m = let r = arcs-give 0 (net .links) m in go (getD (net .links) (r .0) (link 0 0 0 0)) (r .3) (r .4)
     where
-      go : (lk : Link) → List·Memᴰ lk (net .links) → Direction lk u v c → (u < net .routers) × (v < net .routers) × (0 < c) × (c ≤ 65535)
-      go (link a b ab ba) j (inl e) = let s = sound .link-sound j in omega (arith, s, e)
-      go (link a b ab ba) j (inr e) = let s = sound .link-sound j in omega (arith, s, e)
+      go : (lk : Link) → List·Memᴰ lk (net .links) → Direction lk u v c → (u < net .routers) × (v < net .routers) × (height v < 2 * c + height u) × (c ≤ 65535)
+      go (link a b ab ba) j (inl (p, q, r)) = let s = sound .link-sound j in rw (p, q, r) (s .a-in, s .b-in, s .out-falls, s .out-most)
+      go (link a b ab ba) j (inr (p, q, r)) = let s = sound .link-sound j in rw (p, q, r) (s .b-in, s .a-in, s .back-falls, s .back-most)
+
+  pub limits-descend : Descends (arcs net) height
+  limits-descend = record { hop = λ m. sound-arc m .2 }
 
   pub limits-sound : Sound (net .routers) (arcs net)
   limits-sound = record {
     few = sound .few-routers;
     within = record { from = λ m. sound-arc m .0; to = λ m. sound-arc m .1 };
-    falls = λ d to. (towards d to, distance-falls (arcs net) d to (record { cost = λ m. sound-arc m .2 }));
+    falls = λ d to. (measure height d to, measure-falls d to limits-descend);
     capped = λ m. sound-arc m .3;
   }
 
@@ -118,7 +124,7 @@ module _ (net : Network) (sound : LinksSound net) where
       go : (e : ℕ) (lk : Link) → getD (net .links) l (link 0 0 0 0) ≡ lk → Named (arcsFrom 0 (net .links)) (protectedBy l e lk)
       go zero (link a b ab ba) p =
           let r = arcs-have 0 (net .links) l a b ab ba h p in
-          record { outward = rw zero-add at (r .0); backward = rw zero-add at (r .1); out-some = sound-arc (rw zero-add at (r .0)) .2; back-some = sound-arc (rw zero-add at (r .1)) .2; only = λ {u} {v} {c} m. only (link a b ab ba) p u v c m }
+          record { outward = rw zero-add at (r .0); backward = rw zero-add at (r .1); only = λ {u} {v} {c} m. only (link a b ab ba) p u v c m }
       go (suc e) (link a b ab ba) p =
           let r = arcs-have 0 (net .links) l a b ab ba h p in
-          record { outward = rw zero-add at (r .1); backward = rw zero-add at (r .0); out-some = sound-arc (rw zero-add at (r .1)) .2; back-some = sound-arc (rw zero-add at (r .0)) .2; only = λ {u} {v} {c} m. ⊎-swap (only (link a b ab ba) p u v c m) }
+          record { outward = rw zero-add at (r .1); backward = rw zero-add at (r .0); only = λ {u} {v} {c} m. ⊎-swap (only (link a b ab ba) p u v c m) }

@@ -8,10 +8,11 @@ use mathlib.Core.List.{List}
 use native.Mathlib.Omega.{arith}
 use Rattle.lfa.specs.Network.{Arc, Target, router}
 use Rattle.lfa.specs.Distance.{unreachable, stay, LeastCosts, towards}
-use Rattle.lfa.specs.Walk.{Step, Delivers, here, Crosses, Avoids, Arrives}
+use Rattle.lfa.specs.Walk.{Step, Delivers, here, hop, Crosses, Avoids, Arrives}
 use Rattle.lfa.specs.Space.{Protected}
 use Rattle.lfa.specs.Repair.{Serves, MayCross}
 use Rattle.lfa.specs.Laws.Walk.{crossing-equation, equation-crossing}
+use Rattle.lfa.specs.Laws.Arrive.{never-twice}
 use Rattle.lfa.specs.Laws.Avoid.{Named}
 use Rattle.lfa.specs.Laws.Target.{towards-router, hop-bound, route-bound}
 use Rattle.lfa.specs.Laws.Bound.{Sound, Capped, towards-small, distance-small, towards-arrives}
@@ -19,7 +20,7 @@ use Rattle.lfa.specs.Laws.Bound.{Sound, Capped, towards-small, distance-
 module _ (n : ℕ) (hops : List Arc) (d : ℕ → ℕ → ℕ) (q : Protected) (sound : Sound n hops) (dist : LeastCosts hops d) (named : Named hops q) where
   -- What avoids to E avoids to every prefix whose traffic may cross the link. D(S,p) is the cost S to E plus D(E,p). Were the link
   -- crossed from S to E on the way from y to p, the part up to E would be a least-cost walk from y to E over the link; from E to S,
-  -- D(y,p) would be at least D(y,E) plus the cost back plus D(S,p), more than D(y,E) + D(E,p).
+  -- a walk from S over the link and back would visit S twice.
   pub far-avoids : (to : Target) → Capped to → MayCross hops d q to → (y : ℕ) → y < n →
       Avoids hops d (router (q .far)) (q .number) y → Avoids hops d to (q .number) y
   far-avoids to capped may y i a = record { reachable = reach; none = λ u v r. cross u v r (named .only (r .step .joined)) }
@@ -53,11 +54,11 @@ module _ (n : ℕ) (hops : List Arc) (d : ℕ → ℕ → ℕ) (q : Protected) (
           let high : h′ y ≤ d y (q .near) + h′ (q .near) = route-bound hops d (router (q .far)) dist (dist .path y (q .near) (omega arith)) in
           let last : h′ (q .near) ≤ q .out + h′ (q .far) = hop-bound hops d (router (q .far)) dist (named .outward) in
           a .none (q .near) (q .far) (equation-crossing hops d (router (q .far)) dist (named .outward) (omega (arith, e, bound)) (a .reachable))
-      -- from E to S: then going out and back would cost nothing
+      -- from E to S: then some walk leads from S to E and back
       cross u v r (inr k) =
-          let (e₁, f) = crossing-equation hops d to dist r in
-          let eq : d y (q .far) + q .back + towards d to (q .near) ≡ towards d to y = rw (k .0, k .1, k .2) at e₁ in
-          omega (arith, bound, outward, named .back-some)
+          let back : Step hops d to (q .far) (q .near) (q .number) = rw (k .0, k .1) at (r .step) in
+          let g = sound .falls d to in
+          never-twice hops d to n (g .0) (sound .within) (g .1) (hop (may .step) (hop back here))
 
   -- a pair that serves the far router serves every prefix whose traffic may cross the link
   pub far-serves : (to : Target) → Capped to → MayCross hops d q to → (m y : ℕ) → y < n → Serves hops d q (router (q .far)) m y → Serves hops d q to m y

@@ -1,6 +1,6 @@
 -- Laws of walks, over any distances d that are the least costs of paths: how d is computed does not matter here.
 -- Assumes nothing.
-use Prim.Native.Nat.{ℕ, suc, _+_, _≤_, _<_}
+use Prim.Native.Nat.{ℕ, suc, _+_, _*_, _≤_, _<_}
 use mathlib.Core.Path.{_≡_, sym}
 use mathlib.Core.Logic.{_⊎_, inl, inr}
 use mathlib.Core.List.{List, List·Memᴰ}
@@ -14,14 +14,23 @@ use Rattle.lfa.specs.Distance.{unreachable, RouterPath, stay, via, Least
 use Rattle.lfa.specs.Walk.{Step, Delivers, Walk, here, hop, Crosses}
 use Rattle.lfa.specs.Laws.Target.{towards-most, towards-least, towards-over, hop-bound, route-bound}
 
--- every hop costs something
-pub record Positive (hops : List Arc) : Type 0 where
-  pub cost : {x z c l : ℕ} → List·Memᴰ (arc x z c l) hops → 0 < c
+-- Each router has a height (a potential, in the words of graph theory), and no hop climbs as much as twice its cost. So a hop that costs
+-- nothing leads down, and such hops do not lead round in a circle.
+pub record Descends (hops : List Arc) (height : ℕ → ℕ) : Type 0 where
+  pub hop : {x z c l : ℕ} → List·Memᴰ (arc x z c l) hops → height z < 2 * c + height x
+
+-- all routers at one height: then the hops descend exactly where each costs something
+abbrev pub level : ℕ → ℕ
+level x = 0
+
+-- the number that falls at each step of a walk: twice the distance to the target, and the height
+abbrev pub measure : (height : ℕ → ℕ) → (ℕ → ℕ → ℕ) → Target → ℕ → ℕ
+measure height d to x = 2 * towards d to x + height x
 
 module _ {hops : List Arc} {d : ℕ → ℕ → ℕ} {to : Target} where
-  -- a step lowers the distance
-  pub step-lowers : {x z l : ℕ} → Positive hops → Step hops d to x z l → towards d to z < towards d to x
-  step-lowers p s = omega (arith, p .cost (s .joined))
+  -- A step lowers it: the distance falls by the cost of the hop, and the height rises by less than twice that.
+  pub step-lowers : {height : ℕ → ℕ} {x z l : ℕ} → Descends hops height → Step hops d to x z l → measure height d to z < measure height d to x
+  step-lowers g s = omega (arith, g .hop (s .joined), s .tight)
 
   -- the cost of a walk is what the distance falls by
   pub walk-cost : {x u n : ℕ} → Walk hops d to x u n → (k : ℕ) × RouterPath hops x u k × (towards d to x ≡ k + towards d to u)

@@ -42,16 +42,24 @@ flat-cell n f rest i j other hi hj =
 -- ---- the table of distances
 
 -- each stage is a table
-stage-table : (n : ℕ) (hops : List Arc) (k : ℕ) → (f : ℕ → ℕ → ℕ) × (stage n hops k ≡ table n f)
+pub stage-table : (n : ℕ) (hops : List Arc) (k : ℕ) → (f : ℕ → ℕ → ℕ) × (stage n hops k ≡ table n f)
 unfolding stage through
 stage-table n hops zero = (direct hops, refl)
 stage-table n hops (suc k) = (_, refl)
 
--- on the diagonal it holds 0
+-- on the diagonal it holds 0, so that what it holds is what is read from it
 stage-diagonal : (n : ℕ) (hops : List Arc) (k x : ℕ) → x < n → cell unreachable (stage n hops k) x x ≡ 0
 unfolding stage through direct
 stage-diagonal n hops zero x h = cell-in unreachable n (direct hops) x x h h ∙ rw (eq-eqb x x refl, direct)
 stage-diagonal n hops (suc k) x h = cell-in unreachable n _ x x h h ∙ omega (arith, stage-diagonal n hops k x h)
+
+pub stage-read : (n : ℕ) (hops : List Arc) (k x t : ℕ) → x < n → cell unreachable (stage n hops k) x t ≡ distanceIn (stage n hops k) x t
+unfolding distanceIn
+stage-read n hops k x t hx = by (decide (eqb x t))
+  where
+    by : (eqb x t ≡ true) ⊎ (eqb x t ≡ false) → cell unreachable (stage n hops k) x t ≡ distanceIn (stage n hops k) x t
+    by (inl e) = rw (e, distanceIn) (rw (← eqb-true x t e) (stage-diagonal n hops k x hx))
+    by (inr e) = rw (e, distanceIn)
 
 module _ (net : Network) (w : List ℕ) where
   cells-length : length (flat (distances net)) ≡ net .routers * net .routers
@@ -62,8 +70,8 @@ module _ (net : Network) (w : List ℕ) where
 
   -- "the N × N router distances, row by row, row = start"
   pub work-cell : (x t : ℕ) → x < net .routers → t < net .routers → getD (filled net w) (x * net .routers + t) 0 ≡ distanceIn (distances net) x t
-  unfolding filled distances distanceIn
-  work-cell x t hx ht = in-table ∙ by (decide (eqb x t))
+  unfolding filled distances
+  work-cell x t hx ht = in-table ∙ stage-read (net .routers) (arcs net) (net .routers) x t hx
     where
       s : (f : ℕ → ℕ → ℕ) × (stage (net .routers) (arcs net) (net .routers) ≡ table (net .routers) f)
       s = stage-table (net .routers) (arcs net) (net .routers)
@@ -73,10 +81,6 @@ module _ (net : Network) (w : List ℕ) where
           rw (s .1) (
           flat-cell (net .routers) (s .0) (drop (net .routers * net .routers) w) x t 0 hx ht
           ∙ cell-in 0 (net .routers) (s .0) x t hx ht ∙ sym (cell-in unreachable (net .routers) (s .0) x t hx ht))
-
-      by : (eqb x t ≡ true) ⊎ (eqb x t ≡ false) → cell unreachable (distances net) x t ≡ distanceIn (distances net) x t
-      by (inl e) = rw (e, distanceIn) (rw (← eqb-true x t e) (stage-diagonal (net .routers) (arcs net) (net .routers) x hx))
-      by (inr e) = rw (e, distanceIn)
 
   -- "later cells are untouched"
   pub later-cell : (k : ℕ) → net .routers * net .routers ≤ k → getD (filled net w) k 0 ≡ getD w k 0

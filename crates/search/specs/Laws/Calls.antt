@@ -1,6 +1,6 @@
 -- The tests of the public functions, and their answers where the columns hold a network, as a caller knows it.
 -- Assumes nothing.
-use Prim.Native.Nat.{ℕ, _*_, _≤_, _<_}
+use Prim.Native.Nat.{ℕ, _+_, _*_, _≤_, _<_}
 use mathlib.Core.Path.{_≡_, sym, _∙_}
 use mathlib.Core.Bool.{true}
 use mathlib.Core.List.{List}
@@ -13,6 +13,7 @@ use Rattle.lfa.specs.Space.{protected, Space, spaceOf}
 use Rattle.lfa.specs.Repair.{Outcome, linkOutcome, prefixOutcome}
 use Rattle.lfa.specs.Laws.Test.{and-make}
 use Rattle.lfa.specs.Laws.List.{every-make}
+use Rattle.lfa.specs.Laws.Walk.{level}
 use Rattle.lfa.specs.Laws.Network.{LinksSound}
 use Rattle.network_file.specs.declared.network.Network.{Network}
 use Rattle.distance.specs.Columns.{InColumns}
@@ -20,12 +21,12 @@ use Rattle.metric.specs.Fit.{SlotsWithin}
 use Rattle.metric.specs.Laws.Fit.{cells-fit, slots-fit}
 use Rattle.distance.specs.Laws.Columns.{link-held}
 use Rattle.distance.specs.Laws.Calls.{same-filled}
-use Rattle.search.specs.Calls.{linkPriced, linksPriced, answered, prefixHeld, prefixAnswered, heldBy, targetIn, areaBy, spaceBy, linkBy, prefixBy}
+use Rattle.search.specs.Calls.{priced, linkPriced, linksPriced, answered, prefixHeld, prefixAnswered, heldBy, targetIn, areaBy, spaceBy, linkBy, prefixBy}
 
--- the columns hold a network whose links are sound, the area has a cell for each two routers, and an end of a link is named
+-- the columns hold a network whose links are sound and cost something, the area has a cell for each two routers, and an end of a link is named
 pub record Asking (net : lfa.Network) (network : Network) (l e cells : ℕ) : Type 0 where
   pub held : InColumns net (network .routers) (network .links) (network .from) (network .to) (network .out) (network .back)
-  pub sound : LinksSound net
+  pub sound : LinksSound net level
   pub few-links : network .links ≤ 128
   pub long : network .routers * network .routers ≤ cells
   pub link-in : l < network .links
@@ -38,11 +39,13 @@ module _ {net : lfa.Network} {network : Network} {l e cells : ℕ} (a : Asking n
   unfolding linksPriced
   links-priced = and-make _ _ (le-leb (network .links) 128 (a .few-links)) (every-make (linkPriced (network .routers) (network .from) (network .to) (network .out) (network .back)) (network .links) each)
     where
+      cost : (c : ℕ) → 0 < 2 * c + 0 → c ≤ 65535 → priced c ≡ true
+      cost c some most = and-make _ _ (lt-ltb 0 c (omega arith)) (le-leb c 65535 most)
+
       each : (k : ℕ) → k < network .links → linkPriced (network .routers) (network .from) (network .to) (network .out) (network .back) k ≡ true
       each k h =
           let s = link-held (a .sound) (a .held) k h in
-          and-make _ _ (and-make _ _ (lt-ltb _ _ (s .a-in)) (lt-ltb _ _ (s .b-in)))
-          (and-make _ _ (and-make _ _ (lt-ltb 0 _ (s .out-some)) (le-leb _ 65535 (s .out-most))) (and-make _ _ (lt-ltb 0 _ (s .back-some)) (le-leb _ 65535 (s .back-most))))
+          and-make _ _ (and-make _ _ (lt-ltb _ _ (s .a-in)) (lt-ltb _ _ (s .b-in))) (and-make _ _ (cost _ (s .out-falls) (s .out-most)) (cost _ (s .back-falls) (s .back-most)))
 
   few : network .routers ≤ 64
   few = omega (arith, a .sound .few-routers, a .held .routers-are)

@@ -5,8 +5,8 @@ use Prim.Native.Nat.{_-_, _<_}
 use mathlib.Core.Path.{_≡_, sym, ap, _∙_}
 use native.Mathlib.Omega.{arith}
 use borrow.Author.Needs.{needs}
-use Rattle.lfa.specs.Distance.{towards}
 use Rattle.lfa.specs.Route.{go, options, choiceAt, optionTaken, Takes}
+use Rattle.lfa.specs.Laws.Walk.{level, measure}
 use Rattle.distance.specs.Columns.{arcsIn}
 use Rattle.distance.specs.Area.{held}
 use Rattle.column.specs.Column.{slotsIn}
@@ -24,7 +24,7 @@ Inv-loop dist n links from to out back at own first count choices stop start wri
 
 abbrev μ-loop : tie.MeasureT-loop
 μ-loop dist n links from to out back at own first count choices stop start written buffer₀ target x₀ k₀ buffer x k =
-    towards (held n dist) (slotsIn at own first count) x
+    measure level (held n dist) (slotsIn at own first count) x
 
 towards-prefix-requires : tie.Need-towards-prefix-requires Inv-loop μ-loop
 towards-prefix-requires c κs = search needs
@@ -69,14 +69,14 @@ went : (c : tie.After-known-told Inv-loop μ-loop) →
     let d = held (a .n) (a .dist .now) in
     let target = slotsIn (a .at .now) (a .own .now) (a .first) (a .count) in
     Takes (options (a .n) (arcsIn (a .from .now) (a .to .now) (a .out .now) (a .back .now) (a .links)) d target) (a .choices .now) (l .loop .k - 2) (l .loop .x) (go z)
-    × (z < a .n) × (towards d target z < towards d target (l .loop .x))
+    × (z < a .n) × (measure level d target z < measure level d target (l .loop .x))
 unfolding moveIn
 went c =
     let l = c .before .before .before .before .before .before .before in
     let s = l .before .before .before .before .before in
     let net = s .pre .0 in
     let t = moved (c .before .before .before) ∙ ap moveIn (c .before .taken .given .1) in
-    let step = step-nearer (s .args .n) _ (held (s .args .n) (s .args .dist .now)) _ (columns-within _ _ _ _ _ (s .args .n) (net .within)) (net .positive) (l .loop .x) _ t in
+    let step = step-nearer (s .args .n) _ (held (s .args .n) (s .args .dist .now)) _ (columns-within _ _ _ _ _ (s .args .n) (net .within)) (net .descends) (l .loop .x) _ t in
     (t, step .0, step .1)
 
 cast-buffer : tie.Need-cast-buffer Inv-loop μ-loop

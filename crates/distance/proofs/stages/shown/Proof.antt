@@ -1,0 +1,15 @@
+-- Assumes nothing.
+use Rattle.distance.proofs.StageLaws.{finished-small, finished-large}
+use mathlib.Core.Path.{sym}
+use Prim.Native.Nat.{_-_}
+use Rattle.distance.proofs.stages.shown.Statement.{statement}
+use Rattle.distance.proofs.stages.shown.Tie as tie
+
+returns : tie.Need-returns
+returns c = sym (finished-small _ (c .if1 .taken))
+
+returns-2 : tie.Need-returns-2
+returns-2 c = sym (finished-large _ (c .if1 .left))
+
+pub shown-spec : {M : Type 1} → statement M
+shown-spec = tie.close (tie.spec returns returns-2)
