@@ -19,8 +19,8 @@ pub enum Turned {
     Ready,
 }
 
-// What turns a question away, and the network of its file.
-pub struct Posed {
+// What turns a question away, if anything does, and the network of its file.
+pub struct Judged {
     pub turned: Turned,
     pub network: Network,
 }
@@ -47,14 +47,14 @@ fn turned_by(row: Row) -> Turned
 }
 
 // Rows 1 to 13 for a question about a file, as far as its call tries them, and the network that the file holds.
-pub fn pose(file: &[u8], asked: Asked) -> Posed
+pub fn pose(file: &[u8], asked: Asked) -> Judged
     ensures { λ r. ⌜ (turnedAnswer (r .turned) ≡ earlyAnswer (questionAbout (now (file .entry)) asked)) × (r .network ≡ structOf (networkLoaded (now (file .entry)))) ⌝ }
 {
     let loaded = load(file);
     let verdict = loaded.verdict;
     let network = loaded.network;
     if let Verdict::Refused(fault) = verdict {
-        return Posed {
+        return Judged {
             turned: Turned::Refused(Refusal::File(fault)),
             network,
         };
@@ -65,7 +65,7 @@ pub fn pose(file: &[u8], asked: Asked) -> Posed
         network.prefixes,
         asked,
     );
-    Posed {
+    Judged {
         turned: turned_by(row),
         network,
     }

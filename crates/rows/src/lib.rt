@@ -1,5 +1,5 @@
-// Rows 10 to 13 of the table of refusals, for every call. They look at numbers alone: the counts of a file's head and those of the
-// question.
+// Rows 10 to 13 of the table of refusals, for every call that tries one of them. They look at numbers alone: the counts of a file's head
+// and those of the question.
 ghost use Prim.Native.Nat.{_*_, _<_};
 ghost use mathlib.Core.Path.{_≡_};
 ghost use mathlib.Core.Bool.{not, _&&_};
