@@ -5,13 +5,13 @@ use mathlib.Core.Path.{_≡_}
 use mathlib.Core.Logic.{_⊎_}
 use mathlib.Core.Bool.{Bool, true, false, not, _&&_, _||_}
 use mathlib.Core.Option.{Option, none, some}
-use mathlib.Core.List.{List, [], _∷_, map, List·Memᴰ}
+use mathlib.Core.List.{List, [], _∷_, map}
 use lib.Dec.{eqb, ltb}
 use Rattle.lfa.specs.Lists.{below, select, flat}
-use Rattle.lfa.specs.Network.{Arc, arc, Target, router}
+use Rattle.lfa.specs.Network.{Arc, Target, router}
 use Rattle.lfa.specs.Distance.{unreachable, towards}
 use Rattle.lfa.specs.Walk.{Avoids, Crosses, avoids, crosses}
-use Rattle.lfa.specs.Space.{Protected, FirstHop, first, firstHops}
+use Rattle.lfa.specs.Space.{Protected, IsFirstHop, FirstHop, first, firstHops}
 
 -- ---- pairs
 
@@ -21,8 +21,7 @@ pub data Pair : Type 0 where
 
 -- "the first hop n, a neighbour of S, not E; and the endpoint y, a router, neither S nor E"
 pub record IsPair (routers : ℕ) (hops : List Arc) (q : Protected) (n c l y : ℕ) : Type 0 where
-  pub joined : List·Memᴰ (arc (q .near) n c l) hops
-  pub not-far : n ≡ q .far → ⊥
+  pub first-hop : IsFirstHop hops q n c l
   pub end-in : y < routers
   pub end-not-near : y ≡ q .near → ⊥
   pub end-not-far : y ≡ q .far → ⊥

@@ -31,7 +31,12 @@ protected net l e = protectedBy l e (getD (net .links) l (link 0 0 0 0))
 
 -- ---- the first hops: "a neighbour of S, not E"
 
--- a first hop: the neighbour, the cost from S to it, and the link that leads there
+-- router n is a first hop: S reaches it at this cost over this link, and it is not E
+pub record IsFirstHop (hops : List Arc) (q : Protected) (n cost over : ℕ) : Type 0 where
+  pub joined : List·Memᴰ (arc (q .near) n cost over) hops
+  pub not-far : n ≡ q .far → ⊥
+
+-- the first hops as a list: the neighbour, the cost from S to it, and the link that leads there
 pub data FirstHop : Type 0 where
   first : (router cost over : ℕ) → FirstHop
 
@@ -59,8 +64,7 @@ pub record NeighbourAvoids (hops : List Arc) (d : ℕ → ℕ → ℕ) (q : Prot
   pub neighbour : ℕ
   pub cost : ℕ
   pub over : ℕ
-  pub joined : List·Memᴰ (arc (q .near) neighbour cost over) hops
-  pub not-far : neighbour ≡ q .far → ⊥
+  pub first-hop : IsFirstHop hops q neighbour cost over
   pub avoids-to : Avoids hops d (router r) (q .number) neighbour
 
 -- the members of each space, by walks. P: "routers that S avoids to". Extended P: "routers that some neighbour of S other than E

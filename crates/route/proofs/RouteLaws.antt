@@ -164,7 +164,7 @@ module _ {b : Bytes} {network : Network} (t : Taken b network) (area buffer l e 
 
     pub hop-below : m < networkOf b .routers
     unfolding askPrefix networkAsked
-    hop-below = accepted-sound b (t .is-accepted) .within .to (first .candidate .joined)
+    hop-below = accepted-sound b (t .is-accepted) .within .to (first .candidate .first-hop .joined)
 
     pub endpoint-below : y < networkOf b .routers
     unfolding askPrefix networkAsked

@@ -68,7 +68,7 @@ module _ (n : ℕ) (hops : List Arc) (q : Protected) (area : List ℕ) (known : 
   extended-space s = s ∙ setOf-same n _ _ λ r k. any-same (λ f. clearsTo d q (hopRouter f) r) (λ f. avoids n hops d (router r) (q .number) (hopRouter f)) (firstHops q hops) (by r)
     where
       by : (r : ℕ) (f : FirstHop) → List·Memᴰ f (firstHops q hops) → clearsTo d q (hopRouter f) r ≡ avoids n hops d (router r) (q .number) (hopRouter f)
-      by r (first m c l) j = clearsTo-avoids n hops q area known m r (known .sound .within .to (firsts-give q hops m c l j .0))
+      by r (first m c l) j = clearsTo-avoids n hops q area known m r (known .sound .within .to (firsts-give q hops m c l j .joined))
 
   -- ---- crossing
 
@@ -119,7 +119,7 @@ module _ (n : ℕ) (hops : List Arc) (q : Protected) (area : List ℕ) (known : 
 
     module _ (m c o : ℕ) (j : List·Memᴰ (first m c o) (firstHops q hops)) where
       joined : List·Memᴰ (arc (q .near) m c o) hops
-      joined = firsts-give q hops m c o j .0
+      joined = firsts-give q hops m c o j .joined
 
       in-extended : (y : ℕ) → y < n → has (spaceOf extendedP n hops d q) y ≡ inSpace extendedP n hops d q y
       unfolding spaceOf

@@ -81,7 +81,7 @@ the-demand-3 q p = record {
   link-repaired = link;
   link-has-this = λ c n y class cost r.
       let f = link c .is-repair n y class cost r in
-      (f .has-this, also-for-prefix q p (link-has-link q p c) (sound q p .within .to (f .candidate .joined)) (f .candidate .end-in) (f .has-this));
+      (f .has-this, also-for-prefix q p (link-has-link q p c) (sound q p .within .to (f .candidate .first-hop .joined)) (f .candidate .end-in) (f .has-this));
 }
   where
     link : q .call ≡ linkRepair → Repaired q (router (linkAsked q .far)) (answerTo q)

@@ -72,7 +72,7 @@ module _ (q : Question) (p : Posed q) (l : HasInput q aLink) (to : Target) where
     hop-cost = f .hop;
     over = f .over;
     candidate = f .is-pair;
-    has-this = has-this q p l to n y (sound q p .within .to (f .is-pair .joined)) (f .is-pair .end-in) (f .serves);
+    has-this = has-this q p l to n y (sound q p .within .to (f .is-pair .first-hop .joined)) (f .is-pair .end-in) (f .serves);
     first = λ n′ c′ l′ y′ k′ is h k. rw (class-once (f .hop) (f .over) (f .class-is), f .cost-is, class-once c′ l′ k) (f .first n′ c′ l′ y′ is (serves-it q p l to n′ y′ h));
     class-is = f .class-is;
     cost-is = f .cost-is;

@@ -10,7 +10,7 @@ use lib.Dec.{eqb}
 use borrow.Author.Tests.{eqb-true, eq-eqb, eqb-false, ne-eqb, not-true}
 use Rattle.lfa.specs.Lists.{below, select}
 use Rattle.lfa.specs.Network.{Arc, arc, Target, router}
-use Rattle.lfa.specs.Space.{Protected, FirstHop, first, isFirst, firstOver, firstHops}
+use Rattle.lfa.specs.Space.{IsFirstHop, Protected, FirstHop, first, isFirst, firstOver, firstHops}
 use Rattle.lfa.specs.Repair.{First, Pair, pair, IsPair, isEndpoint, withEndpoint, pairsOf, pairs, Serves, serves, keysOf, pairKey, choose, firstPair}
 use Rattle.lfa.specs.Laws.Test.{and-left, and-right, and-make}
 use Rattle.lfa.specs.Laws.List.{mem-below, below-mem, select-gives, select-make, map-gives, map-make, flat-gives, flat-make}
@@ -25,24 +25,24 @@ unfolding isFirst
 first-facts q x z c l e = search (eqb-true, not-true, and-left, and-right)
 
 -- the first hops are the neighbours of S other than E, each with the link that leads there and its cost
-pub firsts-give : (q : Protected) (hops : List Arc) (n c l : ℕ) → List·Memᴰ (first n c l) (firstHops q hops) → List·Memᴰ (arc (q .near) n c l) hops × (n ≡ q .far → ⊥)
+pub firsts-give : (q : Protected) (hops : List Arc) (n c l : ℕ) → List·Memᴰ (first n c l) (firstHops q hops) → IsFirstHop hops q n c l
 unfolding firstHops firstOver
 firsts-give q hops n c l m =
     let r = map-gives firstOver (select (isFirst q) hops) m in
     let s = select-gives (isFirst q) hops (r .1) in
     go (r .0) (s .0) (s .1) (r .2)
   where
-    go : (a : Arc) → List·Memᴰ a hops → isFirst q a ≡ true → first n c l ≡ firstOver a → List·Memᴰ (arc (q .near) n c l) hops × (n ≡ q .far → ⊥)
+    go : (a : Arc) → List·Memᴰ a hops → isFirst q a ≡ true → first n c l ≡ firstOver a → IsFirstHop hops q n c l
     go (arc x z b k) j t e =
         let f = first-facts q x z b k t in
         let x-is : x ≡ q .near = f .0 in
         let same : first n c l ≡ first z b k = e in
         let n-is : n ≡ z = cc in
-        (Memᴰ·cast (cc) j, λ h. eqb-false z (q .far) (f .1) (sym n-is ∙ h))
+        record { joined = Memᴰ·cast (cc) j; not-far = λ h. eqb-false z (q .far) (f .1) (sym n-is ∙ h) }
 
-pub firsts-make : (q : Protected) (hops : List Arc) (n c l : ℕ) → List·Memᴰ (arc (q .near) n c l) hops → (n ≡ q .far → ⊥) → List·Memᴰ (first n c l) (firstHops q hops)
+pub firsts-make : (q : Protected) (hops : List Arc) (n c l : ℕ) → IsFirstHop hops q n c l → List·Memᴰ (first n c l) (firstHops q hops)
 unfolding firstHops firstOver isFirst
-firsts-make q hops n c l j h = map-make firstOver (select-make (isFirst q) j (rw (eq-eqb (q .near) (q .near) refl, ne-eqb n (q .far) h, isFirst)))
+firsts-make q hops n c l f = map-make firstOver (select-make (isFirst q) (f .joined) (rw (eq-eqb (q .near) (q .near) refl, ne-eqb n (q .far) (f .not-far), isFirst)))
 
 -- ---- pairs
 
@@ -57,10 +57,8 @@ pairs-give q n hops m c l y k = let r = flat-gives (pairsOf q n) (firstHops q ho
         let s = select-gives (isEndpoint q) (below n) (g .1) in
         let ey : y ≡ g .0 = cc in
         let t : isEndpoint q y ≡ true = rw ey (s .1) in
-        let f = firsts-give q hops m c l (Memᴰ·cast (cc) j) in
         record {
-          joined = f .0;
-          not-far = f .1;
+          first-hop = firsts-give q hops m c l (Memᴰ·cast (cc) j);
           end-in = below-mem n y (Memᴰ·cast ey (s .0));
           end-not-near = eqb-false y (q .near) (search (not-true, and-left));
           end-not-far = eqb-false y (q .far) (search (not-true, and-right));
@@ -69,7 +67,7 @@ pairs-give q n hops m c l y k = let r = flat-gives (pairsOf q n) (firstHops q ho
 pub pairs-make : (q : Protected) (n : ℕ) (hops : List Arc) (m c l y : ℕ) → IsPair n hops q m c l y → List·Memᴰ (pair m c l y) (pairs q n hops)
 unfolding pairs pairsOf withEndpoint isEndpoint
 pairs-make q n hops m c l y p =
-    flat-make (pairsOf q n) (firsts-make q hops m c l (p .joined) (p .not-far))
+    flat-make (pairsOf q n) (firsts-make q hops m c l (p .first-hop))
     (map-make (withEndpoint (first m c l)) (select-make (isEndpoint q) (mem-below n y (p .end-in)) t))
   where
     t : isEndpoint q y ≡ true
@@ -119,6 +117,6 @@ module _ (n : ℕ) (hops : List Arc) (d : ℕ → ℕ → ℕ) (q : Protected) (
           let g = select-gives (serves n hops d q to) (pairs q n hops) (f .0) in
           let p = pairs-give q n hops m c l y (g .0) in (
             p,
-            serves-gives m c l y (sound .within .to (p .joined)) (p .end-in) (g .1),
+            serves-gives m c l y (sound .within .to (p .first-hop .joined)) (p .end-in) (g .1),
             λ m′ c′ l′ y′ p′ s. key-first (keysOf d q to (pair m c l y)) (keysOf d q to (pair m′ c′ l′ y′)) (f .1 (pair m′ c′ l′ y′) (listed m′ c′ l′ y′ p′ s)),
           )

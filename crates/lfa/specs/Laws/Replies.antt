@@ -159,7 +159,7 @@ module _ (q : Question) (p : Posed q) (c : q .call ≡ route) where
     unfolding computed routeAnswer hasInput inputsOf inputNumber memberOf anyOf
     played-named =
         let f = searched-first in
-        let hop-in = sound q p .within .to (f .is-pair .joined) in
+        let hop-in = sound q p .within .to (f .is-pair .first-hop .joined) in
         let named =
         route-named (N q) (Hops q) (D q) (prefixAsked q) (q .choices) (linkAsked q .near) n y (sound q p) (least-costs q p)
         hop-in (f .is-pair .end-in) (f .serves .tunnel .reachable) (f .serves .onward .reachable) in

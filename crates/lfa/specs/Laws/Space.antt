@@ -30,7 +30,7 @@ module _ (n : ℕ) (hops : List Arc) (d : ℕ → ℕ → ℕ) (q : Protected) (
       by : (f : FirstHop) → List·Memᴰ f (firstHops q hops) → avoids n hops d (router r) (q .number) (hopRouter f) ≡ true → NeighbourAvoids hops d q r
       by (first m c l) k t =
           let g = firsts-give q hops m c l k in
-          record { neighbour = m; cost = c; over = l; joined = g .0; not-far = g .1; avoids-to = decided r m (sound .within .to (g .0)) (unfold hopRouter in t) }
+          record { neighbour = m; cost = c; over = l; first-hop = g; avoids-to = decided r m (sound .within .to (g .joined)) (unfold hopRouter in t) }
   in-gives qSpace r h e = decided (q .far) r h e
 
   in-make : (s : Space) (r : ℕ) → Member s hops d q r → inSpace s n hops d q r ≡ true
@@ -38,7 +38,7 @@ module _ (n : ℕ) (hops : List Arc) (d : ℕ → ℕ → ℕ) (q : Protected) (
   in-make pSpace r m = avoids-make n hops d (router r) (q .number) (q .near) m
   in-make extendedP r m =
       any-make (λ f. avoids n hops d (router r) (q .number) (hopRouter f))
-      (firsts-make q hops (m .neighbour) (m .cost) (m .over) (m .joined) (m .not-far)) (avoids-make n hops d (router r) (q .number) (m .neighbour) (m .avoids-to))
+      (firsts-make q hops (m .neighbour) (m .cost) (m .over) (m .first-hop)) (avoids-make n hops d (router r) (q .number) (m .neighbour) (m .avoids-to))
   in-make qSpace r m = avoids-make n hops d (router (q .far)) (q .number) r m
 
   -- Bit r of a space is one exactly when r is a router and a member: the set is built from the test, and the test decides walks.
