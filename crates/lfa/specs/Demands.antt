@@ -140,7 +140,7 @@ pub record Demand2 (q : Question) : Type 0 where
   pub untouched-when : HasInput q aPrefix →
       (answerTo q ≡ untouched) ↔ ((towards (D q) (prefixAsked q) (linkAsked q .near) < unreachable) × (MayCross (Hops q) (D q) (linkAsked q) (prefixAsked q) → ⊥))
   pub write-nothing : HasInput q (lent routeBuffer) → (answerTo q ≡ unreached) ⊎ (answerTo q ≡ untouched) → (buffer : List ℕ) → exitOf q routeBuffer buffer ≡ buffer
-  -- the pair of the prefix repair is played, and where it has none the route has none
+  -- the options at a router; a route has a pair just where the prefix repair has one, and this pair is played
   pub options-are : (to : Target) (x : ℕ) → AreOptions (Hops q) (D q) to x (options (N q) (Hops q) (D q) to x)
   pub route-14 : q .call ≡ route → (answerTo q ≡ refused 14 0) ↔ (answerTo (toPrefixRepair q) ≡ refused 14 0)
   pub route-named : q .call ≡ route → (n y class cost : ℕ) → answerTo (toPrefixRepair q) ≡ repair n y class cost → RouteNamed q n y
