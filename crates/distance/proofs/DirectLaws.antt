@@ -1,5 +1,4 @@
--- The cells before any router may be passed through: arc by arc they come to hold the costs of the cheapest arcs, and with self-loops
--- these are the least costs of at most one hop.
+-- The cells before elimination: arc by arc they come to hold the costs of the cheapest arcs.
 -- Assumes nothing.
 use Prim.Native.Nat.{ℕ, _+_, _*_, _≤_, _<_, min}
 use mathlib.Core.Path.{_≡_, refl, sym, ap, _∙_}
@@ -7,25 +6,21 @@ use mathlib.Core.Bool.{Bool, true, false, _&&_}
 use mathlib.Core.Logic.{_⊎_, inl, inr}
 use mathlib.Core.List.{List, [], _∷_, _++_, map, map-append, append-assoc, append-nil, List·Memᴰ, List·Memᴰ·append-cases, List·Memᴰ·not-nil, List·Memᴰ·head, List·Memᴰ·tail}
 use native.Mathlib.Omega.{arith}
-use native.Mathlib.Decide.{decLt}
 use lib.Arith.{digits-lt}
 use lib.Dec.{eqb}
 use lib.ListN.{length, getD, set, length-set}
 use lib.Seq.{getD-set-same, getD-set-other}
-use borrow.Author.Tests.{eq-eqb, eqb-true, eqb-false}
+use borrow.Author.Tests.{eq-eqb, eqb-true}
 use Rattle.lfa.specs.Lists.{below, countUp}
 use Rattle.lfa.specs.Network.{Arc, arc, arcsFrom}
-use Rattle.lfa.specs.Distance.{unreachable, least, hopCost, direct, stage}
+use Rattle.lfa.specs.Distance.{unreachable, least, hopCost}
 use Rattle.lfa.specs.Laws.Test.{and-left, and-right, and-make}
-use Rattle.lfa.specs.Laws.List.{mem-below, map-make}
-use Rattle.lfa.specs.Laws.Counting.{map-below-gives}
-use Rattle.lfa.specs.Laws.Distance.{least-most, hop-least, hop-found}
-use Rattle.lfa.specs.Laws.Table.{cell-in}
+use Rattle.lfa.specs.Laws.Distance.{least-most}
 use Rattle.distance.specs.RightTable.{areaCell}
 use Rattle.distance.specs.Columns.{linksIn, arcsIn}
 use Rattle.distance.specs.Laws.List.{map-below-more}
 use Rattle.distance.specs.Laws.Columns.{arcsIn-more}
-use Rattle.distance.specs.Cells.{limit, Cells, Limited, Stored, cheapest, selfLoops, Lowered, CostsCapped, stageCapped}
+use Rattle.distance.specs.Cells.{limit, Cells, Limited, Stored, cheapest, selfLoops, Lowered, CostsCapped}
 use Rattle.distance.proofs.StoreLaws.{square-few, one-place}
 
 -- ---- one arc more
@@ -113,31 +108,3 @@ linked-more from to out back k {n} {a} {b} {c} {d} ea eb ec ed first second (cap
     go (inl m) = capped .cost m
     go {e} (inr (List·Memᴰ·head p)) = let s : e ≡ c = cc in omega (arith, ec .1)
     go {e} (inr (List·Memᴰ·tail (List·Memᴰ·head p))) = let s : e ≡ d = cc in omega (arith, ed .1)
-
--- ---- stage 0
-
-loop-here : (n i : ℕ) → i < n → least (map (hopCost i i) (selfLoops n)) ≤ 0
-unfolding selfLoops
-loop-here n i h = hop-least i i (map-make (λ r. arc r r 0 0) (mem-below n i h))
-
-loop-away : (n i j : ℕ) → (i ≡ j → ⊥) → unreachable ≤ least (map (hopCost i j) (selfLoops n))
-unfolding selfLoops
-loop-away n i j apart = go (decLt (least (map (hopCost i j) (selfLoops n))) unreachable)
-  where
-    go : Dec (least (map (hopCost i j) (selfLoops n)) < unreachable) → unreachable ≤ least (map (hopCost i j) (selfLoops n))
-    go (yes f) =
-        let r = hop-found i j (selfLoops n) f in
-        let s = map-below-gives (λ r. arc r r 0 0) n (r .2) in
-        let e : i ≡ j = cc (s .2) in
-        absurd (apart e)
-    go (no f) = omega arith
-
--- Stage 0 holds the least costs of at most one hop: from a router to itself the self-loop is the cheapest arc, and from one router to
--- another none leads.
-pub cheapest-direct : (n : ℕ) (hops : List Arc) (i j : ℕ) → i < n → j < n → cheapest (selfLoops n ++ hops) i j ≡ stageCapped n hops 0 i j
-unfolding cheapest stageCapped stage direct
-cheapest-direct n hops i j hi hj = ap (min limit) (costs-append i j (selfLoops n) hops ∙ go (eqb i j) refl ∙ sym (cell-in unreachable n (direct hops) i j hi hj))
-  where
-    go : (t : Bool) → eqb i j ≡ t → min (least (map (hopCost i j) (selfLoops n))) (least (map (hopCost i j) hops)) ≡ elim t as (λ _. ℕ) [ true ↦ 0 | false ↦ least (map (hopCost i j) hops) ]
-    go true e = rw (← eqb-true i j e) (omega (arith, loop-here n i hi))
-    go false e = omega (arith, loop-away n i j (eqb-false i j e), least-most (map (hopCost i j) hops))

@@ -1,7 +1,8 @@
 pub mod StoreLaws
 pub mod DirectLaws
 pub mod RowLaws
+pub mod EliminationLaws
 pub mod BoundLaws
-pub mod StageLaws
+pub mod CloseLaws
 pub mod AreaLaws
 pub mod TableLaws

@@ -3,12 +3,12 @@
 // It takes any numbers. Where they are not those of a network, the area stays as it was.
 use metric::fit::cells_fit;
 use metric::fit::links_fit;
-use stages::fill_cells;
+use rows::fill_cells;
 ghost use mathlib.Core.Path.{_≡_};
 ghost use Rattle.distance.specs.Calls.{areaFilled};
 
 mod direct;
-mod stages;
+mod rows;
 
 // Fills the first routers * routers cells with the distances, row by row, row = start.
 pub fn fill<'a>(

@@ -3,6 +3,7 @@
 use Prim.Native.Nat.{ℕ, suc, _*_, _≤_}
 use mathlib.Core.Path.{_≡_}
 use mathlib.Core.List.{List, [], _∷_}
+use lib.ListN.{length}
 use Rattle.lfa.specs.Route.{Move, deliver, go, Takes}
 use Rattle.lfa.specs.Laws.Walk.{Descends, level}
 use Rattle.metric.specs.Fit.{ColumnsWithin, SlotsWithin}

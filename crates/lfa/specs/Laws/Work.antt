@@ -53,7 +53,7 @@ unfolding stage through direct
 stage-diagonal n hops zero x h = cell-in unreachable n (direct hops) x x h h ∙ rw (eq-eqb x x refl, direct)
 stage-diagonal n hops (suc k) x h = cell-in unreachable n _ x x h h ∙ omega (arith, stage-diagonal n hops k x h)
 
-pub stage-read : (n : ℕ) (hops : List Arc) (k x t : ℕ) → x < n → cell unreachable (stage n hops k) x t ≡ distanceIn (stage n hops k) x t
+stage-read : (n : ℕ) (hops : List Arc) (k x t : ℕ) → x < n → cell unreachable (stage n hops k) x t ≡ distanceIn (stage n hops k) x t
 unfolding distanceIn
 stage-read n hops k x t hx = by (decide (eqb x t))
   where

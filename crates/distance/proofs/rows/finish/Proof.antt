@@ -7,8 +7,8 @@ use Prim.Native.Nat.{_-_, _≤_}
 use native.Mathlib.Omega.{arith}
 use lib.ListN.{length, getD}
 use borrow.Author.Needs.{needs}
-use Rattle.distance.proofs.stages.finish.Statement.{statement}
-use Rattle.distance.proofs.stages.finish.Tie as tie
+use Rattle.distance.proofs.rows.finish.Statement.{statement}
+use Rattle.distance.proofs.rows.finish.Tie as tie
 
 abbrev Inv-loop : tie.InvT-loop
 Inv-loop cells₀ i₀ cells i = (i ≤ length cells₀) × Stored i (λ j. finished (getD cells₀ j 0)) cells₀ cells

@@ -5,28 +5,18 @@ use Rattle.distance.proofs.RowLaws.{row-more, row-far}
 use mathlib.Core.Path.{_≡_}
 use Prim.Native.Nat.{_+_, _-_, _≤_, _<_}
 use native.Mathlib.Omega.{arith}
-use lib.ListN.{getD}
 use borrow.Author.Needs.{needs}
-use Rattle.distance.proofs.stages.lower_row.Statement.{statement}
-use Rattle.distance.proofs.stages.lower_row.Tie as tie
+use Rattle.distance.proofs.rows.lower_row.Statement.{statement}
+use Rattle.distance.proofs.rows.lower_row.Tie as tie
 
 abbrev Inv-loop : tie.InvT-loop
-Inv-loop n k at by cells₀ d j₀ cells j = (j ≤ n) × (d < limit) × (d ≡ getD cells₀ (at + k) 0) × RowLowered n k at j by cells₀ cells
+Inv-loop n d at by cells₀ j₀ cells j = (j ≤ n) × (d < limit) × RowLowered d at j by cells₀ cells
 
 abbrev μ-loop : tie.MeasureT-loop
-μ-loop n k at by cells₀ d j₀ cells j = n - j
-
-add-d : tie.Need-add-d Inv-loop μ-loop
-add-d c = search needs
-
-mul-d : tie.Need-mul-d Inv-loop μ-loop
-mul-d c = search needs
-
-slice-read-d : tie.Need-slice-read-d Inv-loop μ-loop
-slice-read-d c = search needs
+μ-loop n d at by cells₀ j₀ cells j = n - j
 
 returns : tie.Need-returns Inv-loop μ-loop
-returns c = row-far (c .before .before .before .pre) (c .if1 .taken)
+returns c = row-far (c .before .before .pre) (c .if1 .taken)
 
 loop-holds : tie.Need-loop-holds Inv-loop μ-loop
 loop-holds c = search needs
@@ -40,7 +30,7 @@ element-copy-out-least c = search needs
 add-least : tie.Need-add-least Inv-loop μ-loop
 add-least c =
     let at-loop = c .before .before in
-    omega (arith, at-loop .before .before .before .before .pre .small-by (at-loop .loop .j) (omega arith))
+    omega (arith, at-loop .before .before .before .pre .small-by (at-loop .loop .j) (omega arith))
 
 add-least-2 : tie.Need-add-least-2 Inv-loop μ-loop
 add-least-2 c = search needs
@@ -54,9 +44,9 @@ slice-read-least c = search needs
 least-requires : tie.Need-least-requires Inv-loop μ-loop
 least-requires c κs =
     let at-loop = c .before .before .before in
-    let ready = at-loop .before .before .before .before .pre in
+    let start = at-loop .before .before .before in
     let j = at-loop .loop .j in
-    omega (arith, ready .small-by j (omega arith), ready .small j (omega arith), at-loop .loop .inv .3 .rest (at-loop .before .before .before .before .args .at + j) (λ i h p. omega arith))
+    omega (arith, start .pre .small-by j (omega arith), start .pre .small j (omega arith), at-loop .loop .inv .2 .rest (start .args .at + j) (λ i h p. omega arith))
 
 add-cells : tie.Need-add-cells Inv-loop μ-loop
 add-cells c = search needs
@@ -76,18 +66,17 @@ loop-less c = search needs
 loop-again : tie.Need-loop-again Inv-loop μ-loop
 loop-again c =
     let at-loop = c .before .before .before .before in
-    let start = at-loop .before .before .before .before in
-    let j = at-loop .loop .j in
-    let same = at-loop .loop .inv .3 .rest (start .args .at + j) (λ i h p. omega arith) in
-    (omega arith, at-loop .loop .inv .1, at-loop .loop .inv .2, row-more (omega (arith, start .pre .inside)) (at-loop .loop .inv .3) (omega (arith, c .least .ensures)))
+    let start = at-loop .before .before .before in
+    let same = at-loop .loop .inv .2 .rest (start .args .at + at-loop .loop .j) (λ i h p. omega arith) in
+    (omega arith, at-loop .loop .inv .1, row-more (omega (arith, start .pre .inside)) (at-loop .loop .inv .2) (omega (arith, c .least .ensures)))
 
 same-length : tie.Need-same-length Inv-loop μ-loop
 same-length c = search needs
 
 returns-2 : tie.Need-returns-2 Inv-loop μ-loop
 returns-2 c =
-    let e : c .before .loop .j ≡ c .before .before .before .before .before .args .n = omega arith in
-    rw e at (c .before .loop .inv .3)
+    let e : c .before .loop .j ≡ c .before .before .before .before .args .n = omega arith in
+    rw e at (c .before .loop .inv .2)
 
 pub lower-row-spec : {M : Type 1} → statement M
 lower-row-spec =
@@ -95,9 +84,6 @@ lower-row-spec =
     (tie.spec
     Inv-loop
     μ-loop
-    add-d
-    mul-d
-    slice-read-d
     returns
     loop-holds
     mul-least

@@ -1,9 +1,9 @@
 -- Assumes nothing.
-use Rattle.distance.proofs.StageLaws.{finished-small, finished-large}
+use Rattle.distance.proofs.CloseLaws.{finished-small, finished-large}
 use mathlib.Core.Path.{sym}
 use Prim.Native.Nat.{_-_}
-use Rattle.distance.proofs.stages.shown.Statement.{statement}
-use Rattle.distance.proofs.stages.shown.Tie as tie
+use Rattle.distance.proofs.rows.shown.Statement.{statement}
+use Rattle.distance.proofs.rows.shown.Tie as tie
 
 returns : tie.Need-returns
 returns c = sym (finished-small _ (c .if1 .taken))
