@@ -92,7 +92,7 @@ early-leaves noSuchLink m = leaves-all
 early-leaves noSuchPrefix m = leaves-all
 early-leaves noPair m = absurd (not-one m)
   where
-    not-one : List·Memᴰ noPair (shortArea ∷ shortBuffer ∷ noSuchLink ∷ noSuchPrefix ∷ []) → ⊥
+    not-one : List·Memᴰ noPair earlyRows → ⊥
     not-one (List·Memᴰ·head e) = let z : _≡_ {A = ℕ} 0 1 = cc in omega arith
     not-one (List·Memᴰ·tail (List·Memᴰ·head e)) = let z : _≡_ {A = ℕ} 0 1 = cc in omega arith
     not-one (List·Memᴰ·tail (List·Memᴰ·tail (List·Memᴰ·head e))) = let z : _≡_ {A = ℕ} 0 1 = cc in omega arith
