@@ -3,6 +3,7 @@
 use Prim.Native.Nat.{ℕ, _+_, _*_, _%_, _^_, _≤_, _<_}
 use mathlib.Core.Path.{_≡_, sym, ap, _∙_}
 use mathlib.Core.Bool.{Bool, true, false, _&&_}
+use mathlib.Core.List.{List}
 use native.Mathlib.Numerals.{add-one}
 use native.Mathlib.Omega.{arith}
 use lib.Dec.{ltb}
@@ -12,7 +13,10 @@ use borrow.Author.Tests.{lt-ltb, le-ltb}
 use Rattle.lfa.specs.Lists.{one}
 use Rattle.lfa.specs.Space.{Protected, setOf}
 use Rattle.lfa.specs.Laws.Set.{setOf-lt}
+use Rattle.metric.specs.Area.{held, cellIn}
+use Rattle.metric.specs.Laws.Area.{cell-known}
 use Rattle.avoid.specs.Avoiding.{belowBoth, clears, clearsTo}
+use Rattle.avoid.specs.Calls.{Readable}
 
 -- ---- two tests, the second tried where the first passes
 
@@ -24,16 +28,22 @@ first-fails {own} {r₁} s₂ h e₁ = rw (← e₁, le-ltb own r₁ h)
 
 -- ---- the test by distances
 
--- the test of the cells that were read is the test of the distances
-pub cells-clear : {own near far s e : ℕ} {b : Bool} (d : ℕ → ℕ → ℕ) (q : Protected) (h : ℕ → ℕ) (x : ℕ) →
-    own ≡ h x → near ≡ d x (q .near) → far ≡ d x (q .far) → s ≡ h (q .near) → e ≡ h (q .far) → b ≡ belowBoth own near far (q .out) (q .back) s e → b ≡ clears d q h x
-unfolding clears
-cells-clear d q h x o n g s e r = rw (← o, ← n, ← g, ← s, ← e) r
+-- the cell of two routers that was read
+pub known : {n v : ℕ} {q : Protected} {area : List ℕ} → Readable n q area → (x t : ℕ) → x < n → t < n → v ≡ cellIn n area x t → v ≡ held n area x t
+known {n} {area} r x t hx ht = cell-known n area x t hx ht (r .few) (r .long)
 
-pub cells-clear-to : {own near far s e : ℕ} {b : Bool} (d : ℕ → ℕ → ℕ) (q : Protected) (x r : ℕ) →
-    own ≡ d x r → near ≡ d x (q .near) → far ≡ d x (q .far) → s ≡ d (q .near) r → e ≡ d (q .far) r → b ≡ belowBoth own near far (q .out) (q .back) s e → b ≡ clearsTo d q x r
+-- the test of the cells that were read is the test of the distances
+pub cells-clear : {own near far s e : ℕ} {b : Bool} (left : ℕ → ℕ) (sums : ℕ → ℕ → ℕ) (q : Protected) (target : ℕ → ℕ) (x : ℕ) →
+    own ≡ left x → near ≡ sums x (q .near) → far ≡ sums x (q .far) → s ≡ target (q .near) → e ≡ target (q .far) →
+    b ≡ belowBoth own near far (q .out) (q .back) s e → b ≡ clears left sums q target x
+unfolding clears
+cells-clear left sums q target x o n g s e r = rw (← o, ← n, ← g, ← s, ← e) r
+
+pub cells-clear-to : {own near far s e : ℕ} {b : Bool} (left sums : ℕ → ℕ → ℕ) (q : Protected) (x r : ℕ) →
+    own ≡ left x r → near ≡ sums x (q .near) → far ≡ sums x (q .far) → s ≡ sums (q .near) r → e ≡ sums (q .far) r →
+    b ≡ belowBoth own near far (q .out) (q .back) s e → b ≡ clearsTo left sums q x r
 unfolding clearsTo
-cells-clear-to d q x r = cells-clear d q (λ z. d z r) x
+cells-clear-to left sums q x r = cells-clear (λ z. left z r) sums q (λ z. sums z r) x
 
 -- ---- sets of routers
 

@@ -1,24 +1,26 @@
--- The test by distances, which the code computes, of whether a router avoids the protected link.
+-- The test by distances, which the code computes, of whether a router avoids the protected link. The distances on its left side and those
+-- in its sums are given apart.
 -- Assumes nothing.
 use Prim.Native.Nat.{ℕ, _+_, min}
 use mathlib.Core.Bool.{Bool, _&&_}
 use lib.Dec.{ltb}
 use Rattle.lfa.specs.Distance.{unreachable}
 use Rattle.lfa.specs.Space.{Protected}
-use Rattle.avoid.specs.declared.Link.{Link}
+use Rattle.avoid.specs.declared.Protected as declared
 
 -- the protected link that a value names
-abbrev pub asked : Link → Protected
+abbrev pub asked : declared.Protected → Protected
 asked p = record { number = p .number; near = p .near; far = p .far; out = p .out; back = p .back }
 
--- a distance is below the costs over the link in both directions: `near` and `far` lead to S and E, `toNear` and `toFar` from there
-abbrev pub belowBoth : (own near far out back toNear toFar : ℕ) → Bool
-belowBoth own near far out back toNear toFar = ltb own (min (near + out + toFar) unreachable) && ltb own (min (far + back + toNear) unreachable)
+-- a distance is below the costs over the link in both directions: `near` and `far` lead to S and E, `fromNear` and `fromFar` from there
+abbrev pub belowBoth : (own near far out back fromNear fromFar : ℕ) → Bool
+belowBoth own near far out back fromNear fromFar = ltb own (min (near + out + fromFar) unreachable) && ltb own (min (far + back + fromNear) unreachable)
 
--- router x avoids the link on the way to a target, by the distances: h gives those to the target
-unfoldable pub clears : (ℕ → ℕ → ℕ) → Protected → (h : ℕ → ℕ) → ℕ → Bool
-clears d q h x = belowBoth (h x) (d x (q .near)) (d x (q .far)) (q .out) (q .back) (h (q .near)) (h (q .far))
+-- router x avoids the link on the way to a target, by the distances: `left` gives those to the target on the left side, `target` those
+-- to it in the sums, and `sums` those to S and E
+unfoldable pub clears : (left : ℕ → ℕ) → (sums : ℕ → ℕ → ℕ) → Protected → (target : ℕ → ℕ) → ℕ → Bool
+clears left sums q target x = belowBoth (left x) (sums x (q .near)) (sums x (q .far)) (q .out) (q .back) (target (q .near)) (target (q .far))
 
--- router x avoids the link on the way to router r, by the distances
-unfoldable pub clearsTo : (ℕ → ℕ → ℕ) → Protected → (x r : ℕ) → Bool
-clearsTo d q x r = clears d q (λ z. d z r) x
+-- router x avoids the link on the way to router r, by the distances on the left side and in the sums
+unfoldable pub clearsTo : (left sums : ℕ → ℕ → ℕ) → Protected → (x r : ℕ) → Bool
+clearsTo left sums q x r = clears (λ z. left z r) sums q (λ z. sums z r) x

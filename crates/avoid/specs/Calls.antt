@@ -7,7 +7,7 @@ use lib.Dec.{ltb}
 use lib.ListN.{length}
 use Rattle.lfa.specs.Space.{Protected, setOf}
 use Rattle.metric.specs.Fit.{cellsFit}
-use Rattle.distance.specs.Area.{held}
+use Rattle.metric.specs.Area.{held}
 use Rattle.avoid.specs.Avoiding.{clears, clearsTo}
 
 -- the area has a cell for each two of at most 64 routers, and the ends of the protected link are routers
@@ -21,10 +21,11 @@ pub record Readable (n : ℕ) (q : Protected) (area : List ℕ) : Type 0 where
 unfoldable pub readable : (n : ℕ) → Protected → (cells : ℕ) → Bool
 readable n q cells = cellsFit n cells && (ltb (q .near) n && ltb (q .far) n)
 
--- the routers that avoid the link on the way to a target; h gives the distances to it
-unfoldable pub avoidingTo : (n : ℕ) → Protected → (area : List ℕ) → (h : ℕ → ℕ) → ℕ
-avoidingTo n q area h = elim (readable n q (length area)) [ true ↦ setOf n (clears (held n area) q h) | false ↦ 0 ]
+-- the routers that avoid the link on the way to a target; `left` and `target` give the distances to it, on the left side and in the sums
+unfoldable pub avoidingTo : (n : ℕ) → Protected → (left : ℕ → ℕ) → (sums : List ℕ) → (target : ℕ → ℕ) → ℕ
+avoidingTo n q left sums target = elim (readable n q (length sums)) [ true ↦ setOf n (clears left (held n sums) q target) | false ↦ 0 ]
 
--- the routers that x avoids the link on the way to
-unfoldable pub avoidingFrom : (n : ℕ) → Protected → (area : List ℕ) → (x : ℕ) → ℕ
-avoidingFrom n q area x = elim (readable n q (length area) && ltb x n) [ true ↦ setOf n (clearsTo (held n area) q x) | false ↦ 0 ]
+-- the routers that x avoids the link on the way to; `left` and `sums` are the areas of the distances on the left side and in the sums
+unfoldable pub avoidingFrom : (n : ℕ) → Protected → (left sums : List ℕ) → (x : ℕ) → ℕ
+avoidingFrom n q left sums x =
+    elim (readable n q (length left) && readable n q (length sums) && ltb x n) [ true ↦ setOf n (clearsTo (held n left) (held n sums) q x) | false ↦ 0 ]

@@ -8,7 +8,7 @@ use Rattle.lfa.specs.Distance.{LeastCosts}
 use Rattle.lfa.specs.Space.{Protected}
 use Rattle.lfa.specs.Laws.Bound.{Sound}
 use Rattle.lfa.specs.Laws.Avoid.{Named}
-use Rattle.distance.specs.Area.{held}
+use Rattle.metric.specs.Area.{held}
 
 -- the area holds the distances of a sound network, in which the arcs over the protected link are its two directions
 pub record Known (n : ℕ) (hops : List Arc) (q : Protected) (area : List ℕ) : Type 0 where

@@ -1,6 +1,9 @@
-// The routers that avoid the protected link, by the distances that an area holds: on the way to a target, and from one router.
+// The routers that avoid the protected link, by distances: on the way to a target, and from one router.
 //
-// Both functions take any numbers. Where no distances can be read for them, the set is empty.
+// A router avoids the link where its distance to the target is below both sums over the link. The distances on the left side of this
+// test and those in the sums are handed in apart; they may be of one network, or of two that differ in their costs.
+//
+// The functions take any numbers. Where no distances can be read for them, the set is empty.
 use metric::fit::cells_fit;
 use set::set_from;
 use set::set_to;
@@ -13,7 +16,7 @@ mod set;
 
 // The protected link, seen from the end that the question names: its number, the repairing router S (near), the far router E (far),
 // and the costs from S to E (out) and from E to S (back).
-pub struct Link {
+pub struct Protected {
     pub number: usize,
     pub near: usize,
     pub far: usize,
@@ -21,35 +24,46 @@ pub struct Link {
     pub back: u32,
 }
 
-// Whether the distances can be read: there is a cell for each two of at most 64 routers, and the ends of the link are routers.
-fn can_read(n: usize, link: Link, cells: usize) -> bool
-    ensures { λ r. ⌜ r ≡ readable n (asked link) cells ⌝ }
+// Whether the distances can be read from an area of so many cells: there is one for each two of at most 64 routers, and the ends of the
+// link are routers.
+pub fn can_read(n: usize, protected: Protected, cells: usize) -> bool
+    ensures { λ r. ⌜ r ≡ readable n (asked protected) cells ⌝ }
 {
     if !cells_fit(n, cells) {
         return false;
     }
-    link.near < n && link.far < n
+    protected.near < n && protected.far < n
 }
 
-// The routers x that avoid the link on the way to a target, `to` holding the distances to it.
-pub fn avoiding_to(dist: &[u32], n: usize, link: Link, to: &[u32; 64]) -> u64
-    ensures { λ r. ⌜ r ≡ avoidingTo n (asked link) (now (dist .entry)) (λ x. getD (now (to .entry)) x 0) ⌝ }
+// The routers x that avoid the link on the way to a target. `left` and `target` hold the distances to it, on the left side of the test
+// and in the sums.
+pub fn avoiding_to(
+    left: &[u32; 64],
+    sums: &[u32],
+    n: usize,
+    protected: Protected,
+    target: &[u32; 64],
+) -> u64
+    ensures { λ r. ⌜ r ≡ avoidingTo n (asked protected) (λ x. getD (now (left .entry)) x 0) (now (sums .entry)) (λ x. getD (now (target .entry)) x 0) ⌝ }
 {
-    if !can_read(n, link, dist.len()) {
+    if !can_read(n, protected, sums.len()) {
         return 0;
     }
-    set_to(dist, n, link, to)
+    set_to(left, sums, n, protected, target)
 }
 
-// The routers that x avoids the link on the way to.
-pub fn avoiding_from(dist: &[u32], n: usize, link: Link, x: usize) -> u64
-    ensures { λ r. ⌜ r ≡ avoidingFrom n (asked link) (now (dist .entry)) x ⌝ }
+// The routers that x avoids the link on the way to. `left` and `sums` hold the distances on the left side of the test and in the sums.
+pub fn avoiding_from(left: &[u32], sums: &[u32], n: usize, protected: Protected, x: usize) -> u64
+    ensures { λ r. ⌜ r ≡ avoidingFrom n (asked protected) (now (left .entry)) (now (sums .entry)) x ⌝ }
 {
-    if !can_read(n, link, dist.len()) {
+    if !can_read(n, protected, left.len()) {
+        return 0;
+    }
+    if !can_read(n, protected, sums.len()) {
         return 0;
     }
     if n <= x {
         return 0;
     }
-    set_from(dist, n, link, x)
+    set_from(left, sums, n, protected, x)
 }

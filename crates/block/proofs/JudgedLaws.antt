@@ -12,7 +12,7 @@ use Rattle.lfa.specs.Lists.{firstFailing}
 use Rattle.lfa.specs.File.{Bytes, blocksIn, linksOf, prefixesOf, blocksNeeded}
 use Rattle.lfa.specs.File.{lengthGood, checkGood, headGood, blockCountGood, blockGood}
 use Rattle.lfa.specs.Refusal.{fileReturned, badLength, badCheck, badHead, badBlockCount, badBlock, decided, firstRow}
-use Rattle.lfa.specs.Laws.List.{unless-good}
+use Rattle.lfa.specs.Laws.FirstFailing.{unless-good}
 use Rattle.block.specs.First.{firstOr}
 use Rattle.block.specs.Laws.First.{answer-found, answer-none}
 use Rattle.block.specs.Judged.{laterRows, blockRows}

@@ -12,8 +12,8 @@ use Rattle.lfa.specs.Network.{Attachment, at, Target}
 use Rattle.lfa.specs.Distance.{unreachable, least, costOver, towards}
 use Rattle.lfa.specs.Laws.Target.{towards-most}
 use Rattle.lfa.specs.Laws.Counting.{length-map-below}
-use Rattle.column.specs.Column.{column, slotsIn}
-use Rattle.distance.specs.Laws.List.{map-below-more}
+use Rattle.metric.specs.Column.{column, slotsIn}
+use Rattle.metric.specs.Laws.List.{map-below-more}
 
 -- ---- columns
 
@@ -48,17 +48,17 @@ least-more [] x = omega arith
 least-more (y ∷ l) x = omega (arith, least-more l x)
 
 -- the distance to a prefix with one slot more
-slot-more : (d : ℕ → ℕ → ℕ) (routers costs : List ℕ) (first s x : ℕ) →
-    towards d (slotsIn routers costs first (s + 1)) x ≡ min (towards d (slotsIn routers costs first s) x) (d x (getD routers (first + s) 0) + getD costs (first + s) 0)
+slot-more : (d : ℕ → ℕ → ℕ) (routers costs : List ℕ) (slot s x : ℕ) →
+    towards d (slotsIn routers costs slot (s + 1)) x ≡ min (towards d (slotsIn routers costs slot s) x) (d x (getD routers (slot + s) 0) + getD costs (slot + s) 0)
 unfolding towards slotsIn costOver
-slot-more d routers costs first s x =
-    let f : ℕ → Attachment = λ s. at (getD routers (first + s) 0) (getD costs (first + s) 0) in
+slot-more d routers costs slot s x =
+    let f : ℕ → Attachment = λ s. at (getD routers (slot + s) 0) (getD costs (slot + s) 0) in
     ap (λ (l : Target). least (map (costOver (d x)) l)) (map-below-more f s)
     ∙ ap least (simp map-append) ∙ least-more (map (costOver (d x)) (map f (below s))) (costOver (d x) (f s))
 
 -- the same of the cells that were read: the lesser of the sum over the slot and of what was found before
-pub slot-turn : {best a dx c sum : ℕ} (d : ℕ → ℕ → ℕ) (routers costs : List ℕ) (first s x : ℕ) → best ≡ towards d (slotsIn routers costs first s) x →
-    a ≡ getD routers (first + s) 0 → dx ≡ d x a → c ≡ getD costs (first + s) 0 → sum ≡ min (dx + c) unreachable → min sum best ≡ towards d (slotsIn routers costs first (s + 1)) x
-slot-turn {a} d routers costs first s x e ea ed ec es =
-    let f : d x a ≡ d x (getD routers (first + s) 0) = ap (d x) ea in
-    omega (arith, slot-more d routers costs first s x, towards-most d (slotsIn routers costs first s) x)
+pub slot-turn : {best a dx c sum : ℕ} (d : ℕ → ℕ → ℕ) (routers costs : List ℕ) (slot s x : ℕ) → best ≡ towards d (slotsIn routers costs slot s) x →
+    a ≡ getD routers (slot + s) 0 → dx ≡ d x a → c ≡ getD costs (slot + s) 0 → sum ≡ min (dx + c) unreachable → min sum best ≡ towards d (slotsIn routers costs slot (s + 1)) x
+slot-turn {a} d routers costs slot s x e ea ed ec es =
+    let f : d x a ≡ d x (getD routers (slot + s) 0) = ap (d x) ea in
+    omega (arith, slot-more d routers costs slot s x, towards-most d (slotsIn routers costs slot s) x)

@@ -8,14 +8,14 @@ use lib.ListN.{length, replicate}
 use Rattle.lfa.specs.Network.{router}
 use Rattle.lfa.specs.Distance.{towards}
 use Rattle.metric.specs.Fit.{cellsFit, slotsFit}
-use Rattle.distance.specs.Area.{held}
-use Rattle.column.specs.Column.{column, slotsIn}
+use Rattle.metric.specs.Area.{held}
+use Rattle.metric.specs.Column.{column, slotsIn}
 
 -- the distances to router t, from each of the n routers
 unfoldable pub routerColumn : (n t : ℕ) → (area : List ℕ) → List ℕ
 routerColumn n t area = elim (cellsFit n (length area) && ltb t n) [ true ↦ column n (towards (held n area) (router t)) | false ↦ replicate 64 0 ]
 
--- the distances to the prefix whose attachments start at slot `first`, from each of the n routers
-unfoldable pub prefixColumn : (n : ℕ) → (routers costs : List ℕ) → (first count : ℕ) → (area : List ℕ) → List ℕ
-prefixColumn n routers costs first count area =
-    elim (cellsFit n (length area) && slotsFit n first count routers) [ true ↦ column n (towards (held n area) (slotsIn routers costs first count)) | false ↦ replicate 64 0 ]
+-- the distances to the prefix whose first slot is `slot`, from each of the n routers
+unfoldable pub prefixColumn : (n : ℕ) → (routers costs : List ℕ) → (slot count : ℕ) → (area : List ℕ) → List ℕ
+prefixColumn n routers costs slot count area =
+    elim (cellsFit n (length area) && slotsFit n slot count routers) [ true ↦ column n (towards (held n area) (slotsIn routers costs slot count)) | false ↦ replicate 64 0 ]

@@ -1,3 +1,2 @@
-pub mod Column
 pub mod Calls
 pub mod Laws

@@ -14,8 +14,8 @@ use Rattle.lfa.specs.Distance.{unreachable, RouterPath, stay, via, LeastCosts, 
 use Rattle.lfa.specs.Laws.Arrive.{Within}
 use Rattle.lfa.specs.Laws.List.{mem-below, map-make}
 use Rattle.lfa.specs.Laws.Counting.{map-below-gives}
-use Rattle.lfa.specs.Laws.Distance.{route-append, hop-least, hop-found}
-use Rattle.distance.specs.RightTable.{areaCell}
+use Rattle.lfa.specs.Laws.Hop.{route-append, hop-least, hop-found}
+use Rattle.metric.specs.Area.{areaCell}
 use Rattle.distance.specs.Cells.{limit, Cells, Limited, Stored, cheapest, selfLoops, CostsCapped, Triangular, Above, Eliminated, Substituted, finished}
 use Rattle.distance.proofs.BoundLaws.{finite-small}
 

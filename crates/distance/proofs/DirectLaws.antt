@@ -15,11 +15,11 @@ use Rattle.lfa.specs.Lists.{below, countUp}
 use Rattle.lfa.specs.Network.{Arc, arc, arcsFrom}
 use Rattle.lfa.specs.Distance.{unreachable, least, hopCost}
 use Rattle.lfa.specs.Laws.Test.{and-left, and-right, and-make}
-use Rattle.lfa.specs.Laws.Distance.{least-most}
-use Rattle.distance.specs.RightTable.{areaCell}
-use Rattle.distance.specs.Columns.{linksIn, arcsIn}
-use Rattle.distance.specs.Laws.List.{map-below-more}
-use Rattle.distance.specs.Laws.Columns.{arcsIn-more}
+use Rattle.lfa.specs.Laws.Hop.{least-most}
+use Rattle.metric.specs.Area.{areaCell}
+use Rattle.metric.specs.Columns.{linksIn, arcsIn}
+use Rattle.metric.specs.Laws.List.{map-below-more}
+use Rattle.metric.specs.Laws.Columns.{arcsIn-more}
 use Rattle.distance.specs.Cells.{limit, Cells, Limited, Stored, cheapest, selfLoops, Lowered, CostsCapped}
 use Rattle.distance.proofs.StoreLaws.{square-few, one-place}
 
@@ -92,13 +92,13 @@ linked-none from to out back cells = (record { cost = λ m. absurd (List·Memᴰ
 
 -- both directions of one link more
 pub linked-more : (from to out back : List ℕ) (k : ℕ) {n a b c d : ℕ} {xs ys zs : List ℕ} →
-    a ≡ getD from k 0 → b ≡ getD to k 0 → (c ≡ getD out k 0) × (c ≤ 65535) → (d ≡ getD back k 0) × (d ≤ 65535) → Lowered n a b c xs ys → Lowered n b a d ys zs →
+    a ≡ getD from k 0 → b ≡ getD to k 0 → c ≡ getD out k 0 → d ≡ getD back k 0 → (c ≤ 65535) × Lowered n a b c xs ys → (d ≤ 65535) × Lowered n b a d ys zs →
     CostsCapped (arcsIn from to out back k) × Cells n (cheapest (selfLoops n ++ arcsIn from to out back k)) xs →
     CostsCapped (arcsIn from to out back (k + 1)) × Cells n (cheapest (selfLoops n ++ arcsIn from to out back (k + 1))) zs
 linked-more from to out back k {n} {a} {b} {c} {d} ea eb ec ed first second (capped, cells) =
-    rw (arcsIn-more, ← ea, ← eb, ← ec .0, ← ed .0) (
+    rw (arcsIn-more, ← ea, ← eb, ← ec, ← ed) (
       record { cost = λ m. go (List·Memᴰ·append-cases hops m) },
-      simp append-assoc at (cheapest-more ((selfLoops n ++ hops) ++ (arc a b c k ∷ [])) k (cheapest-more (selfLoops n ++ hops) k cells first) second),
+      simp append-assoc at (cheapest-more ((selfLoops n ++ hops) ++ (arc a b c k ∷ [])) k (cheapest-more (selfLoops n ++ hops) k cells (first .1)) (second .1)),
     )
   where
     hops : List Arc
@@ -106,5 +106,5 @@ linked-more from to out back k {n} {a} {b} {c} {d} ea eb ec ed first second (cap
 
     go : {x z e l : ℕ} → List·Memᴰ (arc x z e l) hops ⊎ List·Memᴰ (arc x z e l) (arc a b c k ∷ arc b a d k ∷ []) → e ≤ 65535
     go (inl m) = capped .cost m
-    go {e} (inr (List·Memᴰ·head p)) = let s : e ≡ c = cc in omega (arith, ec .1)
-    go {e} (inr (List·Memᴰ·tail (List·Memᴰ·head p))) = let s : e ≡ d = cc in omega (arith, ed .1)
+    go {e} (inr (List·Memᴰ·head p)) = let s : e ≡ c = cc in omega (arith, first .0)
+    go {e} (inr (List·Memᴰ·tail (List·Memᴰ·head p))) = let s : e ≡ d = cc in omega (arith, second .0)

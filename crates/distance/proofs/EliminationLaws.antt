@@ -9,7 +9,7 @@ use native.Mathlib.Nat.{zero-add}
 use native.Mathlib.Decide.{decLt, ℕ-discrete}
 use lib.Arith.{digits-lt}
 use lib.ListN.{length, getD}
-use Rattle.distance.specs.RightTable.{areaCell}
+use Rattle.metric.specs.Area.{areaCell}
 use Rattle.distance.specs.Cells.{Limited, Stored, RowsLowered, Triangular, Above, Fallen, Eliminated, Substituted}
 
 -- ---- cells that fall

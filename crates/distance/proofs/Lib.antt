@@ -5,4 +5,3 @@ pub mod EliminationLaws
 pub mod BoundLaws
 pub mod CloseLaws
 pub mod AreaLaws
-pub mod TableLaws

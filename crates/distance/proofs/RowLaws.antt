@@ -8,7 +8,7 @@ use native.Mathlib.Omega.{arith}
 use native.Mathlib.Decide.{decLt}
 use lib.ListN.{length, getD, set, length-set}
 use lib.Seq.{getD-set-same, getD-set-other}
-use Rattle.distance.specs.RightTable.{areaCell}
+use Rattle.metric.specs.Area.{areaCell}
 use Rattle.distance.specs.Cells.{limit, Limited, RowOf, RowReady, RowLowered, RowsLowered}
 use Rattle.distance.proofs.StoreLaws.{below, square-few}
 

@@ -1,10 +1,10 @@
 -- The places of cells, and numbers stored one after the other.
 -- Assumes nothing.
-use Prim.Native.Nat.{ℕ, zero, suc, _+_, _*_, _/_, _%_, _≤_, _<_}
+use Prim.Native.Nat.{ℕ, _+_, _*_, _/_, _%_, _≤_, _<_}
 use mathlib.Core.Path.{_≡_, refl, sym, ap, _∙_}
 use mathlib.Core.List.{List}
 use native.Mathlib.Omega.{arith}
-use native.Mathlib.Nat.{zero-mul, suc-mul, mul-le-mul, mul-le-mul-right, div-add-mod', mod-lt, div-lt-iff-lt-mul}
+use native.Mathlib.Nat.{suc-mul, mul-le-mul, mul-le-mul-right}
 use native.Mathlib.Numerals.{add-one}
 use native.Mathlib.Decide.{decLt}
 use lib.Arith.{digits-div, digits-mod}
@@ -28,16 +28,6 @@ square-few n h = mul-le-mul h h
 pub one-place : {n i j a b : ℕ} → j < n → b < n → i * n + j ≡ a * n + b → (i ≡ a) × (j ≡ b)
 one-place {n} {i} {j} {a} {b} hj hb e =
     (sym (digits-div i hj) ∙ ap (λ (x : ℕ). x / n) e ∙ digits-div a hb, sym (digits-mod i hj) ∙ ap (λ (x : ℕ). x % n) e ∙ digits-mod a hb)
-
--- what holds at the place of each cell holds at each place
-pub each-place : {n : ℕ} (P : ℕ → Type 0) → ((x t : ℕ) → x < n → t < n → P (x * n + t)) → (i : ℕ) → i < n * n → P i
-each-place {n} P cell i h =
-    let some : 0 < n = positive n h in
-    rw (div-add-mod' i n) at (cell (i / n) (i % n) (div-lt-iff-lt-mul some .1 h) (mod-lt i some))
-  where
-    positive : (n : ℕ) {i : ℕ} → i < n * n → 0 < n
-    positive zero h = absurd (omega (arith, zero-mul 0))
-    positive (suc n) h = omega arith
 
 -- ---- numbers stored one after the other
 

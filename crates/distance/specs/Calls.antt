@@ -6,7 +6,7 @@ use mathlib.Core.List.{List}
 use lib.ListN.{length}
 use Rattle.lfa.specs.Distance.{filled}
 use Rattle.metric.specs.Fit.{cellsFit, linksFit}
-use Rattle.distance.specs.Columns.{networkIn}
+use Rattle.metric.specs.Columns.{networkIn}
 
 -- the area, once the distances of the network in the columns are filled in
 unfoldable pub areaFilled : (routers links : ℕ) → (from to out back area : List ℕ) → List ℕ

@@ -10,7 +10,7 @@ use lib.ListN.{length, getD}
 use Rattle.lfa.specs.Lists.{below}
 use Rattle.lfa.specs.Network.{Arc, arc}
 use Rattle.lfa.specs.Distance.{unreachable, least, hopCost}
-use Rattle.distance.specs.RightTable.{areaCell}
+use Rattle.metric.specs.Area.{areaCell}
 
 -- more than any finite distance, and twice the limit is a 32-bit number
 abbrev pub limit : ℕ

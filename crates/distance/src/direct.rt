@@ -1,11 +1,13 @@
 // The cells before any router may be passed through: 0 from a router to itself, and from one router to another the cost of the
 // cheapest arc. Until the last pass over the cells, `LIMIT` stands for every larger number.
+use metric::read::cost_of;
+use metric::read::wide;
 ghost use mathlib.Core.Path.{_≡_};
 ghost use mathlib.Core.List.{_++_};
 ghost use Prim.Native.Nat.{_≤_, _<_, min};
 ghost use lib.ListN.{length};
 ghost use Rattle.metric.specs.Fit.{ColumnsWithin};
-ghost use Rattle.distance.specs.Columns.{arcsIn};
+ghost use Rattle.metric.specs.Columns.{arcsIn};
 ghost use Rattle.distance.specs.Cells.{limit, Cells, Limited, Stored, Lowered, selfLoops, cheapest, CostsCapped};
 
 // More than any finite distance, and little enough for the sum of two.
@@ -30,27 +32,13 @@ pub(crate) fn clear(cells: &mut [u32])
     }
 }
 
-// A router's number as an index.
-fn wide(x: u8) -> usize
-    ensures { λ r. ⌜ r ≡ x ⌝ }
-{
-    x as usize
-}
-
-// A cost as a distance.
-fn cost_of(x: u16) -> u32
-    ensures { λ r. ⌜ (r ≡ x) × (r ≤ 65535) ⌝ }
-{
-    x as u32
-}
-
 // Lowers the cell of routers a and b to the cost of an arc.
-fn lower(n: usize, a: usize, b: usize, cost: u32, cells: &mut [u32])
-    requires { ⌜ Limited n (now cells) × (a < n) × (b < n) × (cost ≤ 65535) ⌝ }
-    ensures { λ _. ⌜ Lowered n a b cost (now (cells .entry)) (now (cells .exit)) ⌝ }
+fn lower(n: usize, a: usize, b: usize, cost: u16, cells: &mut [u32])
+    requires { ⌜ Limited n (now cells) × (a < n) × (b < n) ⌝ }
+    ensures { λ _. ⌜ (cost ≤ 65535) × Lowered n a b cost (now (cells .entry)) (now (cells .exit)) ⌝ }
 {
     let at = a * n + b;
-    cells[at] = least(cells[at], cost);
+    cells[at] = least(cells[at], cost_of(cost));
 }
 
 // Lowers the cells to the costs of self-loops, which are 0.
@@ -83,8 +71,8 @@ pub(crate) fn lower_links<'a>(
     while k < links {
         let a = wide(from[k]);
         let b = wide(to[k]);
-        lower(n, a, b, cost_of(out[k]), cells);
-        lower(n, b, a, cost_of(back[k]), cells);
+        lower(n, a, b, out[k], cells);
+        lower(n, b, a, back[k], cells);
         k += 1;
     }
 }

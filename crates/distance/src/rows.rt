@@ -15,8 +15,8 @@ ghost use Prim.Native.Nat.{_+_, _*_, _≤_, _<_};
 ghost use lib.ListN.{length, getD};
 ghost use Rattle.lfa.specs.Distance.{stage, distanceIn};
 ghost use Rattle.metric.specs.Fit.{ColumnsWithin};
-ghost use Rattle.distance.specs.RightTable.{areaCell};
-ghost use Rattle.distance.specs.Columns.{arcsIn};
+ghost use Rattle.metric.specs.Area.{areaCell};
+ghost use Rattle.metric.specs.Columns.{arcsIn};
 ghost use Rattle.distance.specs.Cells.{Cells, Limited, Stored, RowReady, RowLowered, RowOf, RowsLowered, Eliminated, Substituted, finished};
 
 // Copies so many cells from `at` on.

@@ -11,7 +11,7 @@ use Rattle.lfa.specs.Network.{Network, arcs}
 use Rattle.lfa.specs.File.{Bytes, linksOf, prefixesOf, networkOf, linkEntry, prefixEntry}
 use Rattle.lfa.specs.Distance.{filled}
 use Rattle.lfa.specs.Space.{spaceOf}
-use Rattle.lfa.specs.Repair.{Outcome, prefixUnreachable, prefixUntouched, noneServes, chosen}
+use Rattle.lfa.specs.Repair.{Told, Outcome, prefixUnreachable, prefixUntouched, noneServes, serving}
 use Rattle.lfa.specs.Route.{routeOf}
 use Rattle.lfa.specs.Question.{Question, Call, load, fill, space, linkRepair, prefixRepair, route, Buffer, workArea, routeBuffer, networkAsked, linkAsked, prefixAsked, withDistances, linkFound, prefixFound}
 use Rattle.lfa.specs.Refusal.{Row, FileRow, noPair, Left, asLent, written, entryOf, Decided, decided, fileRefusal, refusalOf, earlyRefusal}
@@ -21,7 +21,7 @@ pub data Answer : Type 0 where
   refused : (number value : ℕ) → Answer
   accepted done untouched unreached : Answer
   set : (members : ℕ) → Answer
-  repair : (n y class cost : ℕ) → Answer
+  repair : Told → Answer
   played : (count : ℕ) → Answer
 
 unfoldable pub refusal : Decided Row → Answer
@@ -36,8 +36,8 @@ unfoldable pub routeFor : Question → Outcome → List ℕ
 routeFor q prefixUnreachable = []
 routeFor q prefixUntouched = []
 routeFor q noneServes = []
-routeFor q (chosen n y class cost) =
-    withDistances (networkAsked q) (λ d. routeOf (networkAsked q .routers) (arcs (networkAsked q)) d (prefixAsked q) (q .choices) (linkAsked q .near) n y)
+routeFor q (serving t) =
+    withDistances (networkAsked q) (λ d. routeOf (networkAsked q .routers) (arcs (networkAsked q)) d (prefixAsked q) (q .choices) (linkAsked q .near) (t .first) (t .endpoint))
 
 unfoldable pub routePlayed : Question → List ℕ
 routePlayed q = routeFor q (prefixFound q)
@@ -46,14 +46,14 @@ unfoldable pub repairAnswer : Outcome → Answer
 repairAnswer prefixUnreachable = unreached
 repairAnswer prefixUntouched = untouched
 repairAnswer noneServes = refused (entryOf noPair .number) 0
-repairAnswer (chosen n y class cost) = repair n y class cost
+repairAnswer (serving t) = repair t
 
 -- a route call passes other answers on
 unfoldable pub routeAnswer : Outcome → ℕ → Answer
 routeAnswer prefixUnreachable count = unreached
 routeAnswer prefixUntouched count = untouched
 routeAnswer noneServes count = refused (entryOf noPair .number) 0
-routeAnswer (chosen n y class cost) count = played count
+routeAnswer (serving t) count = played count
 
 -- the answer of a call that no row before 14 turns away
 unfoldable pub computed : Question → Call → Answer

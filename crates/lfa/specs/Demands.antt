@@ -15,7 +15,7 @@ use Rattle.lfa.specs.FileOf.{fileOf, WithinLimits}
 use Rattle.lfa.specs.Distance.{unreachable, LeastCosts, distances, distanceIn, towards}
 use Rattle.lfa.specs.Walk.{Crosses, Arrives}
 use Rattle.lfa.specs.Space.{Space, has, sizeOf, Member}
-use Rattle.lfa.specs.Repair.{IsPair, Keys, First, HasClass, MayCross}
+use Rattle.lfa.specs.Repair.{Pair, IsPair, Told, Tells, Keys, First, MayCross}
 use Rattle.lfa.specs.Route.{AreOptions, options, NamedRoute}
 use Rattle.lfa.specs.Question.{Question, Call, load, fill, linkRepair, prefixRepair, route, space, loading, toPrefixRepair, Buffer, workArea, routeBuffer, aPrefix, lent, HasInput, networkAsked, linkAsked, prefixAsked}
 use Rattle.lfa.specs.Refusal.{Row, noPair, Applies, entryOf, rowsTried, Decides, Accepted, Posed}
@@ -90,23 +90,25 @@ pub record HasThis (q : Question) (to : Target) (n y : ℕ) : Type 0 where
   pub second-leg-arrives : Arrives (Hops q) (D q) to (N q) y
   pub second-leg-misses : (u v : ℕ) → Crosses (Hops q) (D q) to y (q .link) u v → ⊥
 
--- "no neighbour of that end but the far end, paired with any router other than the two ends"; the neighbour's cost and link with it
-abbrev pub Candidate : Question → ℕ → ℕ → ℕ → ℕ → Type 0
-Candidate q n cost over y = IsPair (N q) (Hops q) (linkAsked q) n cost over y
+-- "no neighbour of that end but the far end, paired with any router other than the two ends"
+abbrev pub Candidate : Question → Pair → Type 0
+Candidate q p = IsPair (N q) (Hops q) (linkAsked q) p
+
+-- what a repair would tell of a pair
+abbrev pub TellsOf : Question → Target → Pair → Told → Type 0
+TellsOf q to p t = Tells (D q) (linkAsked q) to p t
 
 -- what the order of repairs looks at: class, D(S,y), y, tunnel cost, n
-abbrev pub keys : Question → (n y class cost : ℕ) → Keys
-keys q n y class cost = record { class = class; distance = D q (linkAsked q .near) y; endpoint = y; tunnel = cost; hop = n }
+abbrev pub keys : Question → Told → Keys
+keys q t = record { told = t; distance = D q (linkAsked q .near) (t .endpoint) }
 
 -- "A repair is a first hop and an endpoint, the pair that document 01 puts first", with its class and tunnel cost
-pub record IsRepair (q : Question) (to : Target) (n y class cost : ℕ) : Type 0 where
-  pub hop-cost : ℕ
-  pub over : ℕ
-  pub candidate : Candidate q n hop-cost over y
-  pub has-this : HasThis q to n y
-  pub first : (n′ c′ l′ y′ k′ : ℕ) → Candidate q n′ c′ l′ y′ → HasThis q to n′ y′ → HasClass (D q) (linkAsked q) to n′ y′ k′ → First (keys q n y class cost) (keys q n′ y′ k′ (c′ + D q n′ y′))
-  pub class-is : HasClass (D q) (linkAsked q) to n y class
-  pub cost-is : cost ≡ hop-cost + D q n y
+pub record IsRepair (q : Question) (to : Target) (t : Told) : Type 0 where
+  pub pair : Pair
+  pub candidate : Candidate q pair
+  pub tells : TellsOf q to pair t
+  pub has-this : HasThis q to (t .first) (t .endpoint)
+  pub earliest : (p : Pair) (other : Told) → Candidate q p → TellsOf q to p other → HasThis q to (other .first) (other .endpoint) → First (keys q t) (keys q other)
 
 -- ---- demand 2: "Distances are least path costs; the P, extended P and Q spaces hold exactly the routers that the remote LFA papers
 -- put there; the repair given is the first in the order of document 01, and a played route is the one its choices name."
@@ -132,9 +134,8 @@ pub record Demand2 (q : Question) : Type 0 where
   pub distances-left : HasInput q (lent workArea) → (area : List ℕ) (x t : ℕ) → x < N q → t < N q → getD (exitOf q workArea area) (x * N q + t) 0 ≡ D q x t
   pub later-cells-untouched : HasInput q (lent workArea) → (area : List ℕ) (k : ℕ) → N q * N q ≤ k → getD (exitOf q workArea area) k 0 ≡ getD area k 0
   pub space-held : (s : Space) → q .call ≡ space s → SpaceHeld q s
-  pub link-repair-first : q .call ≡ linkRepair → (n y class cost : ℕ) → answerTo q ≡ repair n y class cost → IsRepair q (router (linkAsked q .far)) n y class cost
-  pub prefix-repair-first : q .call ≡ prefixRepair → (n y class cost : ℕ) → answerTo q ≡ repair n y class cost →
-      MayCross (Hops q) (D q) (linkAsked q) (prefixAsked q) × IsRepair q (prefixAsked q) n y class cost
+  pub link-repair-first : q .call ≡ linkRepair → (t : Told) → answerTo q ≡ repair t → IsRepair q (router (linkAsked q .far)) t
+  pub prefix-repair-first : q .call ≡ prefixRepair → (t : Told) → answerTo q ≡ repair t → MayCross (Hops q) (D q) (linkAsked q) (prefixAsked q) × IsRepair q (prefixAsked q) t
   -- "unreachable when D(S,p) is unreachable, untouched when no walk from S towards p crosses the link from S to E"
   pub unreachable-when : HasInput q aPrefix → (answerTo q ≡ unreached) ↔ (towards (D q) (prefixAsked q) (linkAsked q .near) ≡ unreachable)
   pub untouched-when : HasInput q aPrefix →
@@ -143,15 +144,15 @@ pub record Demand2 (q : Question) : Type 0 where
   -- the options at a router; a route has a pair just where the prefix repair has one, and this pair is played
   pub options-are : (to : Target) (x : ℕ) → AreOptions (Hops q) (D q) to x (options (N q) (Hops q) (D q) to x)
   pub route-14 : q .call ≡ route → (answerTo q ≡ refused 14 0) ↔ (answerTo (toPrefixRepair q) ≡ refused 14 0)
-  pub route-named : q .call ≡ route → (n y class cost : ℕ) → answerTo (toPrefixRepair q) ≡ repair n y class cost → RouteNamed q n y
+  pub route-named : q .call ≡ route → (t : Told) → answerTo (toPrefixRepair q) ≡ repair t → RouteNamed q (t .first) (t .endpoint)
 
 -- ---- demand 3
 
 -- a question is answered with a repair or with refusal 14, a repair is one, and 14 comes exactly when no candidate has this
 pub record Repaired (q : Question) (to : Target) (answer : Answer) : Type 0 where
-  pub repair-or-14 : ((n : ℕ) × (y : ℕ) × (class : ℕ) × (cost : ℕ) × (answer ≡ repair n y class cost)) ⊎ (answer ≡ refused 14 0)
-  pub is-repair : (n y class cost : ℕ) → answer ≡ repair n y class cost → IsRepair q to n y class cost
-  pub exactly : (answer ≡ refused 14 0) ↔ ((n c l y : ℕ) → Candidate q n c l y → HasThis q to n y → ⊥)
+  pub repair-or-14 : ((t : Told) × (answer ≡ repair t)) ⊎ (answer ≡ refused 14 0)
+  pub is-repair : (t : Told) → answer ≡ repair t → IsRepair q to t
+  pub exactly : (answer ≡ refused 14 0) ↔ ((p : Pair) → Candidate q p → HasThis q to (p .hop .router) (p .endpoint) → ⊥)
 
 pub record Demand3 (q : Question) (answer : Answer) : Type 0 where
   -- "every prefix whose traffic from that end may cross the link: asked for this prefix with work area enough, the planner answers
@@ -162,10 +163,10 @@ pub record Demand3 (q : Question) (answer : Answer) : Type 0 where
   -- pair has this for the far end."
   pub link-repaired : q .call ≡ linkRepair → Repaired q (router (linkAsked q .far)) answer
   -- "A link's own repair, at either end, has this for every such prefix, and for the far end in the prefix's place."
-  pub link-has-this : q .call ≡ linkRepair → (n y class cost : ℕ) → answer ≡ repair n y class cost →
-      HasThis q (router (linkAsked q .far)) n y
+  pub link-has-this : q .call ≡ linkRepair → (t : Told) → answer ≡ repair t →
+      HasThis q (router (linkAsked q .far)) (t .first) (t .endpoint)
       × ((p : ℕ) → p < length (networkAsked q .prefixes) →
-      MayCross (Hops q) (D q) (linkAsked q) (getD (networkAsked q .prefixes) p []) → HasThis q (getD (networkAsked q .prefixes) p []) n y)
+      MayCross (Hops q) (D q) (linkAsked q) (getD (networkAsked q .prefixes) p []) → HasThis q (getD (networkAsked q .prefixes) p []) (t .first) (t .endpoint))
 
 -- ---- the demands: 1 of every question at all; 2 and 3 of those that no row before 14 turns away, "for every accepted file, every link and
 -- end of it, and every prefix .. with work area enough"

@@ -13,16 +13,16 @@ use Rattle.lfa.specs.File.{byteAt, wordAt, partOf, allZero, blocksIn, bl
 use Rattle.lfa.specs.FileOf.{fileOf, blocksOf, prefixBlock, linkBlock, entriesBlock, prefixBytes, slotBytes, linkBytes, headBlock, blockBytes, pad, wordBytes}
 use Rattle.lfa.specs.Distance.{least, costOver, towards, hopCost, direct, through, stage, distances, distanceIn}
 use Rattle.lfa.specs.Walk.{isStep, leads, takers, over, overFrom, avoids, crosses}
-use Rattle.lfa.specs.Space.{Protected, pSpace, extendedP, qSpace, protectedBy, protected, isFirst, firstOver, firstHops, hopRouter, inSpace, setOf, spaceOf}
-use Rattle.lfa.specs.Repair.{pair, isEndpoint, withEndpoint, pairsOf, pairs, serves, mayCross, orElse, classOf, tunnelCost, keysOf, key, noLater, earlier, choose, pairKey, firstPair, outcomeOf, linkOutcome, prefixOutcome}
+use Rattle.lfa.specs.Space.{Protected, pSpace, extendedP, qSpace, protectedBy, protected, isFirst, hopOver, firstHops, inSpace, setOf, spaceOf}
+use Rattle.lfa.specs.Repair.{Pair, isEndpoint, pairsOf, pairs, serves, mayCross, orElse, classOf, toldOf, Keys, keysOf, key, noLater, earlier, choose, pairKey, firstPair, outcomeOf, linkOutcome, prefixOutcome}
 use Rattle.lfa.specs.Route.{isStepTo, nextRouters, attachedAt, delivers, movesOf, options, choiceAt, optionTaken, playTo, playOn, routeOf}
 use Rattle.lfa.specs.Laws.Rows.{also, nothing, decides-after}
 use Rattle.lfa.specs.Laws.Causes.{row-applies}
 use Rattle.lfa.specs.Laws.Passed.{area-passes, buffer-passes}
 use Rattle.lfa.specs.Laws.Turned.{early-turned-away}
 use mathlib.Core.Bool.{true}
-use Rattle.lfa.specs.Question.{Question, workArea, routeBuffer, aLink, lent, inputsOf, inputNumber, hasInput, HasInput, loading, askSpace, askLink, askPrefix, askRoute, networkAsked, linkAsked, prefixAsked, withDistances, linkFound, prefixFound, searched}
-use Rattle.lfa.specs.Refusal.{noSuchLink, noSuchPrefix, decided, orLater, earlyRefusal, ifNone, fileReturned, returned, fileNumber, entryOf, fileRows, earlyRows, questionRows, allRows, tries, rowsTried, firstRow, inFile, fileRefusal, refusalOf, sizedReturned}
+use Rattle.lfa.specs.Question.{Question, workArea, routeBuffer, aLink, lent, inputsOf, inputNumber, hasInput, HasInput, loading, askSpace, askLink, askPrefix, askRoute, networkAsked, linkAsked, prefixAsked, withDistances, linkFound, prefixFound, searched, ifNone}
+use Rattle.lfa.specs.Refusal.{noSuchLink, noSuchPrefix, decided, orLater, earlyRefusal, fileReturned, returned, fileNumber, entryOf, fileRows, earlyRows, questionRows, allRows, tries, rowsTried, firstRow, inFile, fileRefusal, refusalOf, sizedReturned}
 use Rattle.lfa.specs.Answer.{Answer, refused, accepted, set, repair, played, untouched, refusal, routeFor, routePlayed, repairAnswer, routeAnswer, computed, answerTo, writtenTo, leave, exitBy, exitOf}
 
 -- ---- the networks
@@ -73,19 +73,23 @@ pub data Worked : Type 0 where
   asked : (question : Question) (answer : Answer) → Worked
   route : (question : Question) (answer : Answer) (routers : List ℕ) → Worked
 
+-- a repair with this first hop, endpoint, class and tunnel cost
+unfoldable pub told : (first endpoint class cost : ℕ) → Answer
+told n y k c = repair (record { first = n; endpoint = y; class = k; cost = c })
+
 -- the work area has 64 × 64 cells, the route buffer 128 bytes, and there are no choice bytes
 unfoldable pub starred : List Worked
 starred =
     asked (askSpace pSpace (fileOf (ring 4 [])) 4096 0 0) (set (members (0 ∷ 3 ∷ [])))
     ∷ asked (askSpace extendedP (fileOf (ring 4 [])) 4096 0 0) (set (members (0 ∷ 2 ∷ 3 ∷ [])))
     ∷ asked (askSpace qSpace (fileOf (ring 4 [])) 4096 0 0) (set (members (1 ∷ 2 ∷ [])))
-    ∷ asked (askLink (fileOf (ring 4 [])) 4096 0 0) (repair 3 2 3 2)
-    ∷ asked (askPrefix (fileOf ring4prefix) 4096 0 0 0) (repair 3 3 1 1)
+    ∷ asked (askLink (fileOf (ring 4 [])) 4096 0 0) (told 3 2 3 2)
+    ∷ asked (askPrefix (fileOf ring4prefix) 4096 0 0 0) (told 3 3 1 1)
     ∷ route (askRoute (fileOf ring4prefix) 4096 128 0 0 0 []) (played 3) (0 ∷ 3 ∷ 2 ∷ [])
     ∷ asked (askPrefix (fileOf ring4prefix) 4096 1 1 0) untouched
-    ∷ asked (askLink (fileOf (ring 5 [])) 4096 0 0) (repair 4 2 3 3)
+    ∷ asked (askLink (fileOf (ring 5 [])) 4096 0 0) (told 4 2 3 3)
     ∷ route (askRoute (fileOf ring5prefix) 4096 128 0 0 0 []) (played 5) (0 ∷ 4 ∷ 3 ∷ 2 ∷ 1 ∷ [])
-    ∷ asked (askLink (fileOf (ring 3 [])) 4096 0 0) (repair 2 2 1 1)
+    ∷ asked (askLink (fileOf (ring 3 [])) 4096 0 0) (told 2 2 1 1)
     ∷ asked (askLink (fileOf ring3cost2) 4096 0 0) (refused 14 0)
     ∷ asked (askLink (fileOf ring4cost10) 4096 0 0) (refused 14 0)
     ∷ asked (askLink (fileOf twoRouters) 4096 0 0) (refused 14 0)
@@ -103,12 +107,12 @@ yieldedAll (w ∷ ws) = yielded w ∷ yieldedAll ws
 
 -- to unfold this is to unfold every definition that an answer rests on
 unfoldable opened : Unit {0}
-unfolding countUp below select anyOf everyBelow memberOf flat count firstFailing unless table cell router arcs arcsFrom byteAt wordAt partOf allZero blocksIn blockOf sumWords checkOf routersOf linksOf prefixesOf ceil linkBlocks prefixBlocks blocksNeeded linkEntry linkIn prefixEntry attachments slotRouter slot prefixIn linkOf prefixOf networkOf lengthGood checkGood headGood blockCountGood laterGood entriesIn soundBlock blockGood soundLink linkGood joinSame linkNew slotGood soundPrefix prefixGood slotNew routersNew fileOf blocksOf prefixBlock linkBlock entriesBlock prefixBytes slotBytes linkBytes headBlock blockBytes pad wordBytes least costOver towards hopCost direct through stage distances distanceIn isStep leads takers over overFrom avoids crosses protectedBy protected isFirst firstOver firstHops hopRouter inSpace setOf spaceOf isEndpoint withEndpoint pairsOf pairs serves mayCross orElse classOf tunnelCost keysOf key noLater earlier choose pairKey firstPair outcomeOf linkOutcome prefixOutcome isStepTo nextRouters attachedAt delivers movesOf options choiceAt optionTaken playTo playOn routeOf answerTo routePlayed loading askSpace askLink askPrefix askRoute networkAsked linkAsked prefixAsked withDistances linkFound prefixFound searched inputsOf inputNumber hasInput ifNone fileReturned returned sizedReturned fileNumber entryOf fileRows earlyRows questionRows allRows tries rowsTried firstRow inFile fileRefusal refusalOf refusal routeFor repairAnswer routeAnswer computed writtenTo leave exitBy exitOf
+unfolding countUp below select anyOf everyBelow memberOf flat count firstFailing unless table cell router arcs arcsFrom byteAt wordAt partOf allZero blocksIn blockOf sumWords checkOf routersOf linksOf prefixesOf ceil linkBlocks prefixBlocks blocksNeeded linkEntry linkIn prefixEntry attachments slotRouter slot prefixIn linkOf prefixOf networkOf lengthGood checkGood headGood blockCountGood laterGood entriesIn soundBlock blockGood soundLink linkGood joinSame linkNew slotGood soundPrefix prefixGood slotNew routersNew fileOf blocksOf prefixBlock linkBlock entriesBlock prefixBytes slotBytes linkBytes headBlock blockBytes pad wordBytes least costOver towards hopCost direct through stage distances distanceIn isStep leads takers over overFrom avoids crosses protectedBy protected isFirst hopOver firstHops inSpace setOf spaceOf isEndpoint pairsOf pairs serves mayCross orElse classOf toldOf key noLater earlier choose pairKey firstPair outcomeOf linkOutcome prefixOutcome isStepTo nextRouters attachedAt delivers movesOf options choiceAt optionTaken playTo playOn routeOf answerTo routePlayed loading askSpace askLink askPrefix askRoute networkAsked linkAsked prefixAsked withDistances linkFound prefixFound searched inputsOf inputNumber hasInput ifNone fileReturned returned sizedReturned fileNumber entryOf fileRows earlyRows questionRows allRows tries rowsTried firstRow inFile fileRefusal refusalOf refusal routeFor repairAnswer routeAnswer computed writtenTo leave exitBy exitOf
 opened = tt
 
 -- the table; the lone router's "any link question" follows
 rows-yielded : yieldedAll starred ≡ starred
-unfolding opened ringFrom ring ring4prefix ring5prefix ring3cost2 ring4cost10 twoRouters oneRouter members starred yielded yieldedAll
+unfolding opened ringFrom ring ring4prefix ring5prefix ring3cost2 ring4cost10 twoRouters oneRouter members told starred yielded yieldedAll
 rows-yielded = refl
 
 -- ---- "One router alone: accepted; any link question 12, value 0."
@@ -144,16 +148,23 @@ ring5d = distanceIn (distances (ring 5 []))
 unfoldable pub ring5link : Protected
 ring5link = protected (ring 5 []) 0 0
 
+-- the pairs of hop 4 there, and what the order looks at
+unfoldable pub overHop4 : ℕ → Pair
+overHop4 y = record { hop = record { router = 4; cost = 1; over = 4 }; endpoint = y }
+
+unfoldable pub ring5keys : Pair → Keys
+ring5keys p = keysOf ring5d ring5link (toldOf ring5d ring5link (router 1) p)
+
 -- The definitions yield every starred row: those of the table by computing them, and those of the lone router for every link, end,
 -- prefix and call, since row 12 is the first that applies where there is no link. Of ring 5's link repair, hop 4 and endpoint 2, "3 ties
 -- on distance": hop 4 with endpoint 3 serves too, in the same class and at the same distance.
 pub record Yielded : Type 0 where
   pub rows : yieldedAll starred ≡ starred
-  pub ring-5-tie : (serves 5 (arcs (ring 5 [])) ring5d ring5link (router 1) (pair 4 1 4 3) ≡ true)
-      × (keysOf ring5d ring5link (router 1) (pair 4 1 4 3) .class ≡ keysOf ring5d ring5link (router 1) (pair 4 1 4 2) .class)
-      × (keysOf ring5d ring5link (router 1) (pair 4 1 4 3) .distance ≡ keysOf ring5d ring5link (router 1) (pair 4 1 4 2) .distance)
+  pub ring-5-tie : (serves 5 (arcs (ring 5 [])) ring5d ring5link (router 1) (overHop4 3) ≡ true)
+      × (ring5keys (overHop4 3) .told .class ≡ ring5keys (overHop4 2) .told .class)
+      × (ring5keys (overHop4 3) .distance ≡ ring5keys (overHop4 2) .distance)
   pub lone : (q : Question) → q .file ≡ fileOf oneRouter → (HasInput q (lent workArea) → 1 ≤ q .area) → (HasInput q (lent routeBuffer) → 2 ≤ q .buffer) → HasInput q aLink → answerTo q ≡ refused 12 0
 
 pub hand-worked : Yielded
-unfolding opened ringFrom ring ring5d ring5link
+unfolding opened ringFrom ring ring5d ring5link overHop4 ring5keys
 hand-worked = record { rows = rows-yielded; ring-5-tie = (refl, refl, refl); lone = lone-refused }

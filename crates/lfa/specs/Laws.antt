@@ -1,9 +1,11 @@
 pub mod Test
 pub mod List
+pub mod FirstFailing
 pub mod Counting
 pub mod Table
 pub mod Chunks
 pub mod Target
+pub mod Hop
 pub mod Distance
 pub mod Local
 pub mod Walk
@@ -17,6 +19,8 @@ pub mod Set
 pub mod Space
 pub mod Repair
 pub mod Network
+pub mod Options
+pub mod Legs
 pub mod Route
 pub mod Rows
 pub mod Causes

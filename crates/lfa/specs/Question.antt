@@ -11,7 +11,7 @@ use Rattle.lfa.specs.Network.{Network, Target, arcs}
 use Rattle.lfa.specs.File.{Bytes, networkOf}
 use Rattle.lfa.specs.Distance.{distances, distanceIn}
 use Rattle.lfa.specs.Space.{Space, Protected, protected}
-use Rattle.lfa.specs.Repair.{Outcome, linkOutcome, prefixOutcome}
+use Rattle.lfa.specs.Repair.{Outcome, prefixUnreachable, prefixUntouched, noneServes, serving, linkOutcome, prefixOutcome}
 
 -- the calls that answer with a refusal or something else. The two calls for the bytes of an entry have answers of their own
 -- (`Answer.linkPart`, `prefixPart`).
@@ -120,3 +120,11 @@ searched q (space s) = none
 searched q linkRepair = some (linkFound q)
 searched q prefixRepair = some (prefixFound q)
 searched q route = some (prefixFound q)
+
+-- the value, where a search has found that no pair serves
+unfoldable pub ifNone : Option Outcome → ℕ → Option ℕ
+ifNone none value = none
+ifNone (some prefixUnreachable) value = none
+ifNone (some prefixUntouched) value = none
+ifNone (some noneServes) value = some value
+ifNone (some (serving t)) value = none

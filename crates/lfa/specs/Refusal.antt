@@ -11,8 +11,8 @@ use lib.Dec.{ltb, leb}
 use lib.ListN.{length}
 use Rattle.lfa.specs.Lists.{unless, firstFailing, FirstFails, select}
 use Rattle.lfa.specs.File.{Bytes, byteAt, routersOf, linksOf, prefixesOf, blocksIn, blocksNeeded, lengthGood, checkGood, headGood, blockCountGood, blockGood, linkGood, linkNew, prefixGood, routersNew}
-use Rattle.lfa.specs.Repair.{Outcome, prefixUnreachable, prefixUntouched, noneServes, chosen}
-use Rattle.lfa.specs.Question.{Question, Call, Buffer, workArea, routeBuffer, Input, aFile, aLink, aPrefix, searching, lent, hasInput, HasInput, searched, networkAsked}
+use Rattle.lfa.specs.Repair.{noneServes}
+use Rattle.lfa.specs.Question.{Question, Call, Buffer, workArea, routeBuffer, Input, aFile, aLink, aPrefix, searching, lent, hasInput, HasInput, searched, ifNone, networkAsked}
 
 -- ---- Cause and Returned, in words
 
@@ -53,8 +53,7 @@ pub data Left : Type 0 where
   asLent written : Left
 
 unfoldable pub leavesAll : Buffer → Left
-leavesAll workArea = asLent
-leavesAll routeBuffer = asLent
+leavesAll b = asLent
 
 -- "route buffer; work area holds distances"
 unfoldable pub leavesRoute : Buffer → Left
@@ -130,14 +129,6 @@ fileReturned b badLink = firstFailing (linkGood b) 0 (linksOf b)
 fileReturned b parallelLink = firstFailing (linkNew b) 0 (linksOf b)
 fileReturned b badPrefix = firstFailing (prefixGood b) 0 (prefixesOf b)
 fileReturned b routerTwice = firstFailing (routersNew b) 0 (prefixesOf b)
-
--- the value, where no pair serves
-unfoldable pub ifNone : Option Outcome → ℕ → Option ℕ
-ifNone none value = none
-ifNone (some prefixUnreachable) value = none
-ifNone (some prefixUntouched) value = none
-ifNone (some noneServes) value = some value
-ifNone (some (chosen n y class cost)) value = none
 
 -- the value that one of rows 10 to 13 returns where it applies, by the counts of any file; other rows look at more than numbers
 unfoldable pub sizedReturned : (routers links prefixes : ℕ) → Question → Row → Option ℕ

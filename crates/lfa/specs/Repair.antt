@@ -11,31 +11,29 @@ use Rattle.lfa.specs.Lists.{below, select, flat}
 use Rattle.lfa.specs.Network.{Arc, Target, router}
 use Rattle.lfa.specs.Distance.{unreachable, towards}
 use Rattle.lfa.specs.Walk.{Avoids, Crosses, avoids, crosses}
-use Rattle.lfa.specs.Space.{Protected, IsFirstHop, FirstHop, first, firstHops}
+use Rattle.lfa.specs.Space.{Protected, FirstHop, IsFirstHop, firstHops}
 
 -- ---- pairs
 
--- a pair (n, y): the first hop n, with the cost from S to it and the link that leads there; and the endpoint y
-pub data Pair : Type 0 where
-  pair : (n cost over y : ℕ) → Pair
+-- a pair (n, y): the first hop n and the endpoint y
+pub record Pair : Type 0 where
+  pub hop : FirstHop
+  pub endpoint : ℕ
 
 -- "the first hop n, a neighbour of S, not E; and the endpoint y, a router, neither S nor E"
-pub record IsPair (routers : ℕ) (hops : List Arc) (q : Protected) (n c l y : ℕ) : Type 0 where
-  pub first-hop : IsFirstHop hops q n c l
-  pub end-in : y < routers
-  pub end-not-near : y ≡ q .near → ⊥
-  pub end-not-far : y ≡ q .far → ⊥
+pub record IsPair (routers : ℕ) (hops : List Arc) (q : Protected) (p : Pair) : Type 0 where
+  pub first-hop : IsFirstHop hops q (p .hop)
+  pub end-in : p .endpoint < routers
+  pub end-not-near : p .endpoint ≡ q .near → ⊥
+  pub end-not-far : p .endpoint ≡ q .far → ⊥
 
 -- whether y may be the endpoint of a pair
 unfoldable pub isEndpoint : Protected → ℕ → Bool
 isEndpoint q y = not (eqb y (q .near)) && not (eqb y (q .far))
 
-unfoldable pub withEndpoint : FirstHop → ℕ → Pair
-withEndpoint (first n c l) y = pair n c l y
-
 -- the pairs of one first hop
 unfoldable pub pairsOf : Protected → ℕ → FirstHop → List Pair
-pairsOf q n f = map (withEndpoint f) (select (isEndpoint q) (below n))
+pairsOf q n f = map (λ y. record { hop = f; endpoint = y }) (select (isEndpoint q) (below n))
 
 unfoldable pub pairs : Protected → ℕ → List Arc → List Pair
 pairs q n hops = flat (map (pairsOf q n) (firstHops q hops))
@@ -48,7 +46,7 @@ pub record Serves (hops : List Arc) (d : ℕ → ℕ → ℕ) (q : Protected) (t
   pub onward : Avoids hops d to (q .number) y
 
 unfoldable pub serves : ℕ → List Arc → (ℕ → ℕ → ℕ) → Protected → Target → Pair → Bool
-serves routers hops d q to (pair n c l y) = avoids routers hops d (router y) (q .number) n && avoids routers hops d to (q .number) y
+serves routers hops d q to p = avoids routers hops d (router (p .endpoint)) (q .number) (p .hop .router) && avoids routers hops d to (q .number) (p .endpoint)
 
 -- "Traffic from S to a prefix p may cross the link when some walk from S towards p crosses it from S to E."
 abbrev pub MayCross : List Arc → (ℕ → ℕ → ℕ) → Protected → Target → Type 0
@@ -72,53 +70,54 @@ orElse true k = 0
 orElse false k = k
 
 unfoldable pub classOf : (ℕ → ℕ → ℕ) → Protected → Target → Pair → ℕ
-classOf d q to (pair n c l y) = orElse (eqb y n) 2 + orElse (ltb (towards d to y) (towards d to (q .near))) 1
+classOf d q to p = orElse (eqb (p .endpoint) (p .hop .router)) 2 + orElse (ltb (towards d to (p .endpoint)) (towards d to (q .near))) 1
 
--- the tunnel cost: "cost S to n plus D(n,y)"
-unfoldable pub tunnelCost : (ℕ → ℕ → ℕ) → Pair → ℕ
-tunnelCost d (pair n c l y) = c + d n y
-
--- what the order looks at
-pub record Keys : Type 0 where
-  pub class : ℕ
-  pub distance : ℕ
+-- what a repair tells of its pair: "It holds n, y, class and that last sum, the tunnel cost."
+pub record Told : Type 0 where
+  pub first : ℕ
   pub endpoint : ℕ
-  pub tunnel : ℕ
-  pub hop : ℕ
+  pub class : ℕ
+  pub cost : ℕ
 
-unfoldable pub keysOf : (ℕ → ℕ → ℕ) → Protected → Target → Pair → Keys
-keysOf d q to (pair n c l y) = record {
-  class = classOf d q to (pair n c l y);
-  distance = d (q .near) y;
-  endpoint = y;
-  tunnel = tunnelCost d (pair n c l y);
-  hop = n;
+-- what is told is of this pair; the tunnel cost is "cost S to n plus D(n,y)"
+pub record Tells (d : ℕ → ℕ → ℕ) (q : Protected) (to : Target) (p : Pair) (t : Told) : Type 0 where
+  pub first-is : t .first ≡ p .hop .router
+  pub endpoint-is : t .endpoint ≡ p .endpoint
+  pub class-is : HasClass d q to (p .hop .router) (p .endpoint) (t .class)
+  pub cost-is : t .cost ≡ p .hop .cost + d (p .hop .router) (p .endpoint)
+
+unfoldable pub toldOf : (ℕ → ℕ → ℕ) → Protected → Target → Pair → Told
+toldOf d q to p = record {
+  first = p .hop .router;
+  endpoint = p .endpoint;
+  class = classOf d q to p;
+  cost = p .hop .cost + d (p .hop .router) (p .endpoint);
 }
+
+-- what the order looks at: what is told of a pair, and D(S,y)
+pub record Keys : Type 0 where
+  pub told : Told
+  pub distance : ℕ
+
+abbrev pub keysOf : (ℕ → ℕ → ℕ) → Protected → Told → Keys
+keysOf d q t = record { told = t; distance = d (q .near) (t .endpoint) }
 
 -- "the one with lowest class, then D(S,y), then y, then cost S to n plus D(n,y), then n": a clause for each key
 pub data Precedes (a b : Keys) : Type 0 where
-  by-class : a .class < b .class → Precedes a b
-  by-distance : a .class ≡ b .class → a .distance < b .distance → Precedes a b
-  by-endpoint : a .class ≡ b .class → a .distance ≡ b .distance → a .endpoint < b .endpoint → Precedes a b
-  by-tunnel : a .class ≡ b .class → a .distance ≡ b .distance → a .endpoint ≡ b .endpoint → a .tunnel < b .tunnel → Precedes a b
-  by-hop : a .class ≡ b .class → a .distance ≡ b .distance → a .endpoint ≡ b .endpoint → a .tunnel ≡ b .tunnel → a .hop < b .hop → Precedes a b
-
--- the same five keys
-pub record SameKeys (a b : Keys) : Type 0 where
-  pub class : a .class ≡ b .class
-  pub distance : a .distance ≡ b .distance
-  pub endpoint : a .endpoint ≡ b .endpoint
-  pub tunnel : a .tunnel ≡ b .tunnel
-  pub hop : a .hop ≡ b .hop
+  by-class : a .told .class < b .told .class → Precedes a b
+  by-distance : a .told .class ≡ b .told .class → a .distance < b .distance → Precedes a b
+  by-endpoint : a .told .class ≡ b .told .class → a .distance ≡ b .distance → a .told .endpoint < b .told .endpoint → Precedes a b
+  by-tunnel : a .told .class ≡ b .told .class → a .distance ≡ b .distance → a .told .endpoint ≡ b .told .endpoint → a .told .cost < b .told .cost → Precedes a b
+  by-hop : a .told .class ≡ b .told .class → a .distance ≡ b .distance → a .told .endpoint ≡ b .told .endpoint → a .told .cost ≡ b .told .cost → a .told .first < b .told .first → Precedes a b
 
 -- b does not come before a: a precedes b, or the two have the same keys
 abbrev pub First : Keys → Keys → Type 0
-First a b = Precedes a b ⊎ SameKeys a b
+First a b = Precedes a b ⊎ (a ≡ b)
 
 -- ---- the computation: the pair whose list of keys comes first
 
 unfoldable pub key : Keys → List ℕ
-key k = k .class ∷ k .distance ∷ k .endpoint ∷ k .tunnel ∷ k .hop ∷ []
+key k = k .told .class ∷ k .distance ∷ k .told .endpoint ∷ k .told .cost ∷ k .told .first ∷ []
 
 -- whether list a comes no later than list b: the first place at which they differ decides
 unfoldable pub noLater : List ℕ → List ℕ → Bool
@@ -136,7 +135,7 @@ choose k [] = none
 choose k (p ∷ ps) = earlier k p (choose k ps)
 
 unfoldable pub pairKey : (ℕ → ℕ → ℕ) → Protected → Target → Pair → List ℕ
-pairKey d q to p = key (keysOf d q to p)
+pairKey d q to p = key (keysOf d q (toldOf d q to p))
 
 -- "Of the serving pairs the answer is the one with lowest class, then .."
 unfoldable pub firstPair : ℕ → List Arc → (ℕ → ℕ → ℕ) → Protected → Target → Option Pair
@@ -144,14 +143,13 @@ firstPair n hops d q to = choose (pairKey d q to) (select (serves n hops d q to)
 
 -- ---- what a repair question finds
 
--- "It holds n, y, class and that last sum, the tunnel cost."
 pub data Outcome : Type 0 where
   prefixUnreachable prefixUntouched noneServes : Outcome
-  chosen : (n y class cost : ℕ) → Outcome
+  serving : Told → Outcome
 
 unfoldable pub outcomeOf : (ℕ → ℕ → ℕ) → Protected → Target → Option Pair → Outcome
 outcomeOf d q to none = noneServes
-outcomeOf d q to (some (pair n c l y)) = chosen n y (classOf d q to (pair n c l y)) (tunnelCost d (pair n c l y))
+outcomeOf d q to (some p) = serving (toldOf d q to p)
 
 -- "A link repair has target E."
 unfoldable pub linkOutcome : ℕ → List Arc → (ℕ → ℕ → ℕ) → Protected → Outcome

@@ -31,28 +31,26 @@ protected net l e = protectedBy l e (getD (net .links) l (link 0 0 0 0))
 
 -- ---- the first hops: "a neighbour of S, not E"
 
--- router n is a first hop: S reaches it at this cost over this link, and it is not E
-pub record IsFirstHop (hops : List Arc) (q : Protected) (n cost over : ℕ) : Type 0 where
-  pub joined : List·Memᴰ (arc (q .near) n cost over) hops
-  pub not-far : n ≡ q .far → ⊥
+-- a first hop: the neighbour, the cost from S to it, and the link that leads there
+pub record FirstHop : Type 0 where
+  pub router : ℕ
+  pub cost : ℕ
+  pub over : ℕ
 
--- the first hops as a list: the neighbour, the cost from S to it, and the link that leads there
-pub data FirstHop : Type 0 where
-  first : (router cost over : ℕ) → FirstHop
+-- S reaches the router at this cost over this link, and the router is not E
+pub record IsFirstHop (hops : List Arc) (q : Protected) (f : FirstHop) : Type 0 where
+  pub joined : List·Memᴰ (arc (q .near) (f .router) (f .cost) (f .over)) hops
+  pub not-far : f .router ≡ q .far → ⊥
 
--- the arc leaves S and does not lead to E
+-- the first hops as a list, in file order of the links: the arc leaves S and does not lead to E
 unfoldable pub isFirst : Protected → Arc → Bool
 isFirst q (arc x z c l) = eqb x (q .near) && not (eqb z (q .far))
 
-unfoldable pub firstOver : Arc → FirstHop
-firstOver (arc x z c l) = first z c l
+unfoldable pub hopOver : Arc → FirstHop
+hopOver (arc x z c l) = record { router = z; cost = c; over = l }
 
--- in file order of the links
 unfoldable pub firstHops : Protected → List Arc → List FirstHop
-firstHops q hops = map firstOver (select (isFirst q) hops)
-
-unfoldable pub hopRouter : FirstHop → ℕ
-hopRouter (first m c l) = m
+firstHops q hops = map hopOver (select (isFirst q) hops)
 
 -- ---- the three spaces
 
@@ -61,11 +59,9 @@ pub data Space : Type 0 where
 
 -- some neighbour of S other than E avoids to router r
 pub record NeighbourAvoids (hops : List Arc) (d : ℕ → ℕ → ℕ) (q : Protected) (r : ℕ) : Type 0 where
-  pub neighbour : ℕ
-  pub cost : ℕ
-  pub over : ℕ
-  pub first-hop : IsFirstHop hops q neighbour cost over
-  pub avoids-to : Avoids hops d (router r) (q .number) neighbour
+  pub neighbour : FirstHop
+  pub first-hop : IsFirstHop hops q neighbour
+  pub avoids-to : Avoids hops d (router r) (q .number) (neighbour .router)
 
 -- the members of each space, by walks. P: "routers that S avoids to". Extended P: "routers that some neighbour of S other than E
 -- avoids to". Q: "routers that avoid to E".
@@ -77,7 +73,7 @@ Member qSpace hops d q r = Avoids hops d (router (q .far)) (q .number) r
 -- whether router r is in the space
 unfoldable pub inSpace : Space → ℕ → List Arc → (ℕ → ℕ → ℕ) → Protected → ℕ → Bool
 inSpace pSpace n hops d q r = avoids n hops d (router r) (q .number) (q .near)
-inSpace extendedP n hops d q r = anyOf (λ f. avoids n hops d (router r) (q .number) (hopRouter f)) (firstHops q hops)
+inSpace extendedP n hops d q r = anyOf (λ f. avoids n hops d (router r) (q .number) (f .router)) (firstHops q hops)
 inSpace qSpace n hops d q r = avoids n hops d (router (q .far)) (q .number) r
 
 -- ---- sets

@@ -25,15 +25,15 @@ module _ (n links : ℕ) (from to : List ℕ) where
   unfolding linksFit
   links-pass h each = sym (and-make _ _ (le-leb links 128 h) (every-make (joins n from to) links each))
 
-module _ (n first count : ℕ) (routers : List ℕ) where
-  pub slots-many : 1024 < first + count → false ≡ slotsFit n first count routers
+module _ (n slot count : ℕ) (routers : List ℕ) where
+  pub slots-many : 1024 < slot + count → false ≡ slotsFit n slot count routers
   unfolding slotsFit
-  slots-many h = sym (fails-left _ _ (lt-leb (first + count) 1024 h))
+  slots-many h = sym (fails-left _ _ (lt-leb (slot + count) 1024 h))
 
-  pub slot-fails : (s : ℕ) → s < count → n ≤ getD routers (first + s) 0 → false ≡ slotsFit n first count routers
+  pub slot-fails : (s : ℕ) → s < count → n ≤ getD routers (slot + s) 0 → false ≡ slotsFit n slot count routers
   unfolding slotsFit
-  slot-fails s h e = sym (fails-right (leb (first + count) 1024) _ (every-fails (attaches n first routers) count s h (le-ltb _ _ e)))
+  slot-fails s h e = sym (fails-right (leb (slot + count) 1024) _ (every-fails (attaches n slot routers) count s h (le-ltb _ _ e)))
 
-  pub slots-pass : first + count ≤ 1024 → ((s : ℕ) → s < count → attaches n first routers s ≡ true) → true ≡ slotsFit n first count routers
+  pub slots-pass : slot + count ≤ 1024 → ((s : ℕ) → s < count → attaches n slot routers s ≡ true) → true ≡ slotsFit n slot count routers
   unfolding slotsFit
-  slots-pass h each = sym (and-make _ _ (le-leb (first + count) 1024 h) (every-make (attaches n first routers) count each))
+  slots-pass h each = sym (and-make _ _ (le-leb (slot + count) 1024 h) (every-make (attaches n slot routers) count each))

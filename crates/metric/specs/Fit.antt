@@ -21,11 +21,11 @@ unfoldable pub linksFit : (routers links : ℕ) → (from to : List ℕ) → Boo
 linksFit routers links from to = leb links 128 && everyBelow (joins routers from to) links
 
 -- the slots in use are among the 1024, and hold routers
-abbrev pub attaches : (n first : ℕ) → (routers : List ℕ) → ℕ → Bool
-attaches n first routers s = ltb (getD routers (first + s) 0) n
+abbrev pub attaches : (n slot : ℕ) → (routers : List ℕ) → ℕ → Bool
+attaches n slot routers s = ltb (getD routers (slot + s) 0) n
 
-unfoldable pub slotsFit : (n first count : ℕ) → (routers : List ℕ) → Bool
-slotsFit n first count routers = leb (first + count) 1024 && everyBelow (attaches n first routers) count
+unfoldable pub slotsFit : (n slot count : ℕ) → (routers : List ℕ) → Bool
+slotsFit n slot count routers = leb (slot + count) 1024 && everyBelow (attaches n slot routers) count
 
 -- ---- what they say
 
@@ -37,6 +37,6 @@ pub record ColumnsWithin (routers links : ℕ) (from to : List ℕ) : Type 0 whe
   pub to-in : (k : ℕ) → k < links → getD to k 0 < routers
 
 -- the slots in use hold routers below n
-pub record SlotsWithin (n first count : ℕ) (routers : List ℕ) : Type 0 where
-  pub few : first + count ≤ 1024
-  pub router-in : (s : ℕ) → s < count → getD routers (first + s) 0 < n
+pub record SlotsWithin (n slot count : ℕ) (routers : List ℕ) : Type 0 where
+  pub few : slot + count ≤ 1024
+  pub router-in : (s : ℕ) → s < count → getD routers (slot + s) 0 < n

@@ -1,4 +1,5 @@
 // Whether numbers that are handed in are those of a network.
+use crate::read::wide;
 ghost use mathlib.Core.Path.{_≡_};
 ghost use mathlib.Core.Bool.{_&&_};
 ghost use lib.Dec.{ltb};
@@ -9,13 +10,6 @@ pub fn cells_fit(n: usize, cells: usize) -> bool
     ensures { λ r. ⌜ r ≡ cellsFit n cells ⌝ }
 {
     n <= 64 && n * n <= cells
-}
-
-// A router's number as an index.
-fn wide(x: u8) -> usize
-    ensures { λ r. ⌜ r ≡ x ⌝ }
-{
-    x as usize
 }
 
 // Whether both ends of a link are routers.
@@ -43,18 +37,18 @@ pub fn links_fit(routers: usize, links: usize, from: &[u8; 128], to: &[u8; 128])
 }
 
 // Whether the slots in use are among the 1024, and hold routers.
-pub fn slots_fit(n: usize, at: &[u8; 1024], first: usize, count: usize) -> bool
-    ensures { λ r. ⌜ r ≡ slotsFit n first count (now (at .entry)) ⌝ }
+pub fn slots_fit(n: usize, at: &[u8; 1024], slot: usize, count: usize) -> bool
+    ensures { λ r. ⌜ r ≡ slotsFit n slot count (now (at .entry)) ⌝ }
 {
-    if 1024 < first {
+    if 1024 < slot {
         return false;
     }
-    if 1024 - first < count {
+    if 1024 - slot < count {
         return false;
     }
     let mut s = 0;
     while s < count {
-        if n <= wide(at[first + s]) {
+        if n <= wide(at[slot + s]) {
             return false;
         }
         s += 1;

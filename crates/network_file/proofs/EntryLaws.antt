@@ -10,7 +10,8 @@ use lib.ListN.{length}
 use Rattle.lfa.specs.Lists.{firstFailing}
 use Rattle.lfa.specs.File.{Bytes, wordAt, routersOf, linksOf, prefixesOf, linkOf, linkIn, prefixOf, networkOf, linkGood, linkNew, prefixGood, routersNew, blocksNeeded}
 use Rattle.lfa.specs.Refusal.{fileReturned, badLink, parallelLink, badPrefix, routerTwice, decided, firstRow}
-use Rattle.lfa.specs.Laws.List.{getD-in, none-failing}
+use Rattle.lfa.specs.Laws.List.{getD-in}
+use Rattle.lfa.specs.Laws.FirstFailing.{none-failing}
 use Rattle.lfa.specs.Laws.Counting.{length-map-below}
 use Rattle.lfa.specs.Laws.Rows.{none-decides}
 use Rattle.lfa.specs.Laws.File.RowFacts.{link-facts}

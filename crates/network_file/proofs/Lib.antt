@@ -1,7 +1,10 @@
 pub mod ColumnLaws
 pub mod TableLaws
 pub mod LinkLaws
+pub mod EveryLaws
 pub mod SlotLaws
+pub mod PlaceLaws
 pub mod PrefixLaws
+pub mod AttachmentLaws
 pub mod EntryLaws
 pub mod LoadLaws

@@ -6,14 +6,13 @@ use mathlib.Core.Bool.{Bool, true, false, _&&_}
 use mathlib.Core.Logic.{_⊎_, inl, inr}
 use mathlib.Core.List.{[], _∷_}
 use native.Mathlib.Omega.{arith}
-use native.Mathlib.Numerals.{add-one}
 use lib.Dec.{eqb, ltb}
 use lib.ListN.{length, getD, drop, length-drop}
 use lib.Seq.{getD-drop}
 use borrow.Author.Tests.{eqb-true, eq-eqb, ltb-true, ltb-false, lt-ltb, le-ltb}
 use Rattle.lfa.specs.Lists.{everyBelow}
 use Rattle.lfa.specs.File.{Bytes, byteAt, wordAt, allZero, slotRouter, slotGood}
-use Rattle.lfa.specs.Laws.Test.{and-left, and-right, and-make, fails-right, decide, same-test}
+use Rattle.lfa.specs.Laws.Test.{and-left, and-right, and-make, decide, same-test}
 use Rattle.lfa.specs.Laws.List.{every-gives, every-make}
 use Rattle.network_file.specs.Entry.{slotSound}
 
@@ -77,21 +76,6 @@ passes-used n e count s b = rw (slotPasses, b)
 passes-unused : (n : ℕ) (e : Bytes) (count s : ℕ) → ltb s count ≡ false → slotPasses n e count s ≡ eqb (wordAt e (2 + 4 * s) + 65536 * wordAt e (4 + 4 * s)) 0
 unfolding slotPasses
 passes-unused n e count s b = rw (slotPasses, b)
-
--- ---- a loop that tests every number below n and goes on after one that fails
-
-module _ (p : ℕ → Bool) (i : ℕ) where
-  pub passed-more : {y z : Bool} → p i ≡ true → y ≡ z → z ≡ everyBelow p i → y ≡ everyBelow p (i + 1)
-  unfolding everyBelow
-  passed-more t q inv = q ∙ inv ∙ sym (rw (add-one i, everyBelow, t) (all-true (everyBelow p i)))
-    where
-      all-true : (b : Bool) → (b && true) ≡ b
-      all-true true = refl
-      all-true false = refl
-
-  pub failed-more : {y : Bool} → p i ≡ false → y ≡ false → y ≡ everyBelow p (i + 1)
-  unfolding everyBelow
-  failed-more t q = q ∙ sym (rw (add-one i, everyBelow) (fails-right (everyBelow p i) (p i) t))
 
 -- ---- all eight slots
 

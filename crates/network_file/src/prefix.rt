@@ -1,4 +1,5 @@
 // Prefixes: rows 8 and 9, and their entries read into columns.
+use metric::read::wide;
 ghost use mathlib.Core.Path.{_≡_};
 ghost use mathlib.Core.Bool.{_&&_};
 ghost use Prim.Native.Nat.{ℕ, _+_, _*_, _/_, _%_, _≤_, _<_};
@@ -73,13 +74,6 @@ fn slot_word(entry: &[u8], s: usize) -> u32
 {
     let k = 2 + 4 * s;
     word32_of(entry[k], entry[k + 1], entry[k + 2], entry[k + 3])
-}
-
-// A byte as a number to count and to index with.
-fn wide(byte: u8) -> usize
-    ensures { λ r. ⌜ r ≡ byte ⌝ }
-{
-    byte as usize
 }
 
 // Row 8 at one slot. The router of a used slot is below N and its second byte zero, that is, both as one number are below N; a slot

@@ -1,1 +1,4 @@
-pub mod OptionLaws
+pub mod NextLaws
+pub mod MemberLaws
+pub mod DeliveryLaws
+pub mod MoveLaws

@@ -11,8 +11,8 @@ use Rattle.lfa.specs.Network.{Arc, arc, Target}
 use Rattle.lfa.specs.Distance.{unreachable}
 use Rattle.lfa.specs.Space.{has, setOf}
 use Rattle.lfa.specs.Route.{Move, deliver, go, attachedAt, movesOf, optionTaken}
-use Rattle.distance.specs.Columns.{arcsIn}
-use Rattle.column.specs.Column.{slotsIn}
+use Rattle.metric.specs.Columns.{arcsIn}
+use Rattle.metric.specs.Column.{slotsIn}
 use Rattle.options.specs.declared.Move as declared
 use Rattle.options.specs.declared.Move.the-variants.{Deliver, Go}
 
@@ -23,30 +23,30 @@ moveIn (Go z) = go z
 
 -- the arc is a step from x to z, by the distances to the target
 unfoldable pub stepTo : (ℕ → ℕ) → ℕ → ℕ → Arc → Bool
-stepTo to x z (arc u v c l) = (eqb u x && eqb (min (c + to v) unreachable) (to x) && ltb (to x) unreachable) && eqb v z
+stepTo target x z (arc u v c l) = (eqb u x && eqb (min (c + target v) unreachable) (target x) && ltb (target x) unreachable) && eqb v z
 
 -- some arc is
 unfoldable pub nextBy : (ℕ → ℕ) → List Arc → ℕ → ℕ → Bool
-nextBy to hops x z = anyOf (stepTo to x z) hops
+nextBy target hops x z = anyOf (stepTo target x z) hops
 
 -- x may deliver, at this distance from the target
 unfoldable pub deliversBy : ℕ → Target → ℕ → Bool
-deliversBy d to x = ltb d unreachable && anyOf (attachedAt x d) to
+deliversBy d slots x = ltb d unreachable && anyOf (attachedAt x d) slots
 
 -- the members of a set, ascending
 unfoldable pub membersOf : ℕ → List ℕ
 membersOf set = select (has set) (below 64)
 
 -- the links, the slots in use and the router are cells of the columns
-unfoldable pub fits : (links first count x : ℕ) → Bool
-fits links first count x = leb links 128 && leb (first + count) 1024 && ltb x 64
+unfoldable pub fits : (links slot count x : ℕ) → Bool
+fits links slot count x = leb links 128 && leb (slot + count) 1024 && ltb x 64
 
 -- The move that a choice byte takes at router x, for any numbers: delivery, where they are not cells of the columns. Among the next
 -- routers are those below 64 alone, whatever numbers the links hold.
-unfoldable pub moveBy : (links : ℕ) → (from to out back routers costs : List ℕ) → (first count : ℕ) → (target : List ℕ) → (x byte : ℕ) → Move
-moveBy links from to out back routers costs first count target x byte =
-    elim (fits links first count x) [
+unfoldable pub moveBy : (links : ℕ) → (from to out back routers costs : List ℕ) → (slot count : ℕ) → (target : List ℕ) → (x byte : ℕ) → Move
+moveBy links from to out back routers costs slot count target x byte =
+    elim (fits links slot count x) [
       | true ↦
-          optionTaken (movesOf (deliversBy (getD target x 0) (slotsIn routers costs first count) x) (membersOf (setOf 64 (nextBy (λ y. getD target y 0) (arcsIn from to out back links) x)))) byte
+          optionTaken (movesOf (deliversBy (getD target x 0) (slotsIn routers costs slot count) x) (membersOf (setOf 64 (nextBy (λ y. getD target y 0) (arcsIn from to out back links) x)))) byte
       | false ↦ deliver
     ]

@@ -7,10 +7,12 @@ ghost use lib.ListN.{getD};
 ghost use Rattle.lfa.specs.Network.{arc};
 ghost use Rattle.lfa.specs.Space.{setOf};
 ghost use Rattle.lfa.specs.Route.{movesOf, optionTaken};
-ghost use Rattle.distance.specs.Columns.{arcsIn};
-ghost use Rattle.column.specs.Column.{slotsIn};
+ghost use Rattle.metric.specs.Columns.{arcsIn};
+ghost use Rattle.metric.specs.Column.{slotsIn};
 ghost use Rattle.options.specs.Options.{moveIn, stepTo, nextBy, deliversBy, membersOf, moveBy};
 use metric::Distance;
+use metric::read::cost_of;
+use metric::read::wide;
 
 // What an option does: it delivers the packet, or takes it to the next router.
 pub enum Move {
@@ -18,27 +20,13 @@ pub enum Move {
     Go(usize),
 }
 
-// A router's number, or a choice byte, as an index.
-fn wide(x: u8) -> usize
-    ensures { λ r. ⌜ r ≡ x ⌝ }
-{
-    x as usize
-}
-
-// A link's or an attachment's cost as a distance.
-fn cost_of(c: u16) -> u32
-    ensures { λ r. ⌜ r ≡ c ⌝ }
-{
-    c as u32
-}
-
 // The set of the router that a hop from u to v at this cost leads to, where it is a step of a walk at x, and the empty set where it is
-// not, or where v is above 63. `to` holds the distances to the target.
-fn step_to(u: u8, v: u8, cost: u16, to: &[u32; 64], x: usize) -> u64
+// not, or where v is above 63. `target` holds the distances to the target.
+fn step_to(u: u8, v: u8, cost: u16, target: &[u32; 64], x: usize) -> u64
     requires { ⌜ x < 64 ⌝ }
-    ensures { λ r. ⌜ ((l : ℕ) → r ≡ setOf 64 (λ z. stepTo (λ y. getD (now (to .entry)) y 0) x z (arc u v cost l))) ⌝ }
+    ensures { λ r. ⌜ ((l : ℕ) → r ≡ setOf 64 (λ z. stepTo (λ y. getD (now (target .entry)) y 0) x z (arc u v cost l))) ⌝ }
 {
-    let own = to[x];
+    let own = target[x];
     if wide(u) != x {
         return 0;
     }
@@ -49,7 +37,7 @@ fn step_to(u: u8, v: u8, cost: u16, to: &[u32; 64], x: usize) -> u64
     if 64 <= head {
         return 0;
     }
-    if Distance::add(cost_of(cost), to[head]) != own {
+    if Distance::add(cost_of(cost), target[head]) != own {
         return 0;
     }
     1u64 << head
@@ -78,17 +66,17 @@ fn next_routers(
     set
 }
 
-// Whether x may deliver to the target whose attachments start at slot `first`.
+// Whether x may deliver to the target whose first slot is `slot`.
 fn delivers(
     at: &[u8; 1024],
     own: &[u16; 1024],
-    first: usize,
+    slot: usize,
     count: usize,
     target: &[u32; 64],
     x: usize,
 ) -> bool
-    requires { ⌜ (first + count ≤ 1024) × (x < 64) ⌝ }
-    ensures { λ r. ⌜ r ≡ deliversBy (getD (now (target .entry)) x 0) (slotsIn (now (at .entry)) (now (own .entry)) first count) x ⌝ }
+    requires { ⌜ (slot + count ≤ 1024) × (x < 64) ⌝ }
+    ensures { λ r. ⌜ r ≡ deliversBy (getD (now (target .entry)) x 0) (slotsIn (now (at .entry)) (now (own .entry)) slot count) x ⌝ }
 {
     let d = target[x];
     if Distance::UNREACHABLE <= d {
@@ -96,7 +84,7 @@ fn delivers(
     }
     let mut s = 0;
     while s < count {
-        let k = first + s;
+        let k = slot + s;
         if wide(at[k]) == x && cost_of(own[k]) == d {
             return true;
         }
@@ -151,27 +139,27 @@ pub fn move_at<'a>(
     back: &'a [u16; 128],
     at: &'a [u8; 1024],
     own: &'a [u16; 1024],
-    first: usize,
+    slot: usize,
     count: usize,
     target: &'a [u32; 64],
     x: usize,
     byte: u8,
 ) -> Move
-    ensures { λ r. ⌜ moveIn r ≡ moveBy links (now (from .entry)) (now (to .entry)) (now (out .entry)) (now (back .entry)) (now (at .entry)) (now (own .entry)) first count (now (target .entry)) x byte ⌝ }
+    ensures { λ r. ⌜ moveIn r ≡ moveBy links (now (from .entry)) (now (to .entry)) (now (out .entry)) (now (back .entry)) (now (at .entry)) (now (own .entry)) slot count (now (target .entry)) x byte ⌝ }
 {
     if 128 < links {
         return Move::Deliver;
     }
-    if 1024 < first {
+    if 1024 < slot {
         return Move::Deliver;
     }
-    if 1024 - first < count {
+    if 1024 - slot < count {
         return Move::Deliver;
     }
     if 64 <= x {
         return Move::Deliver;
     }
     let next = next_routers(links, from, to, out, back, target, x);
-    let deliver = delivers(at, own, first, count, target, x);
+    let deliver = delivers(at, own, slot, count, target, x);
     option_taken(deliver, next, byte)
 }

@@ -1,55 +1,60 @@
 // The order of the pairs that serve: the class of a pair, and the earlier of two pairs. Each function takes any numbers.
 ghost use mathlib.Core.Path.{_≡_};
 ghost use Prim.Native.Nat.{_≤_};
-ghost use Rattle.lfa.specs.Repair.{key, noLater, orElse};
-ghost use Rattle.order.specs.Keys.{keysIn, foundIn, addKeys, classBy};
+ghost use Rattle.lfa.specs.Repair.{noLater, orElse};
+ghost use Rattle.order.specs.Order.{keysIn, earliestIn, earlierOf, classBy};
 
-// A pair that serves: the first hop, the endpoint, the class, the tunnel cost, and the distance from S to the endpoint, by which pairs
-// of a class are ordered.
-pub struct Chosen {
-    pub hop: usize,
+// A pair that serves, as a repair tells of it: the first hop, the endpoint, the class, and the tunnel cost.
+pub struct Pair {
+    pub first: usize,
     pub endpoint: usize,
     pub class: u32,
     pub cost: u32,
+}
+
+// A pair, with what orders it and is not told: the first key, and the distance from S to the endpoint.
+pub struct Ordered {
+    pub key: u32,
     pub distance: u32,
+    pub pair: Pair,
 }
 
 // The earliest of the pairs that were tried, if any was.
-pub enum Best {
+pub enum Earliest {
     Nothing,
-    Pair(Chosen),
+    Found(Ordered),
 }
 
-// Whether a comes no later than b: the first of class, distance, endpoint, tunnel cost and first hop in which they differ decides.
-fn no_later(a: Chosen, b: Chosen) -> bool
-    ensures { λ r. ⌜ r ≡ noLater (key (keysIn a)) (key (keysIn b)) ⌝ }
+// Whether a comes no later than b: the first of key, distance, endpoint, tunnel cost and first hop in which they differ decides.
+fn no_later(a: Ordered, b: Ordered) -> bool
+    ensures { λ r. ⌜ r ≡ noLater (keysIn a) (keysIn b) ⌝ }
 {
-    if a.class != b.class {
-        return a.class < b.class;
+    if a.key != b.key {
+        return a.key < b.key;
     }
     if a.distance != b.distance {
         return a.distance < b.distance;
     }
-    if a.endpoint != b.endpoint {
-        return a.endpoint < b.endpoint;
+    if a.pair.endpoint != b.pair.endpoint {
+        return a.pair.endpoint < b.pair.endpoint;
     }
-    if a.cost != b.cost {
-        return a.cost < b.cost;
+    if a.pair.cost != b.pair.cost {
+        return a.pair.cost < b.pair.cost;
     }
-    a.hop <= b.hop
+    a.pair.first <= b.pair.first
 }
 
 // The earlier of what was found and one pair more.
-pub fn earlier(best: Best, next: Chosen) -> Best
-    ensures { λ r. ⌜ foundIn r ≡ addKeys (foundIn best) (keysIn next) ⌝ }
+pub fn earlier(found: Earliest, next: Ordered) -> Earliest
+    ensures { λ r. ⌜ earliestIn r ≡ earlierOf (earliestIn found) next ⌝ }
 {
-    let Best::Pair(pair) = best else {
-        return Best::Pair(next);
+    let Earliest::Found(before) = found else {
+        return Earliest::Found(next);
     };
-    if no_later(pair, next) {
-        return Best::Pair(pair);
+    if no_later(before, next) {
+        return Earliest::Found(before);
     }
-    Best::Pair(next)
+    Earliest::Found(next)
 }
 
 // 0 where the test passes, else the number.

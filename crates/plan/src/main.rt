@@ -3,11 +3,11 @@
 use network_file::Verdict;
 use network_file::load;
 use network_file::network::Network;
+use order::Pair;
 use print::end;
 use print::number;
 use print::refused;
 use refusal::file_row;
-use repair::Pair;
 use repair::Repair;
 use repair::link_repair;
 ghost use Prim.Native.Nat.{_≤_};

@@ -21,7 +21,7 @@ numbersOf done = plain 2 0 0
 numbersOf unreached = plain 3 0 0
 numbersOf untouched = plain 4 0 0
 numbersOf (set members) = plain 5 0 members
-numbersOf (repair n y c k) = record { kind = 6; number = 0; value = 0; first = n; endpoint = y; class = c; cost = k }
+numbersOf (repair t) = record { kind = 6; number = 0; value = 0; first = t .first; endpoint = t .endpoint; class = t .class; cost = t .cost }
 numbersOf (played count) = plain 7 0 count
 
 -- the numbers of a file's verdict, and the network beside them

@@ -1,5 +1,4 @@
 // What a search found, as the answer of a repair call.
-use crate::Pair;
 use crate::Refusal;
 use crate::Repair;
 use search::Found;
@@ -16,11 +15,6 @@ pub fn repair_answer(found: Found) -> Repair
         Found::Unreachable => Repair::Unreachable,
         Found::Untouched => Repair::Untouched,
         Found::Nothing => Repair::Refused(Refusal::NoPair),
-        Found::Pair(pair) => Repair::Pair(Pair {
-            first: pair.first,
-            endpoint: pair.endpoint,
-            class: pair.class,
-            cost: pair.cost,
-        }),
+        Found::Pair(pair) => Repair::Pair(pair),
     }
 }

@@ -1,8 +1,8 @@
 // The repair part: distances, spaces and repairs of the network that the file part hands over. The file is only passed on, the
-// distances are those of the distance part, and the spaces and pairs those of the search part.
+// distances are those of the distance part, and the spaces and pairs those of the search part, which reads them from the work area.
 use answer::repair_answer;
-use distance::fill;
 use network_file::Fault;
+use order::Pair;
 use question::Turned;
 use question::pose;
 use rows::Asked;
@@ -43,14 +43,6 @@ pub enum SpaceAnswer {
     Refused(Refusal),
 }
 
-// A pair: the first hop, the endpoint, the class, and the tunnel cost.
-pub struct Pair {
-    pub first: usize,
-    pub endpoint: usize,
-    pub class: u32,
-    pub cost: u32,
-}
-
 // The answer of a repair call.
 pub enum Repair {
     Refused(Refusal),
@@ -65,29 +57,16 @@ pub fn distances(file: &[u8], work: &mut [u32]) -> Filled
 {
     let asked = Asked {
         call: Call::Distances,
-        area: work.len(),
         buffer: 0,
         link: 0,
         end: 0,
         prefix: 0,
     };
-    let posed = pose(file, asked);
+    let posed = pose(file, asked, work);
     let turned = posed.turned;
     if let Turned::Refused(refusal) = turned {
         return Filled::Refused(refusal);
     }
-    let network = posed.network;
-    let routers = network.routers;
-    let links = network.links;
-    fill(
-        routers,
-        links,
-        &network.from,
-        &network.to,
-        &network.out,
-        &network.back,
-        work,
-    );
     Filled::Done
 }
 
@@ -97,13 +76,12 @@ pub fn link_repair(file: &[u8], work: &mut [u32], link: usize, end: usize) -> Re
 {
     let asked = Asked {
         call: Call::Link,
-        area: work.len(),
         buffer: 0,
         link,
         end,
         prefix: 0,
     };
-    let posed = pose(file, asked);
+    let posed = pose(file, asked, work);
     let turned = posed.turned;
     if let Turned::Refused(refusal) = turned {
         return Repair::Refused(refusal);
@@ -125,13 +103,12 @@ pub fn prefix_repair(
 {
     let asked = Asked {
         call: Call::Prefix,
-        area: work.len(),
         buffer: 0,
         link,
         end,
         prefix,
     };
-    let posed = pose(file, asked);
+    let posed = pose(file, asked, work);
     let turned = posed.turned;
     if let Turned::Refused(refusal) = turned {
         return Repair::Refused(refusal);
@@ -147,13 +124,12 @@ fn ask_space(file: &[u8], work: &mut [u32], link: usize, end: usize, which: Whic
 {
     let asked = Asked {
         call: Call::Link,
-        area: work.len(),
         buffer: 0,
         link,
         end,
         prefix: 0,
     };
-    let posed = pose(file, asked);
+    let posed = pose(file, asked, work);
     let turned = posed.turned;
     if let Turned::Refused(refusal) = turned {
         return SpaceAnswer::Refused(refusal);

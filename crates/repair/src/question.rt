@@ -1,5 +1,6 @@
 // Whether a question is turned away before anything is searched for: rows 1 to 9 over the file, then rows 10 to 13 over numbers.
 use crate::Refusal;
+use distance::fill;
 use network_file::Verdict;
 use network_file::load;
 use network_file::network::Network;
@@ -8,10 +9,9 @@ use rows::Row;
 use rows::first_row;
 ghost use Prim.Native.Nat.{_≤_};
 ghost use mathlib.Core.Path.{_≡_};
-ghost use Rattle.lfa.specs.Answer.{earlyAnswer, networkLoaded};
-ghost use Rattle.network_file.specs.Struct.{structOf};
+ghost use lib.ListN.{length};
 ghost use Rattle.rows.specs.Rows.{questionAbout};
-ghost use Rattle.repair.specs.Answer.{turnedAnswer, rowAnswer};
+ghost use Rattle.repair.specs.Answer.{turnedAnswer, rowAnswer, Judges};
 
 // What turns a question away, if anything does.
 pub enum Turned {
@@ -46,9 +46,10 @@ fn turned_by(row: Row) -> Turned
     }
 }
 
-// Rows 1 to 13 for a question about a file, as far as its call tries them, and the network that the file holds.
-pub fn pose(file: &[u8], asked: Asked) -> Judged
-    ensures { λ r. ⌜ (turnedAnswer (r .turned) ≡ earlyAnswer (questionAbout (now (file .entry)) asked)) × (r .network ≡ structOf (networkLoaded (now (file .entry)))) ⌝ }
+// Rows 1 to 13 for a question about a file, as far as its call tries them, and the network that the file holds. Where none of them applies,
+// the work area holds the distances of the network.
+pub fn pose(file: &[u8], asked: Asked, work: &mut [u32]) -> Judged
+    ensures { λ r. ⌜ Judges (questionAbout (now (file .entry)) (length (now (work .entry))) asked) (r .turned) (r .network) (now (work .entry)) (now (work .exit)) ⌝ }
 {
     let loaded = load(file);
     let verdict = loaded.verdict;
@@ -59,14 +60,20 @@ pub fn pose(file: &[u8], asked: Asked) -> Judged
             network,
         };
     }
-    let row = first_row(
-        narrow(network.routers),
-        network.links,
-        network.prefixes,
-        asked,
-    );
-    Judged {
-        turned: turned_by(row),
-        network,
+    let routers = network.routers;
+    let links = network.links;
+    let row = first_row(narrow(routers), links, network.prefixes, work.len(), asked);
+    let turned = turned_by(row);
+    if let Turned::Ready = turned {
+        fill(
+            routers,
+            links,
+            &network.from,
+            &network.to,
+            &network.out,
+            &network.back,
+            work,
+        );
     }
+    Judged { turned, network }
 }

@@ -1,84 +1,123 @@
--- The route of a pair, said of the columns and the area that the play reads.
+-- The route of the pair that was found, said of the columns and the area that the play reads.
 -- Assumes nothing.
 use Prim.Native.Nat.{ℕ, _*_, _≤_, _<_}
-use mathlib.Core.Path.{_≡_, ap, _∙_}
-use mathlib.Core.List.{List, []}
+use mathlib.Core.Path.{_≡_, refl, sym, ap, _∙_, subst}
+use mathlib.Core.List.{List, [], _++_}
 use native.Mathlib.Omega.{arith}
-use lib.ListN.{length, getD}
-use Rattle.lfa.specs.Network.{arcs}
-use Rattle.lfa.specs.File.{Bytes, networkOf}
-use Rattle.lfa.specs.Distance.{distances, distanceIn, filled}
+use lib.ListN.{length, getD, drop}
+use Rattle.lfa.specs.Lists.{memberOf, anyOf}
+use Rattle.lfa.specs.File.{byteAt, networkOf}
+use Rattle.lfa.specs.Distance.{filled}
 use Rattle.lfa.specs.Space.{Protected, protected}
+use Rattle.lfa.specs.Repair.{Told, Outcome, serving}
 use Rattle.lfa.specs.Route.{NamedRoute}
-use Rattle.lfa.specs.Question.{askPrefix, askRoute}
+use Rattle.lfa.specs.Question.{Question, route, workArea, routeBuffer, aLink, aPrefix, lent, inputsOf, inputNumber, hasInput, HasInput, networkAsked, linkAsked, prefixAsked, prefixFound}
 use Rattle.lfa.specs.Refusal.{Posed}
-use Rattle.lfa.specs.Answer.{repair, answerTo, workAfter}
+use Rattle.lfa.specs.Answer.{played, answerTo, routeAfter}
+use Rattle.lfa.specs.Laws.Accepted.{accepted-descend, accepted-sound, accepted-named, prefix-count}
+use Rattle.lfa.specs.Laws.Replies.{has, told-first-in, told-endpoint-in, played-named}
 use Rattle.lfa.specs.Laws.Work.{work-length}
 use Rattle.network_file.specs.declared.network.Network.{Network}
-use Rattle.distance.specs.Columns.{arcsIn}
-use Rattle.distance.specs.Area.{held}
-use Rattle.column.specs.Column.{slotsIn}
-use Rattle.lfa.specs.Laws.Accepted.{accepted-descend}
-use Rattle.search.specs.Spaces.{protectedIn}
-use Rattle.repair.specs.Laws.Named.{routers-same, hops-are, held-is, prefix-slots, prefix-target, protected-is}
+use Rattle.metric.specs.Columns.{arcsIn}
+use Rattle.metric.specs.Area.{held}
+use Rattle.metric.specs.Column.{slotsIn}
+use Rattle.search.specs.Calls.{protectedOf, prefixBy}
+use Rattle.repair.specs.declared.question.Turned.{Turned}
+use Rattle.repair.specs.declared.question.Turned.the-variants.{Ready}
+use Rattle.repair.specs.Answer.{Judges}
+use Rattle.repair.specs.Laws.Posed.{ready-posed, ready-taken, area-filled}
+use Rattle.repair.specs.Laws.Searched.{prefix-searched}
+use Rattle.repair.specs.Laws.Named.{routers-same, hops-are, held-is, prefix-cell, prefix-slots, prefix-target, protected-is}
 use Rattle.repair.specs.Taken.{Taken}
-use Rattle.repair.specs.Laws.Loaded.{routers-are, columns-within}
-use Rattle.repair.specs.declared.Repair.the-variants as answer
+use Rattle.repair.specs.Laws.Loaded.{limits, columns-within, prefixes-are}
 use Rattle.route.specs.Leg.{Playable}
-use Rattle.route.proofs.RouteLaws.{area-long, buffer-long, prefix-handed, link-handed, area-filled, near-below, hop-below, endpoint-below, named-route, route-short, Route}
 
-module _ {b : Bytes} {network : Network} (t : Taken b network) (p : ℕ) (p-in : p < network .prefixes) {count : ℕ} (count-is : count ≡ getD (network .attached) p 0) where
-  pub playable : {cells : ℕ} → network .routers * network .routers ≤ cells →
-      Playable (network .routers) cells (network .links) (network .from) (network .to) (network .out) (network .back) (network .at) (8 * p) count
-  playable enough = record {
-    within = columns-within t;
-    descends = rw (hops-are t) (accepted-descend b (t .is-accepted));
-    slots = prefix-slots t p p-in count-is;
-    long = enough;
-  }
+-- a route question that is posed and not turned away
+module _ {q : Question} {turned : Turned} {network : Network} {area after : List ℕ} (j : Judges q turned network area after) (bytes : (i : ℕ) → byteAt (q .file) i < 256) (ready : turned ≡ Ready) (c : q .call ≡ route) where
+  pub p : Posed q
+  p = ready-posed j bytes ready
 
-  pub in-columns : (area : List ℕ) {after route choices : List ℕ} {s near m y : ℕ} → after ≡ filled (networkOf b) area → near ≡ s →
-      NamedRoute (networkOf b .routers) (arcs (networkOf b)) (distanceIn (distances (networkOf b))) (getD (networkOf b .prefixes) p []) choices s m y route →
-      NamedRoute (network .routers) (arcsIn (network .from) (network .to) (network .out) (network .back) (network .links)) (held (network .routers) after)
-      (slotsIn (network .at) (network .own) (8 * p) count) choices near m y route
-  in-columns area f e r = rw (held-is t area f, hops-are t, prefix-target t p p-in count-is, routers-same t, e) r
+  pub t : Taken (q .file) network
+  t = ready-taken j bytes ready
 
--- what the play asks, where the repairing router and the number of attachments were read from the columns
-module _ {b : Bytes} {network : Network} (t : Taken b network) (area : List ℕ) (buffer l e p : ℕ) (choices : List ℕ) (s : Posed (askRoute b (length area) buffer l e p choices)) {m y class cost : ℕ}
-    (a : repair m y class cost ≡ answerTo (askPrefix b (length area) l e p)) {after : List ℕ} (after-is : after ≡ workAfter (askPrefix b (length area) l e p) area)
-    {near count : ℕ} (near-is : near ≡ protectedIn (network .from) (network .to) (network .out) (network .back) l e .near) (count-is : count ≡ getD (network .attached) p 0) where
-  prefix-in : p < network .prefixes
-  prefix-in = prefix-handed t (length area) buffer l e p choices s
+  link-there : q .link < length (networkOf (q .file) .links)
+  unfolding networkAsked hasInput inputsOf inputNumber memberOf anyOf
+  link-there = p .link (has q p aLink c refl)
 
-  near-same : near ≡ protected (networkOf b) l e .near
-  near-same = near-is ∙ ap (λ (q : Protected). q .near) (protected-is t l e (link-handed t (length area) buffer l e p choices s))
+  pub link-cell : q .link < 128
+  link-cell = omega (arith, link-there, limits t .few-links)
 
-  filled-is : after ≡ filled (networkOf b) area
-  filled-is = after-is ∙ area-filled t (length area) buffer l e p choices s area
+  prefix-there : q .prefix < network .prefixes
+  unfolding networkAsked hasInput inputsOf inputNumber memberOf anyOf
+  prefix-there = rw (prefixes-are t, ← prefix-count (q .file) (t .is-accepted)) (p .prefix (has q p aPrefix c refl))
 
-  area-enough-for : network .routers * network .routers ≤ length after
-  area-enough-for =
-      let k : networkOf b .routers * networkOf b .routers ≤ length area = rw (← routers-same t) (rw (routers-are t) (area-long t (length area) buffer l e p choices s)) in
-      rw (routers-same t, filled-is) (omega (arith, work-length (networkOf b) area k))
+  pub prefix-column : q .prefix < 128
+  prefix-column = prefix-cell t (q .prefix) prefix-there
 
-  abbrev pub TheRoute : List ℕ
-  TheRoute = Route t (length area) buffer l e p choices s a
+  cells-enough : networkOf (q .file) .routers * networkOf (q .file) .routers ≤ length area
+  unfolding networkAsked hasInput inputsOf inputNumber memberOf anyOf
+  cells-enough = omega (arith, j .cells-are, p .area (has q p (lent workArea) c refl))
 
-  pub played-route : NamedRoute (network .routers) (arcsIn (network .from) (network .to) (network .out) (network .back) (network .links)) (held (network .routers) after)
-      (slotsIn (network .at) (network .own) (8 * p) count) choices near m y TheRoute
-  played-route = in-columns t p prefix-in count-is area filled-is near-same (named-route t (length area) buffer l e p choices s a)
+  -- what the search finds is what the prefix repair finds
+  pub route-searched : {o : Outcome} → o ≡ prefixBy network (q .link) (q .end) (q .prefix) after → o ≡ prefixFound q
+  unfolding hasInput inputsOf inputNumber memberOf anyOf
+  route-searched e = e ∙ prefix-searched p t area (j .cells-are) (area-filled j bytes ready) (has q p aLink c refl) (has q p (lent workArea) c refl) (has q p aPrefix c refl)
 
-  pub play-ready : Playable (network .routers) (length after) (network .links) (network .from) (network .to) (network .out) (network .back) (network .at) (8 * p) count
-      × (near < network .routers) × (m < network .routers) × (y < network .routers)
-      × ((route : List ℕ) × NamedRoute (network .routers) (arcsIn (network .from) (network .to) (network .out) (network .back) (network .links)) (held (network .routers) after)
-      (slotsIn (network .at) (network .own) (8 * p) count) choices near m y route × (length route ≤ buffer) × (length route ≤ 2 * network .routers))
-  play-ready =
-      let few = route-short t (length area) buffer l e p choices s a in
-      let n = routers-same t in
-      let r = routers-are t in (
-        playable t p prefix-in count-is area-enough-for,
-        omega (arith, near-same, near-below t (length area) buffer l e p choices s),
-        omega (arith, hop-below t (length area) buffer l e p choices s a),
-        omega (arith, endpoint-below t (length area) buffer l e p choices s a),
-        (TheRoute, played-route, omega (arith, buffer-long t (length area) buffer l e p choices s), omega arith),
-      )
+  -- the pair that was found
+  module _ {told : Told} (found : prefixFound q ≡ serving told) where
+    -- the route that is written
+    abbrev pub TheRoute : List ℕ
+    TheRoute = played-named q p c found .routers
+
+    pub route-answered : played (length TheRoute) ≡ answerTo q
+    route-answered = sym (played-named q p c found .count)
+
+    pub buffer-written : (buffer : List ℕ) → TheRoute ++ drop (length TheRoute) buffer ≡ routeAfter q buffer
+    buffer-written buffer = sym (played-named q p c found .written buffer)
+
+    -- what the play asks, where the repairing router and the number of attachments were read from the columns
+    module _ {near count : ℕ} (near-is : near ≡ protectedOf network (q .link) (q .end) .near) (count-is : count ≡ getD (network .attached) (q .prefix) 0) where
+      near-same : near ≡ protected (networkOf (q .file)) (q .link) (q .end) .near
+      near-same = near-is ∙ ap (λ (r : Protected). r .near) (protected-is t (q .link) (q .end) link-there)
+
+      abbrev InColumns : List ℕ → Type 0
+      InColumns r =
+          NamedRoute (network .routers) (arcsIn (network .from) (network .to) (network .out) (network .back) (network .links)) (held (network .routers) after)
+          (slotsIn (network .at) (network .own) (8 * q .prefix) count) (q .choices) near (told .first) (told .endpoint) r
+
+      pub played-route : InColumns TheRoute
+      unfolding networkAsked linkAsked prefixAsked
+      played-route = same (routers-same t) (hops-are t) (held-is t area (area-filled j bytes ready)) (prefix-target t (q .prefix) prefix-there count-is) near-same (played-named q p c found .named)
+        where
+          same : {n n′ : ℕ} {hops hops′ : List _} {d d′ : ℕ → ℕ → ℕ} {to to′ : _} {s s′ : ℕ} {choices r : List ℕ} {m y : ℕ} → n ≡ n′ → hops ≡ hops′ → d ≡ d′ → to ≡ to′ → s ≡ s′ →
+              NamedRoute n′ hops′ d′ to′ choices s′ m y r → NamedRoute n hops d to choices s m y r
+          same e₁ e₂ e₃ e₄ e₅ r = rw (e₁, e₂, e₃, e₄, e₅) r
+
+      long : network .routers * network .routers ≤ length after
+      long =
+          let k : networkOf (q .file) .routers * networkOf (q .file) .routers ≤ length after = rw (area-filled j bytes ready) (omega (arith, cells-enough, work-length (networkOf (q .file)) area cells-enough)) in
+          subst (λ (n : ℕ). n * n ≤ length after) (sym (routers-same t)) k
+
+      playable : Playable (network .routers) (length after) (network .links) (network .from) (network .to) (network .out) (network .back) (network .at) (8 * q .prefix) count
+      playable = record {
+        within = columns-within t;
+        descends = rw (hops-are t) (accepted-descend (q .file) (t .is-accepted));
+        slots = prefix-slots t (q .prefix) prefix-there count-is;
+        long = long;
+      }
+
+      pub play-ready : Playable (network .routers) (length after) (network .links) (network .from) (network .to) (network .out) (network .back) (network .at) (8 * q .prefix) count
+          × (near < network .routers) × (told .first < network .routers) × (told .endpoint < network .routers)
+          × ((r : List ℕ) × InColumns r × (length r ≤ q .buffer) × (length r ≤ 2 * network .routers))
+      unfolding networkAsked hasInput inputsOf inputNumber memberOf anyOf
+      play-ready =
+          let few = played-named q p c found .fits in
+          let n = routers-same t in
+          let sound = accepted-sound (q .file) (t .is-accepted) in
+          let outward = accepted-named (q .file) (t .is-accepted) (q .link) (q .end) link-there .outward in (
+            playable,
+            omega (arith, near-same, sound .within .from outward),
+            omega (arith, told-first-in q p c found),
+            omega (arith, told-endpoint-in q p c found),
+            (TheRoute, played-route, omega (arith, p .buffer (has q p (lent routeBuffer) c refl)), omega arith),
+          )

@@ -1,6 +1,6 @@
 -- The play of a named route: the slots of the tunnel's target, the two legs, and what the buffer holds after them.
 -- Assumes nothing.
-use Prim.Native.Nat.{ℕ, suc, _+_, _-_, _≤_, _<_}
+use Prim.Native.Nat.{ℕ, suc, _+_, _≤_, _<_}
 use mathlib.Core.Path.{_≡_, sym, ap, ap₂, _∙_}
 use mathlib.Core.List.{List, [], _∷_, _++_}
 use native.Mathlib.Omega.{arith}
@@ -9,10 +9,10 @@ use lib.Seq.{length-take-le, getD-set-same, take-append-seam, drop-append-add, d
 use Rattle.lfa.specs.Lists.{countUp, below}
 use Rattle.lfa.specs.Network.{Arc, at, Target, router}
 use Rattle.lfa.specs.Route.{options, NamedRoute}
-use Rattle.lfa.specs.Laws.Route.{bytes-used}
-use Rattle.distance.specs.Columns.{arcsIn}
-use Rattle.column.specs.Column.{slotsIn}
-use Rattle.distance.specs.Laws.Columns.{columns-within}
+use Rattle.lfa.specs.Laws.Legs.{bytes-used}
+use Rattle.metric.specs.Columns.{arcsIn}
+use Rattle.metric.specs.Column.{slotsIn}
+use Rattle.metric.specs.Laws.Columns.{columns-within}
 use Rattle.route.specs.Leg.{Leg, Playable}
 use Rattle.route.proofs.LegLaws.{first-leg, second-leg}
 
@@ -32,7 +32,7 @@ pub tunnel-target : (y : ℕ) → slotsIn (slots y) free 0 1 ≡ router y
 unfolding slotsIn below countUp router
 tunnel-target y = ap (λ (a : ℕ). at a 0 ∷ []) (first-slot y)
 
-pub tunnel-playable : {n cells links first count : ℕ} {from to out back routers : List ℕ} (y : ℕ) → y < n → Playable n cells links from to out back routers first count →
+pub tunnel-playable : {n cells links slot count : ℕ} {from to out back routers : List ℕ} (y : ℕ) → y < n → Playable n cells links from to out back routers slot count →
     Playable n cells links from to out back (slots y) 0 1
 tunnel-playable {n} y h p = record {
   within = p .within;
@@ -46,7 +46,7 @@ tunnel-playable {n} y h p = record {
 
 -- ---- the legs of a named route
 
-module _ {n cells links first count : ℕ} {from to out back routers : List ℕ} (p : Playable n cells links from to out back routers first count)
+module _ {n cells links slot count : ℕ} {from to out back routers : List ℕ} (p : Playable n cells links from to out back routers slot count)
     (d : ℕ → ℕ → ℕ) (target : Target) (choices : List ℕ) (s m y : ℕ) (y-in : y < n) {route : List ℕ} (r : NamedRoute n (arcsIn from to out back links) d target choices s m y route) where
   abbrev hops : List Arc
   hops = arcsIn from to out back links
@@ -54,13 +54,17 @@ module _ {n cells links first count : ℕ} {from to out back routers : List ℕ}
   pub route-length : length route ≡ 2 + length (r .tunnel) + length (r .rest)
   route-length = ap length (r .whole) ∙ omega (arith, length-append (r .tunnel) (r .rest))
 
-  pub tunnel-leg : Leg (options n hops d (slotsIn (slots y) free 0 1)) choices y 0 m (r .tunnel)
+  pub tunnel-leg : Leg (options n hops d (slotsIn (slots y) free 0 1)) choices y 0 m (r .tunnel) (r .used)
   tunnel-leg = rw (tunnel-target y) (first-leg (r .first-leg))
 
-  pub rest-leg : {k : ℕ} → k ≡ 2 + length (r .tunnel) → Leg (options n hops d target) choices 64 (k - 2) y (r .rest)
-  rest-leg {k} e =
-      let u : r .used ≡ k - 2 = omega (arith, bytes-used (options n hops d (router y)) choices (r .first-leg)) in
-      rw u at (second-leg n (p .within .few-routers) hops (columns-within from to out back links n (p .within)) d target choices y-in (r .second-leg))
+  pub tunnel-bytes : r .used ≡ length (r .tunnel)
+  tunnel-bytes = omega (arith, bytes-used (options n hops d (router y)) choices (r .first-leg))
+
+  -- The second leg, from the bytes that the first has used. It uses one for each router that it steps to, and one to deliver.
+  pub rest-leg : {used : ℕ} → used ≡ r .used → (next : ℕ) × (next ≡ length (r .tunnel) + length (r .rest) + 1) × Leg (options n hops d target) choices 64 used y (r .rest) next
+  rest-leg e =
+      let rest = second-leg n (p .within .few-routers) hops (columns-within from to out back links n (p .within)) d target choices y-in (r .second-leg) in
+      (rest .0, omega (arith, rest .1, tunnel-bytes), rw e (rest .2))
 
 -- ---- the buffer
 

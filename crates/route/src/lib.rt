@@ -1,5 +1,6 @@
 // Played routes: the routers that a packet visits when the pair of a prefix repair carries it, choice bytes deciding between options.
 // The network and the refusals are known from the question's prologue, the pair and the distances from the search.
+use metric::read::wide;
 use play::play;
 use repair::Refusal;
 use repair::Repair;
@@ -15,7 +16,7 @@ ghost use Prim.Native.Nat.{ℕ, _<_};
 ghost use lib.ListN.{length};
 ghost use Rattle.lfa.specs.Question.{askRoute};
 ghost use Rattle.lfa.specs.Contract.{Routed};
-ghost use Rattle.search.specs.Spaces.{protectedIn};
+ghost use Rattle.search.specs.Hops.{protectedIn};
 ghost use Rattle.route.specs.Answer.{playedOf, passedOn};
 
 mod play;
@@ -26,13 +27,6 @@ pub enum Played {
     Unreachable,
     Untouched,
     Written(usize),
-}
-
-// A router's number, or a count, as an index.
-fn wide(x: u8) -> usize
-    ensures { λ r. ⌜ r ≡ x ⌝ }
-{
-    x as usize
 }
 
 // The answers of the prefix repair that have no pair, passed on.
@@ -73,13 +67,12 @@ pub fn route(
 {
     let asked = Asked {
         call: Call::Route,
-        area: work.len(),
         buffer: buffer.len(),
         link,
         end,
         prefix,
     };
-    let posed = pose(file, asked);
+    let posed = pose(file, asked, work);
     let turned = posed.turned;
     if let Turned::Refused(refusal) = turned {
         return Played::Refused(refusal);

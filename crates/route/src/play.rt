@@ -6,17 +6,23 @@ use options::move_at;
 use supply::choice;
 ghost use mathlib.Core.Path.{_≡_};
 ghost use mathlib.Core.List.{List, _++_};
-ghost use Prim.Native.Nat.{ℕ, _+_, _-_, _*_, _≤_, _<_};
+ghost use Prim.Native.Nat.{ℕ, _+_, _*_, _≤_, _<_};
 ghost use lib.ListN.{length, take, drop};
 ghost use Rattle.lfa.specs.Route.{options, NamedRoute};
-ghost use Rattle.distance.specs.Columns.{arcsIn};
-ghost use Rattle.distance.specs.Area.{held};
-ghost use Rattle.column.specs.Column.{slotsIn};
+ghost use Rattle.metric.specs.Columns.{arcsIn};
+ghost use Rattle.metric.specs.Area.{held};
+ghost use Rattle.metric.specs.Column.{slotsIn};
 ghost use Rattle.route.specs.Leg.{Leg, Playable};
 
-// Goes one leg from router `start`, with `written` routers in the buffer before, and returns how many are in it then. The first two
-// routers of a route take no choice byte, so that the byte after k routers is number k - 2. The leg ends at the router `stop`, or where
-// an option delivers; with each step the distance to the target falls.
+// How far a route has come: how many choice bytes it has used, and how many routers are written.
+struct Progress {
+    used: usize,
+    written: usize,
+}
+
+// Goes one leg from router `start` towards the target whose `count` attachments start at slot `slot`, with `used` choice bytes used and
+// `written` routers in the buffer before, and returns both numbers as they are then. A choice byte is used at each router but `stop`,
+// where the leg ends; it also ends where an option delivers. With each step the distance to the target falls.
 fn leg<'a>(
     dist: &[u32],
     n: usize,
@@ -27,29 +33,33 @@ fn leg<'a>(
     back: &'a [u16; 128],
     at: &'a [u8; 1024],
     own: &'a [u16; 1024],
-    first: usize,
+    slot: usize,
     count: usize,
     choices: &[u8],
     stop: usize,
     start: usize,
+    used: usize,
     written: usize,
     buffer: &mut [u8],
-) -> usize
-    requires { ⌜ Playable n (length (now dist)) links (now from) (now to) (now out) (now back) (now at) first count × (2 ≤ written) × (start < n)
-        × ((rs : List ℕ) × Leg (options n (arcsIn (now from) (now to) (now out) (now back) links) (held n (now dist)) (slotsIn (now at) (now own) first count)) (now choices) stop (written - 2) start rs
-        × (written + length rs ≤ length (now buffer)) × (written + length rs ≤ 2 * n)) ⌝ }
-    ensures { λ r. ⌜ ((rs : List ℕ) → Leg (options n (arcsIn (now (from .entry)) (now (to .entry)) (now (out .entry)) (now (back .entry)) links) (held n (now (dist .entry)))
-        (slotsIn (now (at .entry)) (now (own .entry)) first count)) (now (choices .entry)) stop (written - 2) start rs
-        → (r ≡ written + length rs) × (now (buffer .exit) ≡ (take written (now (buffer .entry)) ++ rs) ++ drop r (now (buffer .entry)))) ⌝ }
+) -> Progress
+    requires { ⌜ Playable n (length (now dist)) links (now from) (now to) (now out) (now back) (now at) slot count × (start < n)
+        × ((rs : List ℕ) × (next : ℕ) × Leg (options n (arcsIn (now from) (now to) (now out) (now back) links) (held n (now dist)) (slotsIn (now at) (now own) slot count)) (now choices) stop used start rs next
+        × (next ≤ 2 * n) × (written + length rs ≤ length (now buffer)) × (written + length rs ≤ 2 * n)) ⌝ }
+    ensures { λ r. ⌜ ((rs : List ℕ) (next : ℕ) → Leg (options n (arcsIn (now (from .entry)) (now (to .entry)) (now (out .entry)) (now (back .entry)) links) (held n (now (dist .entry)))
+        (slotsIn (now (at .entry)) (now (own .entry)) slot count)) (now (choices .entry)) stop used start rs next
+        → (r .used ≡ next) × (r .written ≡ written + length rs)
+        × (now (buffer .exit) ≡ (take written (now (buffer .entry)) ++ rs) ++ drop (r .written) (now (buffer .entry)))) ⌝ }
 {
-    let target = towards_prefix(dist, n, at, own, first, count);
+    let target = towards_prefix(dist, n, at, own, slot, count);
     let mut x = start;
+    let mut next = used;
     let mut k = written;
     let end = loop {
         if x == stop {
             break k;
         }
-        let byte = choice(choices, k - 2);
+        let byte = choice(choices, next);
+        next += 1;
         let taken = move_at(
             links,
             from,
@@ -58,7 +68,7 @@ fn leg<'a>(
             back,
             at,
             own,
-            first,
+            slot,
             count,
             &target,
             x,
@@ -71,11 +81,15 @@ fn leg<'a>(
         k += 1;
         x = z;
     };
-    end
+    Progress {
+        used: next,
+        written: end,
+    }
 }
 
 // Plays the route of the pair of a first hop and an endpoint: S, the leg from the first hop to the endpoint, and the leg from the
-// endpoint to delivery. The tunnel's target is the endpoint, as the single attachment of cost 0.
+// endpoint to delivery, which goes on with the choice byte after those that the other has used. The tunnel's target is the endpoint, as
+// the single attachment of cost 0.
 pub(crate) fn play<'a>(
     dist: &[u32],
     n: usize,
@@ -86,7 +100,7 @@ pub(crate) fn play<'a>(
     back: &'a [u16; 128],
     at: &'a [u8; 1024],
     own: &'a [u16; 1024],
-    first: usize,
+    slot: usize,
     count: usize,
     choices: &[u8],
     near: usize,
@@ -94,11 +108,11 @@ pub(crate) fn play<'a>(
     endpoint: usize,
     buffer: &mut [u8],
 ) -> usize
-    requires { ⌜ Playable n (length (now dist)) links (now from) (now to) (now out) (now back) (now at) first count × (near < n) × (hop < n) × (endpoint < n)
-        × ((route : List ℕ) × NamedRoute n (arcsIn (now from) (now to) (now out) (now back) links) (held n (now dist)) (slotsIn (now at) (now own) first count) (now choices) near hop endpoint route
+    requires { ⌜ Playable n (length (now dist)) links (now from) (now to) (now out) (now back) (now at) slot count × (near < n) × (hop < n) × (endpoint < n)
+        × ((route : List ℕ) × NamedRoute n (arcsIn (now from) (now to) (now out) (now back) links) (held n (now dist)) (slotsIn (now at) (now own) slot count) (now choices) near hop endpoint route
         × (length route ≤ length (now buffer)) × (length route ≤ 2 * n)) ⌝ }
     ensures { λ r. ⌜ ((route : List ℕ) → NamedRoute n (arcsIn (now (from .entry)) (now (to .entry)) (now (out .entry)) (now (back .entry)) links) (held n (now (dist .entry)))
-        (slotsIn (now (at .entry)) (now (own .entry)) first count) (now (choices .entry)) near hop endpoint route
+        (slotsIn (now (at .entry)) (now (own .entry)) slot count) (now (choices .entry)) near hop endpoint route
         → (r ≡ length route) × (now (buffer .exit) ≡ route ++ drop r (now (buffer .entry)))) ⌝ }
 {
     let mut tunnel = [0u8; 1024];
@@ -121,10 +135,11 @@ pub(crate) fn play<'a>(
         choices,
         endpoint,
         hop,
+        0,
         2,
         buffer,
     );
-    leg(
+    let delivered = leg(
         dist,
         n,
         links,
@@ -134,12 +149,14 @@ pub(crate) fn play<'a>(
         back,
         at,
         own,
-        first,
+        slot,
         count,
         choices,
         64,
         endpoint,
-        arrived,
+        arrived.used,
+        arrived.written,
         buffer,
-    )
+    );
+    delivered.written
 }

@@ -10,7 +10,7 @@ use borrow.Author.Tests.{le-leb, lt-leb, lt-ltb, le-ltb}
 use Rattle.lfa.specs.Lists.{unless, select, memberOf, anyOf}
 use Rattle.lfa.specs.Question.{workArea, routeBuffer, aLink, aPrefix, lent, inputsOf, inputNumber, hasInput}
 use Rattle.lfa.specs.Refusal.{Row, shortArea, shortBuffer, noSuchLink, noSuchPrefix, entryOf, earlyRows, tries, Decided, decided, firstRow, sizedReturned}
-use Rattle.lfa.specs.Laws.List.{unless-good}
+use Rattle.lfa.specs.Laws.FirstFailing.{unless-good}
 use Rattle.lfa.specs.Laws.Rows.{nothing, also, passed-over, decides-after}
 use Rattle.rows.specs.declared.Call.{Call}
 use Rattle.rows.specs.declared.Call.the-variants.{Distances, Link, Prefix, Route}
@@ -40,22 +40,22 @@ row-passes true true e t = refl
 row-passes true false e t = absurd (false≢true (sym e))
 row-passes false passes e t = absurd (false≢true t)
 
-module _ (n l p : ℕ) (a : Asked) where
+module _ (n l p area : ℕ) (a : Asked) where
   -- what decides
   abbrev pub Early : Option (Decided Row)
-  Early = firstRow (sizedReturned n l p (questionOf a)) (select (tries (callOf (a .call))) earlyRows)
+  Early = firstRow (sizedReturned n l p (questionOf area a)) (select (tries (callOf (a .call))) earlyRows)
 
   abbrev Passes : Row → Type 0
-  Passes r = tries (callOf (a .call)) r ≡ true → sizedReturned n l p (questionOf a) r ≡ none
+  Passes r = tries (callOf (a .call)) r ≡ true → sizedReturned n l p (questionOf area a) r ≡ none
 
   -- row 10
-  pub short-area : a .area < n * n → some (decided shortArea (n * n)) ≡ Early
+  pub short-area : area < n * n → some (decided shortArea (n * n)) ≡ Early
   unfolding earlyRows tries entryOf sizedReturned questionOf questionAbout
   short-area h =
-      sym (decides-after (sizedReturned n l p (questionOf a)) (tries (callOf (a .call))) (shortBuffer ∷ noSuchLink ∷ noSuchPrefix ∷ []) shortArea (n * n) nothing (has-area (a .call))
+      sym (decides-after (sizedReturned n l p (questionOf area a)) (tries (callOf (a .call))) (shortBuffer ∷ noSuchLink ∷ noSuchPrefix ∷ []) shortArea (n * n) nothing (has-area (a .call))
       (unless-bad _ (n * n) (lt-leb _ _ h)))
 
-  module _ (enough : n * n ≤ a .area) where
+  module _ (enough : n * n ≤ area) where
     area-passes : Passes shortArea
     unfolding sizedReturned questionOf questionAbout
     area-passes t = unless-good _ (n * n) (le-leb _ _ enough)
@@ -64,7 +64,7 @@ module _ (n l p : ℕ) (a : Asked) where
     pub short-buffer : hasInput (callOf (a .call)) (lent routeBuffer) ≡ true → a .buffer < 2 * n → some (decided shortBuffer (2 * n)) ≡ Early
     unfolding earlyRows tries entryOf sizedReturned questionOf questionAbout
     short-buffer t h =
-        sym (decides-after (sizedReturned n l p (questionOf a)) (tries (callOf (a .call))) (noSuchLink ∷ noSuchPrefix ∷ []) shortBuffer (2 * n) (also area-passes nothing) t
+        sym (decides-after (sizedReturned n l p (questionOf area a)) (tries (callOf (a .call))) (noSuchLink ∷ noSuchPrefix ∷ []) shortBuffer (2 * n) (also area-passes nothing) t
         (unless-bad _ (2 * n) (lt-leb _ _ h)))
 
     module _ (long : hasInput (callOf (a .call)) (lent routeBuffer) ≡ true → 2 * n ≤ a .buffer) where
@@ -76,7 +76,7 @@ module _ (n l p : ℕ) (a : Asked) where
       pub no-link : hasInput (callOf (a .call)) aLink ≡ true → (ltb (a .link) l && leb (a .end) 1) ≡ false → some (decided noSuchLink l) ≡ Early
       unfolding earlyRows tries entryOf sizedReturned questionOf questionAbout
       no-link t h =
-          sym (decides-after (sizedReturned n l p (questionOf a)) (tries (callOf (a .call))) (noSuchPrefix ∷ []) noSuchLink l (also area-passes (also buffer-passes nothing)) t
+          sym (decides-after (sizedReturned n l p (questionOf area a)) (tries (callOf (a .call))) (noSuchPrefix ∷ []) noSuchLink l (also area-passes (also buffer-passes nothing)) t
           (unless-bad _ l h))
 
       module _ (link : hasInput (callOf (a .call)) aLink ≡ true → (ltb (a .link) l && leb (a .end) 1) ≡ true) where
@@ -88,7 +88,7 @@ module _ (n l p : ℕ) (a : Asked) where
         pub no-prefix : hasInput (callOf (a .call)) aPrefix ≡ true → p ≤ a .prefix → some (decided noSuchPrefix p) ≡ Early
         unfolding earlyRows tries entryOf sizedReturned questionOf questionAbout
         no-prefix t h =
-            sym (decides-after (sizedReturned n l p (questionOf a)) (tries (callOf (a .call))) [] noSuchPrefix p (also area-passes (also buffer-passes (also link-passes nothing))) t
+            sym (decides-after (sizedReturned n l p (questionOf area a)) (tries (callOf (a .call))) [] noSuchPrefix p (also area-passes (also buffer-passes (also link-passes nothing))) t
             (unless-bad _ p (le-ltb _ _ h)))
 
         -- none of them
@@ -100,5 +100,5 @@ module _ (n l p : ℕ) (a : Asked) where
           pub passed : none ≡ Early
           unfolding earlyRows firstRow select
           passed =
-              sym (passed-over (sizedReturned n l p (questionOf a)) (tries (callOf (a .call))) []
+              sym (passed-over (sizedReturned n l p (questionOf area a)) (tries (callOf (a .call))) []
               (also area-passes (also buffer-passes (also link-passes (also prefix-passes nothing)))))

@@ -1,5 +1,6 @@
 -- The question that the numbers of a call make, and the rows that look at numbers alone, by the counts of any file.
 -- Assumes nothing.
+use Prim.Native.Nat.{ℕ}
 use mathlib.Core.Option.{Option, none, some}
 use mathlib.Core.List.{[]}
 use Rattle.lfa.specs.File.{Bytes}
@@ -17,12 +18,12 @@ callOf Link = question.linkRepair
 callOf Prefix = question.prefixRepair
 callOf Route = question.route
 
--- the question about a file, and the same about no file in particular
-unfoldable pub questionAbout : Bytes → Asked → question.Question
-questionAbout b a = record { call = callOf (a .call); file = b; area = a .area; buffer = a .buffer; link = a .link; end = a .end; prefix = a .prefix; choices = [] }
+-- the question about a file, with a work area of so many cells, and the same about no file in particular
+unfoldable pub questionAbout : Bytes → (area : ℕ) → Asked → question.Question
+questionAbout b area a = record { call = callOf (a .call); file = b; area = area; buffer = a .buffer; link = a .link; end = a .end; prefix = a .prefix; choices = [] }
 
-unfoldable pub questionOf : Asked → question.Question
-questionOf a = questionAbout [] a
+unfoldable pub questionOf : (area : ℕ) → Asked → question.Question
+questionOf area a = questionAbout [] area a
 
 -- the row that decides, with the value that it returns, for each case of the enum
 unfoldable pub rowDecided : Row → Option (table.Decided table.Row)

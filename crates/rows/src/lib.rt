@@ -1,5 +1,6 @@
 // Rows 10 to 13 of the table of refusals, for every call that tries one of them. They look at numbers alone: the counts of a file's head
 // and those of the question.
+use metric::read::wide;
 ghost use Prim.Native.Nat.{_*_, _<_};
 ghost use mathlib.Core.Path.{_≡_};
 ghost use mathlib.Core.Bool.{not, _&&_};
@@ -17,10 +18,9 @@ pub enum Call {
     Route,
 }
 
-// The numbers of a question. Where the call has no such input, any number may stand.
+// The numbers of a question, beside the cells of its work area. Where the call has no such input, any number may stand.
 pub struct Asked {
     pub call: Call,
-    pub area: usize,
     pub buffer: usize,
     pub link: usize,
     pub end: usize,
@@ -70,13 +70,6 @@ fn inputs_of(call: Call) -> Inputs
     }
 }
 
-// The number of routers as an index.
-fn wide(x: u8) -> usize
-    ensures { λ r. ⌜ r ≡ x ⌝ }
-{
-    x as usize
-}
-
 // Whether a link and one of its two ends are named.
 fn named(links: usize, link: usize, end: usize) -> bool
     ensures { λ r. ⌜ r ≡ (ltb link links && leb end 1) ⌝ }
@@ -91,16 +84,16 @@ fn applies(tried: bool, passes: bool) -> bool
     tried && !passes
 }
 
-// The first of rows 10 to 13 that applies to a question about a file with these counts.
-pub fn first_row(routers: u8, links: usize, prefixes: usize, asked: Asked) -> Row
-    ensures { λ r. ⌜ rowDecided r ≡ firstRow (sizedReturned routers links prefixes (questionOf asked)) (select (tries (callOf (asked .call))) earlyRows) ⌝ }
+// The first of rows 10 to 13 that applies to a question about a file with these counts, `area` being the cells of the work area.
+pub fn first_row(routers: u8, links: usize, prefixes: usize, area: usize, asked: Asked) -> Row
+    ensures { λ r. ⌜ rowDecided r ≡ firstRow (sizedReturned routers links prefixes (questionOf area asked)) (select (tries (callOf (asked .call))) earlyRows) ⌝ }
 {
     let call = asked.call;
     let has = inputs_of(call);
     let n = wide(routers);
     let cells = n * n;
     let bytes = 2 * n;
-    if asked.area < cells {
+    if area < cells {
         return Row::ShortArea(cells);
     }
     if applies(has.buffer, bytes <= asked.buffer) {

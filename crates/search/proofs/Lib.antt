@@ -1,6 +1,3 @@
-pub mod ListLaws
-pub mod AreaLaws
+pub mod HopLaws
 pub mod SpaceLaws
 pub mod ChoiceLaws
-pub mod KnownLaws
-pub mod CallLaws

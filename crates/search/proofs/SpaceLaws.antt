@@ -1,175 +1,45 @@
--- Laws of spaces: what the code computes by distances are the sets of routers that avoid the link, and the arcs that it lists are the
--- first hops of the network.
+-- Laws of the spaces by numbers: one first hop more, and the test of crossing.
 -- Assumes nothing.
-use Prim.Native.Nat.{ℕ, zero, suc, _+_, _*_, _/_, _%_, _≤_, _<_, min}
+use Prim.Native.Nat.{ℕ, _+_, _≤_, _<_, min}
 use mathlib.Core.Path.{_≡_, refl, sym, ap, ap₂, _∙_}
-use mathlib.Core.Bool.{Bool, true, false, not}
-use mathlib.Core.List.{List, [], _∷_, _++_, map, map-map, append-nil, append-assoc, List·Memᴰ}
-use native.Mathlib.Numerals.{add-one}
+use mathlib.Core.Bool.{true}
+use mathlib.Core.List.{List, [], _∷_, _++_}
 use native.Mathlib.Omega.{arith}
-use lib.Dec.{ltb, eqb}
 use lib.Bits.{bitOr}
-use lib.ListN.{length, getD, set, length-set}
-use lib.Seq.{getD-set-same, getD-set-other}
-use borrow.Author.Tests.{lt-ltb, le-ltb, eq-eqb, ne-eqb}
-use Rattle.lfa.specs.Lists.{countUp, below, select, anyOf, keepIf}
-use Rattle.lfa.specs.Network.{Arc, arc, arcsFrom}
+use lib.Dec.{ltb, eqb}
+use lib.ListN.{getD}
+use borrow.Author.Tests.{ltb-true, lt-ltb, le-ltb, leb-true}
+use Rattle.lfa.specs.Lists.{countUp, below}
 use Rattle.lfa.specs.Distance.{unreachable}
-use Rattle.lfa.specs.Laws.List.{mem-below, below-mem, select-gives, map-make}
-use Rattle.lfa.specs.Laws.Counting.{map-below-same}
-use Rattle.lfa.specs.Laws.Set.{setOf-same}
-use Rattle.lfa.specs.Space.{Protected, FirstHop, hopRouter, isFirst, firstOver, firstHops, setOf}
-use Rattle.metric.specs.Fit.{ColumnsWithin}
-use Rattle.distance.specs.Columns.{linksIn, arcsIn}
-use Rattle.distance.specs.Laws.List.{below-more, map-below-more, select-append, any-more}
-use Rattle.distance.specs.Laws.Set.{or-setOf, setOf-none}
-use Rattle.distance.specs.Laws.Columns.{arcsIn-more}
-use Rattle.avoid.specs.Avoiding.{clearsTo}
-use Rattle.search.specs.Spaces.{sideOf, leavesNear, arcsListed, Listed, HopsWithin, firstBy, firstsIn, someClears, crossesOut}
-use Rattle.search.proofs.ListLaws.{select-map}
-
--- ---- arcs by their numbers
-
--- what the code reads for an arc
-pub reads-there : {w k : ℕ} (a : ℕ) (there back : List ℕ) → k ≡ a / 2 → w ≡ getD there k 0 → a % 2 ≡ 0 → w ≡ sideOf a there back
-unfolding sideOf
-reads-there a there back e f h = f ∙ rw (e, eq-eqb (a % 2) 0 h, sideOf)
-
-pub reads-back : {w k : ℕ} (a : ℕ) (there back : List ℕ) → k ≡ a / 2 → w ≡ getD back k 0 → (a % 2 ≡ 0 → ⊥) → w ≡ sideOf a there back
-unfolding sideOf
-reads-back a there back e f h = f ∙ rw (e, ne-eqb (a % 2) 0 h, sideOf)
-
-side-there : (k : ℕ) (there back : List ℕ) → sideOf (2 * k) there back ≡ getD there k 0
-side-there k there back =
-    let e : 2 * k / 2 ≡ k = omega arith in
-    sym (reads-there (2 * k) there back refl refl (omega arith)) ∙ ap (λ (i : ℕ). getD there i 0) e
-
-side-back : (k : ℕ) (there back : List ℕ) → sideOf (2 * k + 1) there back ≡ getD back k 0
-side-back k there back =
-    let e : (2 * k + 1) / 2 ≡ k = omega arith in
-    sym (reads-back (2 * k + 1) there back refl refl (λ h. absurd (omega arith))) ∙ ap (λ (i : ℕ). getD back i 0) e
-
--- an arc of the links leads to a router
-side-in : (n links a : ℕ) (there back : List ℕ) → ((k : ℕ) → k < links → getD there k 0 < n) → ((k : ℕ) → k < links → getD back k 0 < n) → a < 2 * links → sideOf a there back < n
-unfolding sideOf
-side-in n links a there back h g l = go (eqb (a % 2) 0)
-  where
-    go : (b : Bool) → elim b as (λ _. ℕ) [ true ↦ getD there (a / 2) 0 | false ↦ getD back (a / 2) 0 ] < n
-    go true = h (a / 2) (omega arith)
-    go false = g (a / 2) (omega arith)
-
-module _ (from to out back : List ℕ) where
-  abbrev arcBy : ℕ → Arc
-  arcBy a = arc (sideOf a from to) (sideOf a to from) (sideOf a out back) (a / 2)
-
-  -- the arcs of k links are those with the numbers below 2k
-  arcs-by : (k : ℕ) → arcsIn from to out back k ≡ map arcBy (below (2 * k))
-  arcs-by zero = unfold arcsIn linksIn arcsFrom below countUp in refl
-  arcs-by (suc k) =
-      let e : 2 * suc k ≡ 2 * k + 1 + 1 = omega arith in
-      let h : 2 * k / 2 ≡ k = omega arith in
-      let o : (2 * k + 1) / 2 ≡ k = omega arith in
-      let two : (arc (getD from k 0) (getD to k 0) (getD out k 0) k ∷ arc (getD to k 0) (getD from k 0) (getD back k 0) k ∷ []) ≡ (arcBy (2 * k) ∷ arcBy (2 * k + 1) ∷ []) =
-      rw (side-there k from to, side-there k to from, side-there k out back, side-back k from to, side-back k to from, side-back k out back, h, o) in
-      ap (arcsIn from to out back) (sym (add-one k)) ∙ arcsIn-more from to out back k ∙ ap₂ (λ (l m : List Arc). l ++ m) (arcs-by k) two
-      ∙ sym (append-assoc (map arcBy (below (2 * k))) (arcBy (2 * k) ∷ []) (arcBy (2 * k + 1) ∷ []))
-      ∙ ap (λ (l : List Arc). l ++ (arcBy (2 * k + 1) ∷ [])) (sym (map-below-more arcBy (2 * k)))
-      ∙ sym (map-below-more arcBy (2 * k + 1)) ∙ ap (λ (m : ℕ). map arcBy (below m)) (sym e)
-
--- ---- first hops
-
-pub leaves-tried : {w v : ℕ} (near far : ℕ) (from to : List ℕ) (a : ℕ) → w ≡ sideOf a from to → w ≡ near → v ≡ sideOf a to from → not (eqb v far) ≡ leavesNear near far from to a
-unfolding leavesNear
-leaves-tried {w} {v} near far from to a e h f = rw (← e, ← f, eq-eqb w near h)
-
-pub other-start : {w : ℕ} (near far : ℕ) (from to : List ℕ) (a : ℕ) → w ≡ sideOf a from to → (w ≡ near → ⊥) → eqb w near ≡ leavesNear near far from to a
-unfolding leavesNear
-other-start {w} near far from to a e h = rw (← e, ne-eqb w near h)
-
--- the first hops found among the arcs before a, in a column of 256 cells
-pub record FirstsFound (near far : ℕ) (from to : List ℕ) (a count : ℕ) (arcs : List ℕ) : Type 0 where
-  pub few : count ≤ a
-  pub long : length arcs ≡ 256
-  pub all : arcsListed count arcs ≡ select (leavesNear near far from to) (below a)
-
-pub firsts-none : (near far : ℕ) (from to arcs : List ℕ) → length arcs ≡ 256 → FirstsFound near far from to 0 0 arcs
-unfolding arcsListed below countUp select
-firsts-none near far from to arcs l = record { few = omega arith; long = l; all = refl }
-
--- one arc more is put after those found where it is a first hop, and else left out
-module _ (near far : ℕ) (from to : List ℕ) (a count : ℕ) (arcs : List ℕ) (f : FirstsFound near far from to a count arcs) where
-  abbrev test : ℕ → Bool
-  test = leavesNear near far from to
-
-  arc-more : (b : Bool) → test a ≡ b → select test (below (a + 1)) ≡ select test (below a) ++ keepIf b a []
-  unfolding select
-  arc-more b e = ap (select test) (below-more a) ∙ select-append test (below a) (a ∷ []) ∙ ap (λ (c : Bool). select test (below a) ++ keepIf c a []) e
-
-  put : a < 256 → arcsListed (count + 1) (set arcs count a) ≡ arcsListed count arcs ++ (a ∷ [])
-  unfolding arcsListed
-  put h =
-      map-below-more (λ i. getD (set arcs count a) i 0) count
-      ∙ ap₂ (λ (l : List ℕ) (x : ℕ). l ++ (x ∷ []))
-      (map-below-same _ _ count (λ i k. getD-set-other arcs count i a 0 (λ e. absurd (omega arith))))
-      (getD-set-same arcs count a 0 (omega (arith, f .few, f .long)))
-
-  pub first-put : a < 256 → test a ≡ true → FirstsFound near far from to (a + 1) (count + 1) (set arcs count a)
-  first-put h e = record {
-    few = omega (arith, f .few);
-    long = simp length-set (f .long);
-    all = put h ∙ ap (λ (l : List ℕ). l ++ (a ∷ [])) (f .all) ∙ sym (arc-more true e);
-  }
-
-  pub other-left : test a ≡ false → FirstsFound near far from to (a + 1) count arcs
-  other-left e = record {
-    few = omega (arith, f .few);
-    long = f .long;
-    all = f .all ∙ sym (arc-more false e ∙ append-nil (select test (below a)));
-  }
-
-module _ (q : Protected) (from to : List ℕ) (links count : ℕ) (arcs : List ℕ) (l : Listed q from to links count arcs) where
-  -- the column holds the first hops of the network, whatever the costs are
-  pub listed-firsts : (out back : List ℕ) → firstsIn from to out back count arcs ≡ firstHops q (arcsIn from to out back links)
-  unfolding firstsIn arcsListed firstBy firstHops firstOver isFirst leavesNear
-  listed-firsts out back =
-      sym (map-map (firstBy from to out back) (λ i. getD arcs i 0) (below count))
-      ∙ ap (map (firstBy from to out back)) (l .all)
-      ∙ sym (ap (λ (h : List Arc). map firstOver (select (isFirst q) h)) (arcs-by from to out back links)
-      ∙ ap (map firstOver) (select-map (isFirst q) (arcBy from to out back) (below (2 * links)))
-      ∙ map-map firstOver (arcBy from to out back) (select (leavesNear (q .near) (q .far) from to) (below (2 * links))))
-
-  -- and they are routers
-  pub listed-within : {n : ℕ} → ColumnsWithin n links from to → HopsWithin n from to count arcs
-  unfolding arcsListed
-  listed-within {n} w = record { few = l .few; head-in = head }
-    where
-      head : (i : ℕ) → i < count → sideOf (getD arcs i 0) to from < n
-      head i h =
-          let m : List·Memᴰ (getD arcs i 0) (arcsListed count arcs) = map-make (λ i. getD arcs i 0) (mem-below count i h) in
-          let s : List·Memᴰ (getD arcs i 0) (select (leavesNear (q .near) (q .far) from to) (below (2 * links))) = rw (← l .all) m in
-          side-in n links (getD arcs i 0) to from (w .to-in) (w .from-in) (below-mem (2 * links) (getD arcs i 0) (select-gives (leavesNear (q .near) (q .far) from to) (below (2 * links)) s .0))
-
--- one first hop more of a column
-pub firsts-more : (from to out back : List ℕ) (i : ℕ) (arcs : List ℕ) → firstsIn from to out back (i + 1) arcs ≡ firstsIn from to out back i arcs ++ (firstBy from to out back (getD arcs i 0) ∷ [])
-unfolding firstsIn
-firsts-more from to out back i arcs = map-below-more (λ i. firstBy from to out back (getD arcs i 0)) i
+use Rattle.lfa.specs.Space.{Protected, FirstHop}
+use Rattle.lfa.specs.Laws.Test.{and-left, and-right}
+use Rattle.metric.specs.Fit.{cellsFit}
+use Rattle.avoid.specs.Calls.{readable}
+use Rattle.search.specs.Calls.{searchable}
+use Rattle.search.specs.Hops.{sideOf, hopBy, hopsIn}
+use Rattle.search.specs.Spaces.{avoidedFrom, gathered, crossesOut}
+use Rattle.search.proofs.HopLaws.{hops-more}
 
 -- ---- extended P
 
-module _ (n : ℕ) (d : ℕ → ℕ → ℕ) (q : Protected) (from to : List ℕ) (arcs out back : List ℕ) where
-  pub no-hops : 0 ≡ setOf n (someClears d q (firstsIn from to out back 0 arcs))
-  unfolding someClears firstsIn below countUp anyOf
-  no-hops = setOf-none n
+module _ (n : ℕ) (q : Protected) (area : List ℕ) where
+  gathered-append : (set : ℕ) (l m : List FirstHop) → gathered n q area set (l ++ m) ≡ gathered n q area (gathered n q area set l) m
+  unfolding gathered
+  gathered-append set [] m = refl
+  gathered-append set (f ∷ l) m = gathered-append (bitOr set (avoidedFrom n q area (f .router))) l m
 
-  -- the routers that one first hop more avoids to
-  pub hop-more : {set more m : ℕ} (i : ℕ) → set ≡ setOf n (someClears d q (firstsIn from to out back i arcs)) →
-      m ≡ sideOf (getD arcs i 0) to from → more ≡ setOf n (clearsTo d q m) → bitOr set more ≡ setOf n (someClears d q (firstsIn from to out back (i + 1) arcs))
-  unfolding someClears hopRouter firstBy
-  hop-more {m} i e f g =
-      let found = firstsIn from to out back i arcs in
-      ap₂ bitOr e (g ∙ ap (λ (z : ℕ). setOf n (clearsTo d q z)) f) ∙ or-setOf n (someClears d q found) (clearsTo d q (sideOf (getD arcs i 0) to from))
-      ∙ setOf-same n _ _ λ r h.
-      sym (ap (λ (l : List FirstHop). someClears d q l r) (firsts-more from to out back i arcs) ∙ any-more (λ f. clearsTo d q (hopRouter f) r) found (firstBy from to out back (getD arcs i 0)))
+  module _ (from to arcs out back : List ℕ) where
+    pub no-hops : 0 ≡ gathered n q area 0 (hopsIn from to out back 0 arcs)
+    unfolding gathered hopsIn below countUp
+    no-hops = refl
+
+    -- the routers that one first hop more avoids to
+    pub hop-more : {set more m : ℕ} (i : ℕ) → set ≡ gathered n q area 0 (hopsIn from to out back i arcs) →
+        m ≡ sideOf (getD arcs i 0) to from → more ≡ avoidedFrom n q area m → bitOr set more ≡ gathered n q area 0 (hopsIn from to out back (i + 1) arcs)
+    unfolding gathered
+    hop-more {m} i e f g =
+        ap₂ bitOr e (g ∙ ap (avoidedFrom n q area) f)
+        ∙ sym (ap (gathered n q area 0) (hops-more from to out back i arcs) ∙ gathered-append 0 (hopsIn from to out back i arcs) (hopBy from to out back (getD arcs i 0) ∷ []))
 
 -- ---- crossing
 
@@ -180,3 +50,13 @@ crossing-tried {own} q h f e s = rw (s, e, lt-ltb (h (q .near)) unreachable (rw 
 pub crossing-fails : {own : ℕ} (q : Protected) (h : ℕ → ℕ) → unreachable ≤ own → own ≡ h (q .near) → ltb own unreachable ≡ crossesOut q h
 unfolding crossesOut
 crossing-fails {own} q h f e = rw (← e, le-ltb own unreachable f)
+
+-- ---- the test whether a question is searched for
+
+pub can-search : (n links : ℕ) (q : Protected) (cells : ℕ) → searchable n links q cells ≡ true → (n ≤ 64) × (q .near < 64) × (q .far < 64) × (links ≤ 128)
+unfolding searchable readable cellsFit
+can-search n links q cells e =
+    let few : n ≤ 64 = search (leb-true, and-left, and-right) in
+    let near : q .near < n = search (ltb-true, and-left, and-right) in
+    let far : q .far < n = search (ltb-true, and-right) in
+    (few, omega arith, omega arith, search (leb-true, and-left))

@@ -1,104 +1,74 @@
--- What the public functions answer for any numbers. They first test whether the numbers are those of a network, of an end of one of its
--- links and of one of its prefixes. Where the test fails, the area stays as it was, and nothing is found.
+-- What the public functions answer for any numbers, by those that the area holds. Where the columns have no cell for a link, or no
+-- distances can be read for the ends of the protected one, a space is empty, and nothing is found.
 -- Assumes nothing.
 use Prim.Native.Nat.{ℕ, _*_}
-use mathlib.Core.Path.{_≡_}
 use mathlib.Core.Bool.{Bool, true, false, _&&_}
 use mathlib.Core.List.{List}
 use lib.Dec.{ltb, leb}
 use lib.ListN.{length, getD}
-use Rattle.lfa.specs.Lists.{everyBelow}
-use Rattle.lfa.specs.Network as lfa
-use Rattle.lfa.specs.Distance.{distances, distanceIn, filled}
-use Rattle.lfa.specs.Space.{protected, Space, spaceOf}
-use Rattle.lfa.specs.Repair.{Outcome, noneServes, linkOutcome, prefixOutcome}
+use Rattle.lfa.specs.Network.{Arc}
+use Rattle.lfa.specs.Distance.{unreachable}
+use Rattle.lfa.specs.Space.{Protected, Space}
+use Rattle.lfa.specs.Repair.{Outcome, prefixUnreachable, prefixUntouched, noneServes}
 use Rattle.network_file.specs.declared.network.Network.{Network}
-use Rattle.distance.specs.Columns.{networkIn}
-use Rattle.column.specs.Column.{slotsIn}
-use Rattle.metric.specs.Fit.{cellsFit, joins, slotsFit}
+use Rattle.metric.specs.Columns.{arcsIn}
+use Rattle.column.specs.Calls.{routerColumn, prefixColumn}
+use Rattle.avoid.specs.Calls.{readable}
+use Rattle.search.specs.Hops.{protectedIn}
+use Rattle.search.specs.Spaces.{avoidingIn, spaceFor, crossesOut}
+use Rattle.search.specs.Choice.{outcomeFor, firstServing}
 
--- ---- the tests
+-- the columns have a cell for each link, and the area one for each two routers, the ends of the link among them
+unfoldable pub searchable : (n links : ℕ) → Protected → (cells : ℕ) → Bool
+searchable n links q cells = leb links 128 && readable n q cells
 
--- a cost is from 1 to 65,535
-abbrev pub priced : ℕ → Bool
-priced c = ltb 0 c && leb c 65535
+-- ---- by hops and a protected link
 
--- at most 128 links, and each joins routers at such costs
-abbrev pub linkPriced : (routers : ℕ) → (from to out back : List ℕ) → ℕ → Bool
-linkPriced routers from to out back k = joins routers from to k && (priced (getD out k 0) && priced (getD back k 0))
+unfoldable pub spaceIf : Bool → Space → (n : ℕ) → List Arc → Protected → (area : List ℕ) → ℕ
+spaceIf passes s n hops q area = elim passes [ true ↦ spaceFor s n hops q area | false ↦ 0 ]
 
-unfoldable pub linksPriced : (routers links : ℕ) → (from to out back : List ℕ) → Bool
-linksPriced routers links from to out back = leb links 128 && everyBelow (linkPriced routers from to out back) links
+-- the pair that serves a target to which a column holds the distances
+unfoldable pub pairFor : (n : ℕ) → List Arc → Protected → (area column : List ℕ) → Outcome
+pairFor n hops q area column = outcomeFor (firstServing n hops q area column (avoidingIn n q area column))
 
--- both costs of each link are from 1 to 65,535
-abbrev pub linkCosts : (out back : List ℕ) → ℕ → Bool
-linkCosts out back k = priced (getD out k 0) && priced (getD back k 0)
+unfoldable pub linkIf : Bool → (n : ℕ) → List Arc → Protected → (area : List ℕ) → Outcome
+linkIf passes n hops q area = elim passes [ true ↦ pairFor n hops q area (routerColumn n (q .far) area) | false ↦ noneServes ]
 
-unfoldable pub costsFit : (links : ℕ) → (out back : List ℕ) → Bool
-costsFit links out back = everyBelow (linkCosts out back) links
-
--- the network is one of at most 64 routers with such links and with a cell for each two routers, and an end of one of its links is named
-unfoldable pub answered : Network → (link end cells : ℕ) → Bool
-answered network link end cells =
-    cellsFit (network .routers) cells
-    && (linksPriced (network .routers) (network .links) (network .from) (network .to) (network .out) (network .back) && (ltb link (network .links) && leb end 1))
-
--- a prefix below 128 whose slots hold routers
-unfoldable pub prefixHeld : Network → (prefix : ℕ) → Bool
-prefixHeld network prefix = ltb prefix 128 && slotsFit (network .routers) (8 * prefix) (getD (network .attached) prefix 0) (network .at)
-
-unfoldable pub prefixAnswered : Network → (link end prefix cells : ℕ) → Bool
-prefixAnswered network link end prefix cells = answered network link end cells && prefixHeld network prefix
-
--- ---- the answers
-
--- the network that the columns hold
-abbrev pub heldBy : Network → lfa.Network
-heldBy network = networkIn (network .routers) (network .links) (network .from) (network .to) (network .out) (network .back)
-
--- the attachments of a prefix
-abbrev pub targetIn : Network → (prefix : ℕ) → lfa.Target
-targetIn network prefix = slotsIn (network .at) (network .own) (8 * prefix) (getD (network .attached) prefix 0)
-
--- the area, filled with the distances where the test passes
-unfoldable pub areaBy : (passes : Bool) → Network → (area : List ℕ) → List ℕ
-areaBy passes network area = elim passes [ true ↦ filled (heldBy network) area | false ↦ area ]
-
--- the space that is asked for, as the set of its routers
-unfoldable pub spaceBy : Space → Network → (link end cells : ℕ) → ℕ
-spaceBy s network link end cells =
-    let net = heldBy network in
-    elim (answered network link end cells) [ true ↦ spaceOf s (net .routers) (lfa.arcs net) (distanceIn (distances net)) (protected net link end) | false ↦ 0 ]
-
--- what a link repair finds
-unfoldable pub linkBy : Network → (link end cells : ℕ) → Outcome
-linkBy network link end cells =
-    let net = heldBy network in
-    elim (answered network link end cells) [ true ↦ linkOutcome (net .routers) (lfa.arcs net) (distanceIn (distances net)) (protected net link end) | false ↦ noneServes ]
-
--- what a prefix repair finds
-unfoldable pub prefixBy : Network → (link end prefix cells : ℕ) → Outcome
-prefixBy network link end prefix cells =
-    let net = heldBy network in
-    elim (prefixAnswered network link end prefix cells) [
-      | true ↦ prefixOutcome (net .routers) (lfa.arcs net) (distanceIn (distances net)) (protected net link end) (targetIn network prefix)
-      | false ↦ noneServes
+-- what is found for a prefix to which a column holds the distances
+unfoldable pub prefixFor : (n : ℕ) → List Arc → Protected → (area column : List ℕ) → Outcome
+prefixFor n hops q area column =
+    elim (ltb (getD column (q .near) 0) unreachable) [
+      | false ↦ prefixUnreachable
+      | true ↦ elim (crossesOut q (λ x. getD column x 0)) [ false ↦ prefixUntouched | true ↦ pairFor n hops q area column ]
     ]
 
--- ---- the network by value, made of columns that are lent one by one, and the answers about it
+unfoldable pub prefixIf : Bool → (n : ℕ) → List Arc → Protected → (area column : List ℕ) → Outcome
+prefixIf passes n hops q area column = elim passes [ true ↦ prefixFor n hops q area column | false ↦ noneServes ]
 
-abbrev pub columnsOf : (routers links : ℕ) → (from to out back attached at own : List ℕ) → Network
-columnsOf routers links from to out back attached at own =
-    record { routers = routers; links = links; prefixes = 0; from = from; to = to; out = out; back = back; attached = attached; at = at; own = own }
+-- ---- by a network and a question
 
-pub record SpaceTold (s : Space) (network : Network) (link end set : ℕ) (area after : List ℕ) : Type 0 where
-  pub set-is : set ≡ spaceBy s network link end (length area)
-  pub area-is : after ≡ areaBy (answered network link end (length area)) network area
+abbrev pub hopsOf : Network → List Arc
+hopsOf network = arcsIn (network .from) (network .to) (network .out) (network .back) (network .links)
 
-pub record LinkTold (network : Network) (link end : ℕ) (found : Outcome) (area after : List ℕ) : Type 0 where
-  pub found-is : found ≡ linkBy network link end (length area)
-  pub area-is : after ≡ areaBy (answered network link end (length area)) network area
+abbrev pub protectedOf : Network → (link end : ℕ) → Protected
+protectedOf network link end = protectedIn (network .from) (network .to) (network .out) (network .back) link end
 
-pub record PrefixTold (network : Network) (link end prefix : ℕ) (found : Outcome) (area after : List ℕ) : Type 0 where
-  pub found-is : found ≡ prefixBy network link end prefix (length area)
-  pub area-is : after ≡ areaBy (prefixAnswered network link end prefix (length area)) network area
+abbrev pub searches : Network → (link end : ℕ) → (area : List ℕ) → Bool
+searches network link end area = ltb link 128 && searchable (network .routers) (network .links) (protectedOf network link end) (length area)
+
+-- the space that is asked for, as the set of its routers
+unfoldable pub spaceBy : Space → Network → (link end : ℕ) → (area : List ℕ) → ℕ
+spaceBy s network link end area = spaceIf (searches network link end area) s (network .routers) (hopsOf network) (protectedOf network link end) area
+
+-- what a link repair finds
+unfoldable pub linkBy : Network → (link end : ℕ) → (area : List ℕ) → Outcome
+linkBy network link end area = linkIf (searches network link end area) (network .routers) (hopsOf network) (protectedOf network link end) area
+
+-- the distances to a prefix
+abbrev pub columnTo : Network → (prefix : ℕ) → (area : List ℕ) → List ℕ
+columnTo network prefix area = prefixColumn (network .routers) (network .at) (network .own) (8 * prefix) (getD (network .attached) prefix 0) area
+
+-- what a prefix repair finds
+unfoldable pub prefixBy : Network → (link end prefix : ℕ) → (area : List ℕ) → Outcome
+prefixBy network link end prefix area =
+    prefixIf (ltb prefix 128 && searches network link end area) (network .routers) (hopsOf network) (protectedOf network link end) area (columnTo network prefix area)

@@ -1,4 +1,4 @@
--- What the search computes: the keys of pairs, the first of them, and what is found.
+-- The search for a pair, by the numbers that an area holds for n routers: the pairs that are tried, and the first of them.
 -- Assumes nothing.
 use Prim.Native.Nat.{ℕ, _+_, min}
 use mathlib.Core.Bool.{Bool, not, _&&_}
@@ -6,61 +6,68 @@ use mathlib.Core.Option.{Option, none, some}
 use mathlib.Core.List.{List, [], _∷_, map}
 use lib.Dec.{eqb}
 use lib.Bits.{bitAnd}
+use lib.ListN.{getD}
 use Rattle.lfa.specs.Lists.{below, select, flat}
+use Rattle.lfa.specs.Network.{Arc}
 use Rattle.lfa.specs.Distance.{unreachable}
-use Rattle.lfa.specs.Space.{Protected, FirstHop, first, has, setOf}
-use Rattle.lfa.specs.Repair.{Keys, Outcome, prefixUnreachable, prefixUntouched, noneServes, chosen}
-use Rattle.order.specs.Keys.{addKeys, classBy}
-use Rattle.avoid.specs.Avoiding.{clearsTo}
+use Rattle.lfa.specs.Space.{Protected, FirstHop, firstHops, extendedP, has}
+use Rattle.lfa.specs.Repair.{Outcome, prefixUnreachable, prefixUntouched, noneServes, serving}
+use Rattle.metric.specs.Area.{cellIn}
+use Rattle.order.specs.declared.Ordered.{Ordered}
+use Rattle.order.specs.Order.{toldIn, earlierOf, classBy}
 use Rattle.search.specs.declared.Found.{Found}
 use Rattle.search.specs.declared.Found.the-variants.{Unreachable, Untouched, Nothing, Pair}
+use Rattle.search.specs.Spaces.{avoidedFrom, spaceFor}
 
 -- ---- what is answered
 
--- what a search that found these keys answers
-abbrev pub outcomeFor : Option Keys → Outcome
+-- what a search that found this pair answers
+abbrev pub outcomeFor : Option Ordered → Outcome
 outcomeFor none = noneServes
-outcomeFor (some k) = chosen (k .hop) (k .endpoint) (k .class) (k .tunnel)
+outcomeFor (some o) = serving (toldIn (o .pair))
 
 -- the outcome of each case of what is found
 abbrev pub outcomeIn : Found → Outcome
 outcomeIn Unreachable = prefixUnreachable
 outcomeIn Untouched = prefixUntouched
 outcomeIn Nothing = noneServes
-outcomeIn (Pair p) = chosen (p .first) (p .endpoint) (p .class) (p .cost)
+outcomeIn (Pair p) = serving (toldIn p)
 
--- ---- the first of some keys
+-- ---- the first of some pairs
 
--- the earliest of what was found and of some keys, tried one after the other
-unfoldable pub firstOf : Option Keys → List Keys → Option Keys
-firstOf o [] = o
-firstOf o (k ∷ ks) = firstOf (addKeys o k) ks
+-- the earliest of what was found and of some pairs, tried one after the other
+unfoldable pub firstOf : Option Ordered → List Ordered → Option Ordered
+firstOf found [] = found
+firstOf found (o ∷ os) = firstOf (earlierOf found o) os
 
 -- ---- the pairs that are tried
 
--- the keys of the pair of first hop n, at cost c from S, and endpoint y; h gives the distances to the target
-unfoldable pub keysAt : (ℕ → ℕ → ℕ) → (near : ℕ) → (h : ℕ → ℕ) → (n c y : ℕ) → Keys
-keysAt d near h n c y = record { class = classBy n y (h y) (h near); distance = d near y; endpoint = y; tunnel = min (c + d n y) unreachable; hop = n }
+-- the pair of a first hop and an endpoint; a column holds the distances to the target. The first key is the class.
+unfoldable pub orderedAt : (n : ℕ) → (area : List ℕ) → (near : ℕ) → (column : List ℕ) → FirstHop → (y : ℕ) → Ordered
+orderedAt n area near column f y =
+    let class = classBy (f .router) y (getD column y 0) (getD column near 0) in
+    record {
+      key = class;
+      distance = cellIn n area near y;
+      pair = record { first = f .router; endpoint = y; class = class; cost = min (f .cost + cellIn n area (f .router) y) unreachable };
+    }
 
 -- router y is in the set, and neither S nor E
 abbrev pub mayEnd : (set near far y : ℕ) → Bool
 mayEnd set near far y = has set y && (not (eqb y near) && not (eqb y far))
 
--- the keys of the pairs of one first hop whose endpoints are in the set
-unfoldable pub hopKeys : (ℕ → ℕ → ℕ) → (near far : ℕ) → (h : ℕ → ℕ) → (n c set routers : ℕ) → List Keys
-hopKeys d near far h n c set routers = map (keysAt d near h n c) (select (mayEnd set near far) (below routers))
+-- the pairs of one first hop whose endpoints are in the set and below `last`
+unfoldable pub hopPairs : (n : ℕ) → (area : List ℕ) → (near far : ℕ) → (column : List ℕ) → FirstHop → (set last : ℕ) → List Ordered
+hopPairs n area near far column f set last = map (orderedAt n area near column f) (select (mayEnd set near far) (below last))
 
--- the endpoints of a first hop: what the mask holds of the routers that it avoids the link on the way to
-unfoldable pub endsOf : (ℕ → ℕ → ℕ) → Protected → (mask routers n : ℕ) → ℕ
-endsOf d q mask routers n = bitAnd mask (setOf routers (clearsTo d q n))
+-- the pairs of one first hop whose endpoints are in the mask, and those that it avoids the link on the way to
+unfoldable pub pairsOver : (n : ℕ) → Protected → (area column : List ℕ) → (mask : ℕ) → FirstHop → List Ordered
+pairsOver n q area column mask f = hopPairs n area (q .near) (q .far) column f (bitAnd mask (avoidedFrom n q area (f .router))) n
 
--- the keys of the pairs of one first hop, at cost c from S, whose endpoints are in the mask
-unfoldable pub keysOfHop : (ℕ → ℕ → ℕ) → Protected → (h : ℕ → ℕ) → (mask routers n c : ℕ) → List Keys
-keysOfHop d q h mask routers n c = hopKeys d (q .near) (q .far) h n c (endsOf d q mask routers n) routers
+unfoldable pub pairsTried : (n : ℕ) → Protected → (area column : List ℕ) → (mask : ℕ) → List FirstHop → List Ordered
+pairsTried n q area column mask firsts = flat (map (pairsOver n q area column mask) firsts)
 
--- and those of first hops
-unfoldable pub overFirst : (ℕ → ℕ → ℕ) → Protected → (h : ℕ → ℕ) → (mask routers : ℕ) → FirstHop → List Keys
-overFirst d q h mask routers (first n c l) = keysOfHop d q h mask routers n c
-
-unfoldable pub keysOver : (ℕ → ℕ → ℕ) → Protected → (h : ℕ → ℕ) → (mask routers : ℕ) → List FirstHop → List Keys
-keysOver d q h mask routers firsts = flat (map (overFirst d q h mask routers) firsts)
+-- The first of the pairs that serve a target to which a column holds the distances: their endpoints are in extended P, masked by the set
+-- of routers from which the second leg avoids the link, `onward`.
+unfoldable pub firstServing : (n : ℕ) → List Arc → Protected → (area column : List ℕ) → (onward : ℕ) → Option Ordered
+firstServing n hops q area column onward = firstOf none (pairsTried n q area column (bitAnd (spaceFor extendedP n hops q area) onward) (firstHops q hops))

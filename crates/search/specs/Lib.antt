@@ -1,3 +1,4 @@
+pub mod Hops
 pub mod Spaces
 pub mod Choice
 pub mod Calls

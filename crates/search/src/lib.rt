@@ -1,19 +1,21 @@
-// The search part: the three spaces, and the pair that serves a repair, over a network by value. Each function leaves the distances of
-// the network in the area that is lent to it.
+// The search part: the three spaces, and the pair that serves a repair, over a network by value and a table of distances that is only read.
 //
-// Each takes any numbers. Where they are not those of a network, of an end of one of its links and of one of its prefixes, the area
-// stays as it was, and nothing is found.
+// Each function takes any numbers, and answers by the numbers that the table holds. Where the columns have no cell for the link, or no
+// distances can be read for its ends, a space is empty, and nothing is found.
+use column::towards_prefix;
+use metric::read::wide;
 use network_file::network::Network;
-use pair::link_asked;
-use pair::prefix_asked;
-use space::space_asked;
+use order::Pair;
+use pair::link_found;
+use pair::prefix_found;
+use protected::protect;
+use space::space_of;
 ghost use mathlib.Core.Path.{_≡_};
-ghost use lib.ListN.{length};
 ghost use Rattle.search.specs.Spaces.{spaceNamed};
 ghost use Rattle.search.specs.Choice.{outcomeIn};
-ghost use Rattle.search.specs.Calls.{answered, prefixAnswered, areaBy, spaceBy, linkBy, prefixBy};
+ghost use Rattle.search.specs.Calls.{spaceBy, linkBy, prefixBy};
 
-mod fit;
+mod hops;
 mod pair;
 mod protected;
 mod space;
@@ -25,89 +27,94 @@ pub enum Which {
     Q,
 }
 
-// A pair that serves: the first hop, the endpoint, the class, and the tunnel cost.
-pub struct FoundPair {
-    pub first: usize,
-    pub endpoint: usize,
-    pub class: u32,
-    pub cost: u32,
-}
-
 // What a search found. Only a search for a prefix finds that it is unreachable or untouched.
 pub enum Found {
     Unreachable,
     Untouched,
     Nothing,
-    Pair(FoundPair),
+    Pair(Pair),
 }
 
 // One of the three spaces, as the set of its routers: router r is the bit of weight 2 to the power r.
-pub fn space_in(which: Which, network: Network, link: usize, end: usize, work: &mut [u32]) -> u64
-    ensures { λ r. ⌜ (r ≡ spaceBy (spaceNamed which) network link end (length (now (work .entry))))
-        × (now (work .exit) ≡ areaBy (answered network link end (length (now (work .entry)))) network (now (work .entry))) ⌝ }
+pub fn space_in(which: Which, network: Network, link: usize, end: usize, dist: &[u32]) -> u64
+    ensures { λ r. ⌜ r ≡ spaceBy (spaceNamed which) network link end (now (dist .entry)) ⌝ }
 {
-    let routers = network.routers;
+    if 128 <= link {
+        return 0;
+    }
+    let n = network.routers;
     let links = network.links;
-    space_asked(
-        which,
-        routers,
-        links,
+    let protected = protect(
         &network.from,
         &network.to,
         &network.out,
         &network.back,
         link,
         end,
-        work,
-    )
+    );
+    space_of(which, dist, n, links, &network.from, &network.to, protected)
 }
 
 // The pair that repairs a link: around it, to its far router.
-pub fn link_pair(network: Network, link: usize, end: usize, work: &mut [u32]) -> Found
-    ensures { λ r. ⌜ (outcomeIn r ≡ linkBy network link end (length (now (work .entry))))
-        × (now (work .exit) ≡ areaBy (answered network link end (length (now (work .entry)))) network (now (work .entry))) ⌝ }
+pub fn link_pair(network: Network, link: usize, end: usize, dist: &[u32]) -> Found
+    ensures { λ r. ⌜ outcomeIn r ≡ linkBy network link end (now (dist .entry)) ⌝ }
 {
-    let routers = network.routers;
+    if 128 <= link {
+        return Found::Nothing;
+    }
+    let n = network.routers;
     let links = network.links;
-    link_asked(
-        routers,
-        links,
+    let protected = protect(
         &network.from,
         &network.to,
         &network.out,
         &network.back,
         link,
         end,
-        work,
+    );
+    link_found(
+        dist,
+        n,
+        links,
+        &network.from,
+        &network.to,
+        &network.out,
+        &network.back,
+        protected,
     )
 }
 
 // The pair that repairs the traffic to a prefix, where it may cross the link.
-pub fn prefix_pair(
-    network: Network,
-    link: usize,
-    end: usize,
-    prefix: usize,
-    work: &mut [u32],
-) -> Found
-    ensures { λ r. ⌜ (outcomeIn r ≡ prefixBy network link end prefix (length (now (work .entry))))
-        × (now (work .exit) ≡ areaBy (prefixAnswered network link end prefix (length (now (work .entry)))) network (now (work .entry))) ⌝ }
+pub fn prefix_pair(network: Network, link: usize, end: usize, prefix: usize, dist: &[u32]) -> Found
+    ensures { λ r. ⌜ outcomeIn r ≡ prefixBy network link end prefix (now (dist .entry)) ⌝ }
 {
-    let routers = network.routers;
+    if 128 <= prefix {
+        return Found::Nothing;
+    }
+    if 128 <= link {
+        return Found::Nothing;
+    }
+    let n = network.routers;
     let links = network.links;
-    prefix_asked(
-        routers,
+    let count = wide(network.attached[prefix]);
+    let target = towards_prefix(dist, n, &network.at, &network.own, 8 * prefix, count);
+    let protected = protect(
+        &network.from,
+        &network.to,
+        &network.out,
+        &network.back,
+        link,
+        end,
+    );
+    prefix_found(
+        dist,
+        n,
         links,
         &network.from,
         &network.to,
         &network.out,
         &network.back,
-        &network.attached,
-        &network.at,
-        &network.own,
-        link,
-        end,
-        prefix,
-        work,
+        protected,
+        &target,
     )
 }

@@ -1,5 +1,5 @@
--- What the sets mean: where the area holds the distances of a network, they are the sets of the routers that avoid the link as document
--- 01 says it, by every walk.
+-- What the sets mean: where the distances on both sides of the test are those of one network, they are the sets of the routers that avoid
+-- the link as document 01 says it, by every walk.
 -- Assumes nothing.
 use Prim.Native.Nat.{ℕ, _+_, _<_, min}
 use mathlib.Core.Path.{_≡_, refl, sym, _∙_}
@@ -15,7 +15,7 @@ use Rattle.lfa.specs.Laws.Test.{and-left, and-right, and-make, same-test}
 use Rattle.lfa.specs.Laws.Set.{setOf-same}
 use Rattle.lfa.specs.Laws.Target.{towards-router}
 use Rattle.lfa.specs.Laws.Avoid.{avoids-gives, avoids-make, avoids-below, below-avoids}
-use Rattle.distance.specs.Area.{held}
+use Rattle.metric.specs.Area.{held}
 use Rattle.avoid.specs.Avoiding.{clears, clearsTo}
 use Rattle.avoid.specs.Calls.{Readable, avoidingTo, avoidingFrom}
 use Rattle.avoid.specs.Known.{Known}
@@ -36,11 +36,11 @@ module _ (n : ℕ) (hops : List Arc) (q : Protected) (area : List ℕ) (known : 
 
   -- The test by distances decides avoiding: the sums are at most unreachable, so a distance below them is finite.
   module _ (to : Target) (h : ℕ → ℕ) (same : (z : ℕ) → z < n → h z ≡ towards d to z) where
-    pub clears-avoids : (x : ℕ) → x < n → clears d q h x ≡ avoids n hops d to (q .number) x
+    pub clears-avoids : (x : ℕ) → x < n → clears h d q h x ≡ avoids n hops d to (q .number) x
     unfolding clears
     clears-avoids x i = same-test _ _ there back
       where
-        there : clears d q h x ≡ true → avoids n hops d to (q .number) x ≡ true
+        there : clears h d q h x ≡ true → avoids n hops d to (q .number) x ≡ true
         there t =
             let out : h x < min (d x (q .near) + q .out + h (q .far)) unreachable = search (ltb-true, and-left) in
             let back : h x < min (d x (q .far) + q .back + h (q .near)) unreachable = search (ltb-true, and-right) in
@@ -49,7 +49,7 @@ module _ (n : ℕ) (hops : List Arc) (q : Protected) (area : List ℕ) (known : 
             let ee = same (q .far) far-in in
             avoids-make n hops d to (q .number) x (below-avoids hops d to q (known .costs) (known .named) x (record { finite = omega arith; out = omega arith; back = omega arith }))
 
-        back : avoids n hops d to (q .number) x ≡ true → clears d q h x ≡ true
+        back : avoids n hops d to (q .number) x ≡ true → clears h d q h x ≡ true
         back t =
             let g = known .sound .falls d to in
             let b = avoids-below hops d to q (known .costs) (known .named) x (avoids-gives n hops d to (g .0) (known .sound .within) (g .1) (q .number) x i t) in
@@ -60,13 +60,13 @@ module _ (n : ℕ) (hops : List Arc) (q : Protected) (area : List ℕ) (known : 
             let back : h x < min (d x (q .far) + q .back + h (q .near)) unreachable = omega (arith, b .finite, b .back) in
             and-make _ _ (lt-ltb _ _ out) (lt-ltb _ _ back)
 
-  pub clearsTo-avoids : (x r : ℕ) → x < n → clearsTo d q x r ≡ avoids n hops d (router r) (q .number) x
+  pub clearsTo-avoids : (x r : ℕ) → x < n → clearsTo d d q x r ≡ avoids n hops d (router r) (q .number) x
   unfolding clearsTo
   clearsTo-avoids x r i = clears-avoids (router r) (λ z. d z r) (λ z k. sym (towards-router d r z (known .costs .most z r))) x i
 
   -- The answers of the two public functions, by walks.
-  pub avoiding-to : (to : Target) (h : ℕ → ℕ) → ((z : ℕ) → z < n → h z ≡ towards d to z) → avoidingTo n q area h ≡ setOf n (avoids n hops d to (q .number))
-  avoiding-to to h same = to-known can-read h refl ∙ setOf-same n _ _ (clears-avoids to h same)
+  pub avoiding-to : (to : Target) (h : ℕ → ℕ) → ((z : ℕ) → z < n → h z ≡ towards d to z) → avoidingTo n q h area h ≡ setOf n (avoids n hops d to (q .number))
+  avoiding-to to h same = to-known can-read h h refl ∙ setOf-same n _ _ (clears-avoids to h same)
 
-  pub avoiding-from : (x : ℕ) → x < n → avoidingFrom n q area x ≡ setOf n (λ r. avoids n hops d (router r) (q .number) x)
-  avoiding-from x i = from-known can-read x i refl ∙ setOf-same n _ _ (λ r k. clearsTo-avoids x r i)
+  pub avoiding-from : (x : ℕ) → x < n → avoidingFrom n q area area x ≡ setOf n (λ r. avoids n hops d (router r) (q .number) x)
+  avoiding-from x i = from-known can-read can-read x i refl ∙ setOf-same n _ _ (λ r k. clearsTo-avoids x r i)

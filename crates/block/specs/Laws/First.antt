@@ -7,7 +7,7 @@ use mathlib.Core.Option.{Option, none, some}
 use native.Mathlib.Omega.{arith}
 use native.Mathlib.Numerals.{add-one}
 use Rattle.lfa.specs.Lists.{firstFailing}
-use Rattle.lfa.specs.Laws.List.{first-failing}
+use Rattle.lfa.specs.Laws.FirstFailing.{first-failing}
 use Rattle.block.specs.First.{firstOr}
 
 -- The loop tries `count` numbers from `start` on, up to `end`.

@@ -14,7 +14,8 @@ use Rattle.lfa.specs.File.{Bytes, blocksIn, linksOf, prefixesOf, linkBlocks, pr
 use Rattle.lfa.specs.File.{lengthGood}
 use Rattle.lfa.specs.Refusal.{fileReturned, FileRow, badLength, badHead, badBlockCount, firstRow}
 use Rattle.lfa.specs.Laws.Test.{and-left, and-right}
-use Rattle.lfa.specs.Laws.List.{getD-in, unless-none}
+use Rattle.lfa.specs.Laws.List.{getD-in}
+use Rattle.lfa.specs.Laws.FirstFailing.{unless-none}
 use Rattle.lfa.specs.Laws.Rows.{none-decides}
 use Rattle.lfa.specs.Laws.File.RowFacts.{HeadFacts, head-facts, count-fact}
 use Rattle.block.specs.Judged.{laterRows, blockRows, Sized}

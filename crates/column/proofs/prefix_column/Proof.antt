@@ -5,17 +5,17 @@ use mathlib.Core.Path.{_≡_, ap, _∙_}
 use native.Mathlib.Omega.{arith}
 use borrow.Author.Needs.{needs}
 use Rattle.lfa.specs.Distance.{towards}
-use Rattle.distance.specs.Area.{held}
-use Rattle.column.specs.Column.{column, slotsIn}
+use Rattle.metric.specs.Area.{held}
+use Rattle.metric.specs.Column.{column, slotsIn}
 use Rattle.column.proofs.ColumnLaws.{column-none, column-more}
 use Rattle.column.proofs.prefix_column.Statement.{statement}
 use Rattle.column.proofs.prefix_column.Tie as tie
 
 abbrev Inv-loop : tie.InvT-loop
-Inv-loop dist n at own first count to₀ x₀ to x = (x ≤ n) × (to ≡ column x (towards (held n dist) (slotsIn at own first count)))
+Inv-loop dist n at own slot count target₀ x₀ target x = (x ≤ n) × (target ≡ column x (towards (held n dist) (slotsIn at own slot count)))
 
 abbrev μ-loop : tie.MeasureT-loop
-μ-loop dist n at own first count to₀ x₀ to x = n - x
+μ-loop dist n at own slot count target₀ x₀ target x = n - x
 
 loop-holds : tie.Need-loop-holds Inv-loop μ-loop
 loop-holds c = (omega arith, column-none _)
@@ -23,11 +23,11 @@ loop-holds c = (omega arith, column-none _)
 to-prefix-requires : tie.Need-to-prefix-requires Inv-loop μ-loop
 to-prefix-requires c κs = search needs
 
-mul-to : tie.Need-mul-to Inv-loop μ-loop
-mul-to c = search needs
+mul-target : tie.Need-mul-target Inv-loop μ-loop
+mul-target c = search needs
 
-array-write-to : tie.Need-array-write-to Inv-loop μ-loop
-array-write-to c = search needs
+array-write-target : tie.Need-array-write-target Inv-loop μ-loop
+array-write-target c = search needs
 
 add-x : tie.Need-add-x Inv-loop μ-loop
 add-x c = search needs
@@ -44,7 +44,7 @@ returns : tie.Need-returns Inv-loop μ-loop
 returns c =
     let s = c .before .before .before in
     let e : c .before .loop .x ≡ s .args .n = omega arith in
-    c .before .loop .inv .1 ∙ ap (λ (k : ℕ). column k (towards (held (s .args .n) (s .args .dist .now)) (slotsIn (s .args .at .now) (s .args .own .now) (s .args .first) (s .args .count)))) e
+    c .before .loop .inv .1 ∙ ap (λ (k : ℕ). column k (towards (held (s .args .n) (s .args .dist .now)) (slotsIn (s .args .at .now) (s .args .own .now) (s .args .slot) (s .args .count)))) e
 
 pub prefix-column-spec : {M : Type 1} → statement M
 prefix-column-spec =
@@ -54,8 +54,8 @@ prefix-column-spec =
     μ-loop
     loop-holds
     to-prefix-requires
-    mul-to
-    array-write-to
+    mul-target
+    array-write-target
     add-x
     loop-less
     loop-again

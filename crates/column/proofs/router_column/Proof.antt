@@ -7,17 +7,18 @@ use borrow.Author.Needs.{needs}
 use Rattle.lfa.specs.Network.{router}
 use Rattle.lfa.specs.Distance.{towards}
 use Rattle.lfa.specs.Laws.Target.{towards-router}
-use Rattle.distance.specs.Area.{held}
-use Rattle.column.specs.Column.{column}
+use Rattle.metric.specs.Area.{held}
+use Rattle.metric.specs.Column.{column}
+use Rattle.metric.specs.Laws.Area.{cell-known}
 use Rattle.column.proofs.ColumnLaws.{column-none, column-more}
 use Rattle.column.proofs.router_column.Statement.{statement}
 use Rattle.column.proofs.router_column.Tie as tie
 
 abbrev Inv-loop : tie.InvT-loop
-Inv-loop dist n t to₀ x₀ to x = (x ≤ n) × (to ≡ column x (towards (held n dist) (router t)))
+Inv-loop dist n t target₀ x₀ target x = (x ≤ n) × (target ≡ column x (towards (held n dist) (router t)))
 
 abbrev μ-loop : tie.MeasureT-loop
-μ-loop dist n t to₀ x₀ to x = n - x
+μ-loop dist n t target₀ x₀ target x = n - x
 
 loop-holds : tie.Need-loop-holds Inv-loop μ-loop
 loop-holds c = (omega arith, column-none _)
@@ -25,11 +26,11 @@ loop-holds c = (omega arith, column-none _)
 cell-requires : tie.Need-cell-requires Inv-loop μ-loop
 cell-requires c κs = search needs
 
-mul-to : tie.Need-mul-to Inv-loop μ-loop
-mul-to c = search needs
+mul-target : tie.Need-mul-target Inv-loop μ-loop
+mul-target c = search needs
 
-array-write-to : tie.Need-array-write-to Inv-loop μ-loop
-array-write-to c = search needs
+array-write-target : tie.Need-array-write-target Inv-loop μ-loop
+array-write-target c = search needs
 
 add-x : tie.Need-add-x Inv-loop μ-loop
 add-x c = search needs
@@ -41,7 +42,7 @@ loop-again : tie.Need-loop-again Inv-loop μ-loop
 loop-again c =
     let l = c .before .before .loop in
     let s = c .before .before .before .before in
-    let v : c .cell .result ≡ held (s .args .n) (s .args .dist .now) (l .x) (s .args .t) = c .cell .ensures in
+    let v = cell-known (s .args .n) (s .args .dist .now) (l .x) (s .args .t) (omega arith) (s .pre .2) (s .pre .0) (s .pre .1) (c .cell .ensures) in
     (omega arith, column-more _ (omega arith) (l .inv .1) (v ∙ sym (towards-router (held (s .args .n) (s .args .dist .now)) (s .args .t) (l .x) (omega arith))))
 
 returns : tie.Need-returns Inv-loop μ-loop
@@ -58,8 +59,8 @@ router-column-spec =
     μ-loop
     loop-holds
     cell-requires
-    mul-to
-    array-write-to
+    mul-target
+    array-write-target
     add-x
     loop-less
     loop-again

@@ -1,23 +1,24 @@
 -- `column::to_prefix` meets its contract. The loop's invariant: `best` is the distance over the slots passed.
 -- Assumes nothing.
-use Prim.Native.Nat.{ℕ, _-_, _≤_}
+use Prim.Native.Nat.{ℕ, _-_, _≤_, _<_}
 use mathlib.Core.Path.{_≡_, ap, _∙_}
 use mathlib.Core.Logic.{⊎-elim}
 use native.Mathlib.Omega.{arith}
 use borrow.Author.Needs.{needs}
 use Rattle.lfa.specs.Lists.{countUp, below}
 use Rattle.lfa.specs.Distance.{least, towards}
-use Rattle.distance.specs.Area.{held}
-use Rattle.column.specs.Column.{slotsIn}
+use Rattle.metric.specs.Area.{held}
+use Rattle.metric.specs.Column.{slotsIn}
+use Rattle.metric.specs.Laws.Area.{cell-known}
 use Rattle.column.proofs.ColumnLaws.{slot-turn}
 use Rattle.column.proofs.to_prefix.Statement.{statement}
 use Rattle.column.proofs.to_prefix.Tie as tie
 
 abbrev Inv-loop : tie.InvT-loop
-Inv-loop dist n x at own first count best₀ s₀ best s = (s ≤ count) × (best ≡ towards (held n dist) (slotsIn at own first s) x)
+Inv-loop dist n x at own slot count best₀ s₀ best s = (s ≤ count) × (best ≡ towards (held n dist) (slotsIn at own slot s) x)
 
 abbrev μ-loop : tie.MeasureT-loop
-μ-loop dist n x at own first count best₀ s₀ best s = count - s
+μ-loop dist n x at own slot count best₀ s₀ best s = count - s
 
 loop-holds : tie.Need-loop-holds Inv-loop μ-loop
 unfolding towards slotsIn least below countUp
@@ -33,9 +34,7 @@ wide-requires : tie.Need-wide-requires Inv-loop μ-loop
 wide-requires c κs = search needs
 
 cell-requires : tie.Need-cell-requires Inv-loop μ-loop
-cell-requires c κs =
-    let s = c .before .before .before .before .before in
-    (s .pre .0, s .pre .1, omega (arith, c .wide .ensures, s .pre .2 .router-in (c .before .before .before .loop .s) (c .before .before .loop-test .taken)))
+cell-requires c κs = search needs
 
 mul-cost-of : tie.Need-mul-cost-of Inv-loop μ-loop
 mul-cost-of c = search needs
@@ -60,16 +59,19 @@ loop-again c =
     let at-loop = c .before .before .before .before .before .before .before .before in
     let s = at-loop .before .before in
     let d = held (s .args .n) (s .args .dist .now) in
+    let a = c .before .before .before .before .before .wide in
+    let inside : a .result < s .args .n = omega (arith, a .ensures, s .pre .3 .router-in (at-loop .loop .s) (c .before .before .before .before .before .before .before .loop-test .taken)) in
+    let read = cell-known (s .args .n) (s .args .dist .now) (s .args .x) (a .result) (s .pre .2) inside (s .pre .0) (s .pre .1) (c .before .before .before .before .cell .ensures) in
     let turn =
-    slot-turn d (s .args .at .now) (s .args .own .now) (s .args .first) (at-loop .loop .s) (s .args .x) (at-loop .loop .inv .1)
-    (c .before .before .before .before .before .wide .ensures) (c .before .before .before .before .cell .ensures) (c .before .before .cost-of .ensures) (c .before .add .ensures) in
+    slot-turn d (s .args .at .now) (s .args .own .now) (s .args .slot) (at-loop .loop .s) (s .args .x) (at-loop .loop .inv .1)
+    (a .ensures) read (c .before .before .cost-of .ensures) (c .before .add .ensures) in
     (omega arith, ⊎-elim (λ w. omega arith) (λ w. omega arith) (c .if1 .came))
 
 returns : tie.Need-returns Inv-loop μ-loop
 returns c =
     let s = c .before .before .before in
     let e : c .before .loop .s ≡ s .args .count = omega arith in
-    c .before .loop .inv .1 ∙ ap (λ (k : ℕ). towards (held (s .args .n) (s .args .dist .now)) (slotsIn (s .args .at .now) (s .args .own .now) (s .args .first) k) (s .args .x)) e
+    c .before .loop .inv .1 ∙ ap (λ (k : ℕ). towards (held (s .args .n) (s .args .dist .now)) (slotsIn (s .args .at .now) (s .args .own .now) (s .args .slot) k) (s .args .x)) e
 
 pub to-prefix-spec : {M : Type 1} → statement M
 to-prefix-spec =

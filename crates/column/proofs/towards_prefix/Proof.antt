@@ -29,7 +29,7 @@ fits : (c : tie.Else1) → cellsFit (c .before .before .before .args .n) (length
 fits c = sym (c .before .cells-fit .ensures) ∙ not-false _ (c .if1 .left)
 
 -- and the second
-slots : (c : tie.Else2) → let a = c .before .before .before .before .before .args in SlotsWithin (a .n) (a .first) (a .count) (a .at .now)
+slots : (c : tie.Else2) → let a = c .before .before .before .before .before .args in SlotsWithin (a .n) (a .slot) (a .count) (a .at .now)
 slots c = slots-give _ _ _ _ (sym (c .before .slots-fit .ensures) ∙ not-false _ (c .if2 .left))
 
 prefix-column-requires : tie.Need-prefix-column-requires

@@ -9,8 +9,8 @@ use Rattle.lfa.specs.Network.{router}
 use Rattle.lfa.specs.Distance.{towards}
 use Rattle.metric.specs.Fit.{SlotsWithin}
 use Rattle.metric.specs.Laws.Fit.{cells-fit, slots-fit}
-use Rattle.distance.specs.Area.{held}
-use Rattle.column.specs.Column.{column, slotsIn}
+use Rattle.metric.specs.Area.{held}
+use Rattle.metric.specs.Column.{column, slotsIn}
 use Rattle.column.specs.Calls.{routerColumn, prefixColumn}
 
 -- the column holds the distances to the target
@@ -19,7 +19,7 @@ module _ (n : ℕ) (area : List ℕ) (few : n ≤ 64) (long : n * n ≤ length a
   unfolding routerColumn
   router-known t h e = e ∙ rw (cells-fit n (length area) few long, lt-ltb t n h, routerColumn)
 
-  pub prefix-known : {column-read : List ℕ} (routers costs : List ℕ) (first count : ℕ) → SlotsWithin n first count routers → column-read ≡ prefixColumn n routers costs first count area →
-      column-read ≡ column n (towards (held n area) (slotsIn routers costs first count))
+  pub prefix-known : {column-read : List ℕ} (routers costs : List ℕ) (slot count : ℕ) → SlotsWithin n slot count routers → column-read ≡ prefixColumn n routers costs slot count area →
+      column-read ≡ column n (towards (held n area) (slotsIn routers costs slot count))
   unfolding prefixColumn
-  prefix-known routers costs first count w e = e ∙ rw (cells-fit n (length area) few long, slots-fit w, prefixColumn)
+  prefix-known routers costs slot count w e = e ∙ rw (cells-fit n (length area) few long, slots-fit w, prefixColumn)

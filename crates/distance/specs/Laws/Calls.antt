@@ -10,7 +10,7 @@ use Rattle.lfa.specs.Distance.{distances, filled}
 use Rattle.lfa.specs.Laws.Test.{and-make}
 use Rattle.metric.specs.Fit.{cellsFit, linksFit, ColumnsWithin}
 use Rattle.metric.specs.Laws.Fit.{cells-fit, links-fit}
-use Rattle.distance.specs.Columns.{InColumns, networkIn}
+use Rattle.metric.specs.Columns.{InColumns, networkIn}
 use Rattle.distance.specs.Calls.{areaFilled}
 
 -- the distances of a network are those of its routers and links, whatever its prefixes

@@ -9,9 +9,9 @@ use mathlib.Core.List.{List, List·Memᴰ}
 use native.Mathlib.Omega.{arith}
 use lib.ListN.{length}
 use Rattle.lfa.specs.Lists.{memberOf, anyOf}
-use Rattle.lfa.specs.Repair.{Outcome, prefixUnreachable, prefixUntouched, noneServes, chosen}
-use Rattle.lfa.specs.Question.{Question, Call, load, fill, space, linkRepair, prefixRepair, route, Buffer, searching, inputsOf, inputNumber, hasInput, linkFound, prefixFound, searched}
-use Rattle.lfa.specs.Refusal.{Row, noPair, Applies, ifNone, returned, entryOf, rowsTried, Decides, Decided, decided, refusalOf}
+use Rattle.lfa.specs.Repair.{Outcome, prefixUnreachable, prefixUntouched, noneServes, serving}
+use Rattle.lfa.specs.Question.{Question, Call, load, fill, space, linkRepair, prefixRepair, route, Buffer, searching, inputsOf, inputNumber, hasInput, linkFound, prefixFound, searched, ifNone}
+use Rattle.lfa.specs.Refusal.{Row, noPair, Applies, returned, entryOf, rowsTried, Decides, Decided, decided, refusalOf}
 use Rattle.lfa.specs.Answer.{Answer, refused, refusal, repairAnswer, routeAnswer, routePlayed, computed, answerTo, writtenTo, leave, exitBy, exitOf}
 use Rattle.lfa.specs.Laws.Rows.{none-decides, none-applies}
 use Rattle.lfa.specs.Laws.FileRows.{tried-rows}
@@ -47,14 +47,14 @@ unfolding repairAnswer
 repair-refused prefixUnreachable k v e = cc
 repair-refused prefixUntouched k v e = cc
 repair-refused noneServes k v e = refl
-repair-refused (chosen n y class cost) k v e = cc
+repair-refused (serving t) k v e = cc
 
 route-refused : (o : Outcome) (count k v : ℕ) → routeAnswer o count ≡ refused k v → o ≡ noneServes
 unfolding routeAnswer
 route-refused prefixUnreachable count k v e = cc
 route-refused prefixUntouched count k v e = cc
 route-refused noneServes count k v e = refl
-route-refused (chosen n y class cost) count k v e = cc
+route-refused (serving t) count k v e = cc
 
 -- a call that searches tries row 14
 pub searches : (q : Question) (c : Call) (o : Outcome) → searched q c ≡ some o → hasInput c searching ≡ true

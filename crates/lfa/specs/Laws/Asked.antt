@@ -10,9 +10,9 @@ use lib.ListN.{length, drop}
 use Rattle.lfa.specs.Lists.{select}
 use Rattle.lfa.specs.File.{networkOf}
 use Rattle.lfa.specs.Distance.{filled}
-use Rattle.lfa.specs.Repair.{Outcome, prefixUnreachable, prefixUntouched, noneServes, chosen}
-use Rattle.lfa.specs.Question.{Question, Call, load, fill, space, linkRepair, prefixRepair, route, networkAsked, linkFound, prefixFound, searched}
-use Rattle.lfa.specs.Refusal.{shortArea, shortBuffer, noSuchLink, noSuchPrefix, noPair, leavesRoute, entryOf, earlyRows, questionRows, tries, decided, firstRow, ifNone, returned, refusalOf, Posed}
+use Rattle.lfa.specs.Repair.{Told, Outcome, prefixUnreachable, prefixUntouched, noneServes, serving}
+use Rattle.lfa.specs.Question.{Question, Call, load, fill, space, linkRepair, prefixRepair, route, networkAsked, linkFound, prefixFound, searched, ifNone}
+use Rattle.lfa.specs.Refusal.{shortArea, shortBuffer, noSuchLink, noSuchPrefix, noPair, leavesRoute, entryOf, earlyRows, questionRows, tries, decided, firstRow, returned, refusalOf, Posed}
 use Rattle.lfa.specs.Answer.{refused, repair, refusal, repairAnswer, routeAnswer, routeFor, routePlayed, computed, answerTo, writtenTo, leave, exitBy, exitOf, workAfter, routeAfter}
 use Rattle.lfa.specs.Laws.Rows.{NoneApply, nothing, also, passed-over}
 use Rattle.lfa.specs.Laws.FileRows.{loaded-rows, accepted-passes-rows}
@@ -53,7 +53,7 @@ last-row q p = go (searched q (q .call)) refl
     go (some prefixUnreachable) s = other (λ t. let e = sym s ∙ t in absurd (let z : _≡_ {A = ℕ} 0 1 = cc in omega arith)) (rw s)
     go (some prefixUntouched) s = other (λ t. let e = sym s ∙ t in absurd (let z : _≡_ {A = ℕ} 0 1 = cc in omega arith)) (rw s)
     go (some noneServes) s = none-serves s (only-last q p ∙ rw (searches q (q .call) noneServes s) (rw (s, firstRow)))
-    go (some (chosen n y class cost)) s = other (λ t. let e = sym s ∙ t in absurd (let z : _≡_ {A = ℕ} 0 1 = cc in omega arith)) (rw s)
+    go (some (serving p)) s = other (λ t. let e = sym s ∙ t in absurd (let z : _≡_ {A = ℕ} 0 1 = cc in omega arith)) (rw s)
 
 -- ---- the answers
 
@@ -99,14 +99,9 @@ module _ (q : Question) (p : Posed q) where
       go (not-refused s r) = rw r
 
 -- a repair is answered exactly where a pair was chosen
-pub answer-chosen : (o : Outcome) (n y class cost : ℕ) → repairAnswer o ≡ repair n y class cost → o ≡ chosen n y class cost
+pub answer-chosen : (o : Outcome) (t : Told) → repairAnswer o ≡ repair t → o ≡ serving t
 unfolding repairAnswer
-answer-chosen prefixUnreachable n y class cost e = cc
-answer-chosen prefixUntouched n y class cost e = cc
-answer-chosen noneServes n y class cost e = cc
-answer-chosen (chosen n′ y′ class′ cost′) n y class cost e =
-    let e₁ : n′ ≡ n = cc in
-    let e₂ : y′ ≡ y = cc in
-    let e₃ : class′ ≡ class = cc in
-    let e₄ : cost′ ≡ cost = cc in
-    rw (e₁, e₂, e₃, e₄)
+answer-chosen prefixUnreachable t e = cc
+answer-chosen prefixUntouched t e = cc
+answer-chosen noneServes t e = cc
+answer-chosen (serving s) t e = cc

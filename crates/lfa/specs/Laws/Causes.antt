@@ -11,11 +11,11 @@ use lib.ListN.{length}
 use borrow.Author.Tests.{ltb-false, le-ltb, leb-false, lt-leb, eqb-true, eqb-false, eq-eqb, ne-eqb}
 use Rattle.lfa.specs.Lists.{unless, firstFailing, FirstFails}
 use Rattle.lfa.specs.File.{Bytes, routersOf, linksOf, prefixesOf, blocksIn, blocksNeeded, lengthGood, checkGood, headGood, blockCountGood, blockGood, linkGood, linkNew, prefixGood, routersNew}
-use Rattle.lfa.specs.Repair.{Outcome, prefixUnreachable, prefixUntouched, noneServes, chosen}
-use Rattle.lfa.specs.Question.{Question, searched}
-use Rattle.lfa.specs.Refusal.{FileRow, badLength, badCheck, badHead, badBlockCount, badBlock, badLink, parallelLink, badPrefix, routerTwice, FileApplies, fileReturned, Row, ofFile, shortArea, shortBuffer, noSuchLink, noSuchPrefix, noPair, Applies, ifNone, returned, rowsTried, Decides, decided, refusalOf, sizedReturned}
+use Rattle.lfa.specs.Repair.{Outcome, prefixUnreachable, prefixUntouched, noneServes, serving}
+use Rattle.lfa.specs.Question.{Question, searched, ifNone}
+use Rattle.lfa.specs.Refusal.{FileRow, badLength, badCheck, badHead, badBlockCount, badBlock, badLink, parallelLink, badPrefix, routerTwice, FileApplies, fileReturned, Row, ofFile, shortArea, shortBuffer, noSuchLink, noSuchPrefix, noPair, Applies, returned, rowsTried, Decides, decided, refusalOf, sizedReturned}
 use Rattle.lfa.specs.Laws.Test.{and-fails, fails-left, fails-right, not-fails}
-use Rattle.lfa.specs.Laws.List.{first-failing, failing-first}
+use Rattle.lfa.specs.Laws.FirstFailing.{first-failing, failing-first}
 use Rattle.lfa.specs.Laws.Rows.{FirstFound, first-found, found-first}
 
 -- ---- tests
@@ -43,7 +43,7 @@ none-found none v = (λ e. ((cc), (cc)), λ p. let e = p .0 in cc)
 none-found (some prefixUnreachable) v = (λ e. ((cc), (cc)), λ p. let e = p .0 in cc)
 none-found (some prefixUntouched) v = (λ e. ((cc), (cc)), λ p. let e = p .0 in cc)
 none-found (some noneServes) v = (λ e. (refl, cc), λ p. let e = p .1 in cc)
-none-found (some (chosen n y class cost)) v = (λ e. ((cc), (cc)), λ p. let e = p .0 in cc)
+none-found (some (serving t)) v = (λ e. ((cc), (cc)), λ p. let e = p .0 in cc)
 
 length-fails : (n : ℕ) → ((not (eqb n 0) && eqb (n % 512) 0) && leb n 6656) ≡ false → (n ≡ 0) ⊎ ((n % 512 ≡ 0 → ⊥) ⊎ (6656 < n))
 length-fails n e = go (and-fails (not (eqb n 0) && eqb (n % 512) 0) (leb n 6656) e)

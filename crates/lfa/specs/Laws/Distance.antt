@@ -1,102 +1,23 @@
--- The computed distances are the least costs of paths.
+-- The computed distances are the least costs of paths: laws of each stage of their computation, and of the last.
 -- Assumes nothing.
 use Prim.Native.Nat.{ℕ, zero, suc, _+_, _≤_, _<_, min}
-use mathlib.Core.Path.{_≡_, refl, sym, ap}
+use mathlib.Core.Path.{_≡_, refl, sym}
 use mathlib.Core.Logic.{_⊎_, inl, inr}
-use mathlib.Core.Bool.{Bool, true, false, _&&_}
-use mathlib.Core.List.{List, [], _∷_, map, List·Memᴰ, List·Memᴰ·head, List·Memᴰ·tail}
+use mathlib.Core.Bool.{true, false}
+use mathlib.Core.List.{List, List·Memᴰ}
 use native.Mathlib.Omega.{arith}
-use native.Mathlib.Nat.{zero-add, add-assoc, not-suc-le-zero, le-of-suc-le-suc, eq-or-lt-of-le}
+use native.Mathlib.Nat.{not-suc-le-zero, le-of-suc-le-suc, eq-or-lt-of-le}
 use lib.Dec.{eqb, ltb, leb}
 use borrow.Author.Tests.{ltb-true, ltb-false, leb-true, leb-false, eqb-true, eq-eqb}
-use Rattle.lfa.specs.Laws.Test.{and-left, and-right, decide}
 use Rattle.lfa.specs.Lists.{cell}
+use Rattle.lfa.specs.Network.{Arc, arc}
+use Rattle.lfa.specs.Distance.{unreachable, RouterPath, stay, via, LeastCosts, direct, through, stage, distanceIn}
+use Rattle.lfa.specs.Laws.Test.{decide}
 use Rattle.lfa.specs.Laws.Table.{cell-in, cell-out}
-use Rattle.lfa.specs.Network.{Arc, arc, at}
-use Rattle.lfa.specs.Distance.{unreachable, RouterPath, stay, via, LeastCosts, least, hopCost, direct, through, stage, distanceIn}
 use Rattle.lfa.specs.Laws.Arrive.{Within}
-
--- two paths, one after the other
-pub route-append : {hops : List Arc} {x y z k j : ℕ} → RouterPath hops x y k → RouterPath hops y z j → RouterPath hops x z (k + j)
-route-append stay s = rw zero-add s
-route-append (via m r) s = rw add-assoc (via m (route-append r s))
-
--- a path of the same cost, written otherwise
-pub route-cost : {hops : List Arc} {x y k j : ℕ} → k ≡ j → RouterPath hops x y k → RouterPath hops x y j
-route-cost e r = rw e at r
-
--- ---- one hop
-
-pub least-most : (l : List ℕ) → least l ≤ unreachable
-unfolding least
-least-most [] = omega arith
-least-most (x ∷ l) = omega (arith, least-most l)
-
-hop-self : (x z c l : ℕ) → hopCost x z (arc x z c l) ≡ c
-unfolding hopCost
-hop-self x z c l = rw (eq-eqb x x refl, eq-eqb z z refl, hopCost)
-
--- an arc costs something finite only if it leads from x to z
-hop-given : (x z u v c l : ℕ) → hopCost x z (arc u v c l) < unreachable → (u ≡ x) × (v ≡ z) × (c ≡ hopCost x z (arc u v c l))
-unfolding hopCost
-hop-given x z u v c l f = go (eqb u x && eqb v z) refl f
-  where
-    go : (b : Bool) → (eqb u x && eqb v z) ≡ b → elim b as (λ _. ℕ) [ true ↦ c | false ↦ unreachable ] < unreachable → (u ≡ x) × (v ≡ z) × (c ≡ elim b as (λ _. ℕ) [ true ↦ c | false ↦ unreachable ])
-    go true e f = search (eqb-true, and-left, and-right)
-    go false e f = omega arith
-
-module _ (x z : ℕ) where
-  -- the least is at most the cost of each hop from x to z, and where it is finite that of one
-  pub hop-least : {c l : ℕ} {hops : List Arc} → List·Memᴰ (arc x z c l) hops → least (map (hopCost x z) hops) ≤ c
-  unfolding least
-  hop-least {c} {l} (List·Memᴰ·head e) = omega (arith, ap (hopCost x z) e, hop-self x z c l)
-  hop-least (List·Memᴰ·tail m) = omega (arith, hop-least m)
-
-  pub hop-found : (hops : List Arc) → least (map (hopCost x z) hops) < unreachable → (c : ℕ) × (l : ℕ) × List·Memᴰ (arc x z c l) hops × (c ≡ least (map (hopCost x z) hops))
-  unfolding least
-  hop-found [] f = absurd (omega arith)
-  hop-found (arc u v c l ∷ hops) f = go (hop-found hops) (decide (leb (hopCost x z (arc u v c l)) (least (map (hopCost x z) hops))))
-    where
-      rest : ℕ
-      rest = least (map (hopCost x z) hops)
-
-      go : (rest < unreachable → (c : ℕ) × (l : ℕ) × List·Memᴰ (arc x z c l) hops × (c ≡ rest)) →
-          (leb (hopCost x z (arc u v c l)) rest ≡ true) ⊎ (leb (hopCost x z (arc u v c l)) rest ≡ false) →
-          (c₁ : ℕ) × (l₁ : ℕ) × List·Memᴰ (arc x z c₁ l₁) (arc u v c l ∷ hops) × (c₁ ≡ min (hopCost x z (arc u v c l)) rest)
-      go below (inl e) =
-          let g = hop-given x z u v c l (omega (arith, leb-true)) in
-          (c, l, List·Memᴰ·head {x = arc u v c l} (rw (g .0, g .1)), omega (arith, g .2, leb-true))
-      go below (inr e) =
-          let r = below (omega (arith, leb-false)) in
-          (r .0, r .1, List·Memᴰ·tail (r .2), omega (arith, r .3, leb-false))
+use Rattle.lfa.specs.Laws.Hop.{route-append, route-cost, direct-least, direct-most, direct-path}
 
 -- ---- the stages
-
--- at most one hop: no more than any arc's cost, and the cost of a path where it is finite
-direct-least : {hops : List Arc} {x z c l : ℕ} → List·Memᴰ (arc x z c l) hops → direct hops x z ≤ c
-unfolding direct
-direct-least {hops} {x} {z} {c} m = go (eqb x z) (hop-least x z m)
-  where
-    go : (b : Bool) → least (map (hopCost x z) hops) ≤ c → elim b as (λ _. ℕ) [ true ↦ 0 | false ↦ least (map (hopCost x z) hops) ] ≤ c
-    go true h = omega arith
-    go false h = h
-
-direct-most : (hops : List Arc) (x z : ℕ) → direct hops x z ≤ unreachable
-unfolding direct
-direct-most hops x z = go (eqb x z)
-  where
-    go : (b : Bool) → elim b as (λ _. ℕ) [ true ↦ 0 | false ↦ least (map (hopCost x z) hops) ] ≤ unreachable
-    go true = omega arith
-    go false = least-most (map (hopCost x z) hops)
-
-direct-path : (hops : List Arc) (x z : ℕ) → direct hops x z < unreachable → RouterPath hops x z (direct hops x z)
-unfolding direct
-direct-path hops x z f = go (eqb x z) refl f
-  where
-    go : (b : Bool) → eqb x z ≡ b → elim b as (λ _. ℕ) [ true ↦ 0 | false ↦ least (map (hopCost x z) hops) ] < unreachable →
-        RouterPath hops x z (elim b as (λ _. ℕ) [ true ↦ 0 | false ↦ least (map (hopCost x z) hops) ])
-    go true e f = rw (eqb-true x z e) stay
-    go false e f = let r = hop-found x z hops f in route-cost (omega (arith, r .3)) (via (r .2) stay)
 
 module _ (n : ℕ) (hops : List Arc) (within : Within hops n) where
   -- D(i,j) at stage k
@@ -118,7 +39,7 @@ module _ (n : ℕ) (hops : List Arc) (within : Within hops n) where
   stage-out zero i j o = cell-out unreachable n _ i j o
   stage-out (suc k) i j o = cell-out unreachable n _ i j o
 
-  -- no stage undercuts an arc
+  -- no stage holds more than the cost of an arc
   stage-arc : (k : ℕ) {x z c l : ℕ} → List·Memᴰ (arc x z c l) hops → at-stage k x z ≤ c
   stage-arc zero {x} {z} m = rw (stage-first x z (within .from m) (within .to m)) (direct-least m)
   stage-arc (suc k) {x} {z} m = rw (stage-next k x z (within .from m) (within .to m)) (omega (arith, stage-arc k m))
@@ -127,7 +48,8 @@ module _ (n : ℕ) (hops : List Arc) (within : Within hops n) where
   stage-most zero i j hi hj = rw (stage-first i j hi hj) (direct-most hops i j)
   stage-most (suc k) i j hi hj = rw (stage-next k i j hi hj) (omega (arith, stage-most k i j hi hj))
 
-  -- where a stage is finite there is a path of that cost
+  -- Where a stage is finite there is a path of that cost: it takes the cell of the stage before, or joins two paths of that stage at
+  -- router k.
   stage-path : (k i j : ℕ) → i < n → j < n → k ≤ n → at-stage k i j < unreachable → RouterPath hops i j (at-stage k i j)
   stage-path zero i j hi hj hk f = rw (stage-first i j hi hj) (direct-path hops i j (rw (stage-first i j hi hj) at f))
   stage-path (suc k) i j hi hj hk f = go (λ a b ha hb. stage-path k a b ha hb (omega arith)) (decide (leb (at-stage k i j) (at-stage k i k + at-stage k k j)))
@@ -142,7 +64,8 @@ module _ (n : ℕ) (hops : List Arc) (within : Within hops n) where
           route-cost (omega (arith, leb-false, e))
           (route-append (below i k hi (omega arith) (omega (arith, leb-false, e))) (below k j (omega arith) hj (omega (arith, leb-false, e))))
 
-  -- stage k has found what passing through a router below k saves
+  -- Stage k has found what passing through a router below k saves. For the router added last the stage takes this sum itself; for an
+  -- earlier one the three cells may each pass through router k, and the sums of the stage before bound every case.
   stage-triangle : (k i m j : ℕ) → i < n → j < n → m < k → k ≤ n → at-stage k i j ≤ at-stage k i m + at-stage k m j
   stage-triangle zero i m j hi hj hm hk = absurd (not-suc-le-zero hm)
   stage-triangle (suc k) i m j hi hj hm hk = go (λ (h : m < k) a b ha hb. stage-triangle k a m b ha hb h (omega arith)) (eq-or-lt-of-le (le-of-suc-le-suc hm))

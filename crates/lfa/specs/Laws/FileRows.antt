@@ -12,7 +12,8 @@ use Rattle.lfa.specs.Lists.{select, anyOf, memberOf}
 use Rattle.lfa.specs.File.{Bytes, byteAt, blocksIn, blocksNeeded, linksOf, prefixesOf, checkGood, blockGood, linkGood, linkNew, prefixGood, routersNew}
 use Rattle.lfa.specs.Question.{Question, Call, load, fill, space, linkRepair, prefixRepair, route, aFile, inputsOf, inputNumber, hasInput, loading}
 use Rattle.lfa.specs.Refusal.{FileApplies, FileRow, badLength, badCheck, badHead, badBlockCount, badBlock, badLink, parallelLink, badPrefix, routerTwice, fileReturned, fileRows, Row, ofFile, shortArea, shortBuffer, noSuchLink, noSuchPrefix, noPair, returned, entryOf, questionRows, allRows, tries, rowsTried, Decided, decided, firstRow, inFile, orLater, earlyRows, fileRefusal, refusalOf, Accepted}
-use Rattle.lfa.specs.Laws.List.{select-gives, select-make, none-failing, all-passing, unless-none, unless-good}
+use Rattle.lfa.specs.Laws.List.{select-gives, select-make}
+use Rattle.lfa.specs.Laws.FirstFailing.{none-failing, all-passing, unless-none, unless-good}
 use Rattle.lfa.specs.Laws.File.Passes.{AreBytes, Passes}
 use Rattle.lfa.specs.Laws.Causes.{file-row-applies}
 use Rattle.lfa.specs.Laws.Rows.{none-decides, none-applies}

@@ -1,7 +1,7 @@
 -- A pair serves exactly when it has what demand 3 asks of a repair, so that the pair that a search puts first is a repair.
 -- Assumes nothing.
 use Prim.Native.Nat.{ℕ, _<_}
-use mathlib.Core.Path.{_≡_, refl, subst}
+use mathlib.Core.Path.{_≡_, refl, subst, sym}
 use mathlib.Core.Logic.{inl, inr}
 use mathlib.Core.Option.{none}
 use mathlib.Core.List.{List}
@@ -9,17 +9,17 @@ use native.Mathlib.Omega.{arith}
 use Rattle.lfa.specs.Network.{Arc, Target, router}
 use Rattle.lfa.specs.Distance.{LeastCosts}
 use Rattle.lfa.specs.Space.{Protected}
-use Rattle.lfa.specs.Repair.{Serves, MayCross, Outcome, prefixUnreachable, prefixUntouched, noneServes, chosen, keysOf, tunnelCost}
+use Rattle.lfa.specs.Repair.{Serves, MayCross, Told, toldOf, Outcome, prefixUnreachable, prefixUntouched, noneServes, serving}
 use Rattle.lfa.specs.Question.{Question, aLink, HasInput, networkAsked, linkAsked}
 use Rattle.lfa.specs.Refusal.{entryOf, Posed}
 use Rattle.lfa.specs.Answer.{repairAnswer}
-use Rattle.lfa.specs.Demands.{N, Hops, D, HasThis, IsRepair, Repaired}
+use Rattle.lfa.specs.Demands.{N, Hops, D, HasThis, IsRepair, Repaired, TellsOf}
 use Rattle.lfa.specs.Laws.Accepted.{accepted-sound, accepted-distances, accepted-named}
 use Rattle.lfa.specs.Laws.Asked.{answer-chosen}
 use Rattle.lfa.specs.Laws.Network.{protected-number}
 use Rattle.lfa.specs.Laws.Avoid.{Named}
 use Rattle.lfa.specs.Laws.Bound.{Sound}
-use Rattle.lfa.specs.Laws.Repair.{SearchMeans, PrefixMeans, IsFirstPair, class-once}
+use Rattle.lfa.specs.Laws.Repair.{SearchMeans, PrefixMeans, IsFirstPair, told-tells, tells-told}
 use Rattle.lfa.specs.Laws.Serve.{serves-arrives, arrives-reachable}
 
 -- ---- the network of a question
@@ -66,17 +66,20 @@ module _ (q : Question) (p : Posed q) (l : HasInput q aLink) (to : Target) (n y 
 
 module _ (q : Question) (p : Posed q) (l : HasInput q aLink) (to : Target) where
   -- the pair that a search puts first is a repair
-  pub first-repair : {n y class cost : ℕ} → IsFirstPair (N q) (Hops q) (D q) (linkAsked q) to n y class cost → IsRepair q to n y class cost
-  unfolding keysOf tunnelCost
-  first-repair {n} {y} f = record {
-    hop-cost = f .hop;
-    over = f .over;
-    candidate = f .is-pair;
-    has-this = has-this q p l to n y (sound q p .within .to (f .is-pair .first-hop .joined)) (f .is-pair .end-in) (f .serves);
-    first = λ n′ c′ l′ y′ k′ is h k. rw (class-once (f .hop) (f .over) (f .class-is), f .cost-is, class-once c′ l′ k) (f .first n′ c′ l′ y′ is (serves-it q p l to n′ y′ h));
-    class-is = f .class-is;
-    cost-is = f .cost-is;
-  }
+  pub first-repair : {t : Told} → IsFirstPair (N q) (Hops q) (D q) (linkAsked q) to t → IsRepair q to t
+  unfolding toldOf
+  first-repair {t} f =
+      let p′ = f .pair in
+      let tells : TellsOf q to p′ t = subst (TellsOf q to p′) (sym (f .told-is)) (told-tells (D q) (linkAsked q) to p′) in
+      record {
+        pair = p′;
+        candidate = f .is-pair;
+        tells = tells;
+        has-this = rw (tells .first-is, tells .endpoint-is) (has-this q p l to (p′ .hop .router) (p′ .endpoint) (sound q p .within .to (f .is-pair .first-hop .joined)) (f .is-pair .end-in) (f .serves));
+        earliest = λ r other is told h.
+            let s = serves-it q p l to (r .hop .router) (r .endpoint) (rw (told .first-is, told .endpoint-is) at h) in
+            rw (tells-told (D q) (linkAsked q) to r told) (f .earliest r is s);
+      }
 
   pub repaired : (o : Outcome) → SearchMeans (N q) (Hops q) (D q) (linkAsked q) to o → Repaired q to (repairAnswer o)
   unfolding repairAnswer entryOf
@@ -84,18 +87,22 @@ module _ (q : Question) (p : Posed q) (l : HasInput q aLink) (to : Target) where
   repaired prefixUntouched f = absurd f
   repaired noneServes f = record {
     repair-or-14 = inr refl;
-    is-repair = λ n y class cost e. absurd (let z : _≡_ {A = ℕ} 0 1 = cc in omega arith);
-    exactly = (λ e n c k y is h. f n c k y is (serves-it q p l to n y h), λ e. refl);
+    is-repair = λ t e. absurd (let z : _≡_ {A = ℕ} 0 1 = cc in omega arith);
+    exactly = (λ e r is h. f r is (serves-it q p l to (r .hop .router) (r .endpoint) h), λ e. refl);
   }
-  repaired (chosen n y class cost) f = record {
-    repair-or-14 = inl (n, y, class, cost, refl);
-    is-repair = λ n′ y′ class′ cost′ e. first-repair (subst (SearchMeans (N q) (Hops q) (D q) (linkAsked q) to) (answer-chosen (chosen n y class cost) n′ y′ class′ cost′ e) f);
-    exactly = (λ e. absurd (let z : _≡_ {A = ℕ} 0 1 = cc in omega arith), λ e. absurd (e n (f .hop) (f .over) y (f .is-pair) (first-repair f .has-this)));
-  }
+  repaired (serving t) f =
+      record {
+        repair-or-14 = inl (t, refl);
+        is-repair = λ t′ e. first-repair (subst (SearchMeans (N q) (Hops q) (D q) (linkAsked q) to) (answer-chosen (serving t) t′ e) f);
+        exactly = (λ e. absurd (let z : _≡_ {A = ℕ} 0 1 = cc in omega arith), λ e. absurd (e (f .pair) (f .is-pair) (has-it f)));
+      }
+    where
+      has-it : (f : IsFirstPair (N q) (Hops q) (D q) (linkAsked q) to t) → HasThis q to (f .pair .hop .router) (f .pair .endpoint)
+      has-it f = has-this q p l to (f .pair .hop .router) (f .pair .endpoint) (sound q p .within .to (f .is-pair .first-hop .joined)) (f .is-pair .end-in) (f .serves)
 
 -- of a prefix whose traffic may cross the link, the repair is that of the search
 pub crossing-searched : (n : ℕ) (hops : List Arc) (d : ℕ → ℕ → ℕ) (q : Protected) (to : Target) → MayCross hops d q to → (o : Outcome) → PrefixMeans n hops d q to o → SearchMeans n hops d q to o
 crossing-searched n hops d q to may prefixUnreachable f = omega (arith, may .step .finite)
 crossing-searched n hops d q to may prefixUntouched f = absurd (f .1 may)
 crossing-searched n hops d q to may noneServes f = f .1
-crossing-searched n hops d q to may (chosen m y class cost) f = f .1
+crossing-searched n hops d q to may (serving t) f = f .1

@@ -1,11 +1,11 @@
--- Laws of the lists that the definitions compute with: what a test of some element tells, which numbers are below n, which
--- elements pass a test, what a map and a list of lists hold, and the first number at which a test fails.
+-- Laws of the lists that the definitions compute with: what a test of some element or of every number tells, which numbers are below n,
+-- which elements pass a test, what a map and a list of lists hold. For each list one law says what its members are (`-gives`), and one
+-- how to show that something is a member (`-make`).
 -- Assumes nothing.
 use Prim.Native.Nat.{ℕ, zero, suc, _+_, _≤_, _<_}
 use mathlib.Core.Path.{_≡_, refl, ap}
 use mathlib.Core.Logic.{_⊎_, inl, inr}
 use mathlib.Core.Bool.{Bool, true, false, false≢true}
-use mathlib.Core.Option.{Option, none, some}
 use mathlib.Core.List.{List, [], _∷_, map, List·Memᴰ, List·Memᴰ·head, List·Memᴰ·tail, List·Memᴰ·cases-cons, List·Memᴰ·not-nil, List·Memᴰ·append-cases, Memᴰ·append-left, Memᴰ·append-right, Memᴰ·cast}
 use native.Mathlib.Omega.{arith}
 use native.Mathlib.Nat.{not-suc-le-zero, le-of-suc-le-suc, eq-or-lt-of-le}
@@ -13,7 +13,7 @@ use lib.Dec.{eqb}
 use lib.ListN.{getD, length}
 use borrow.Author.Tests.{eqb-true, eqb-false, eq-eqb}
 use Rattle.lfa.specs.Laws.Test.{and-left, and-right, and-make, or-cases, or-left, or-right, decide}
-use Rattle.lfa.specs.Lists.{countUp, below, select, keepIf, anyOf, everyBelow, memberOf, flat, firstFailing, FirstFails, unless}
+use Rattle.lfa.specs.Lists.{countUp, below, select, keepIf, anyOf, everyBelow, memberOf, flat}
 
 -- ---- some element passes a test
 
@@ -43,23 +43,18 @@ counted-below i (suc n) r h k = go (λ e. counted-below (suc i) n r e (omega ari
     go rest (inl e) = List·Memᴰ·head (eqb-true r i e)
     go rest (inr e) = let ne : (r ≡ i) → ⊥ = eqb-false r i e in List·Memᴰ·tail (rest (omega arith))
 
-pub from-counted : (i n r : ℕ) → List·Memᴰ r (countUp i n) → i ≤ r
+-- the numbers listed are from i on and below i + n
+from-to : (i n r : ℕ) → List·Memᴰ r (countUp i n) → (i ≤ r) × (r < i + n)
 unfolding countUp
-from-counted i zero r m = absurd (List·Memᴰ·not-nil m)
-from-counted i (suc n) r m = go (from-counted (suc i) n r) (List·Memᴰ·cases-cons m)
+from-to i zero r m = absurd (List·Memᴰ·not-nil m)
+from-to i (suc n) r m = go (from-to (suc i) n r) (List·Memᴰ·cases-cons m)
   where
-    go : (List·Memᴰ r (countUp (suc i) n) → suc i ≤ r) → (r ≡ i) ⊎ List·Memᴰ r (countUp (suc i) n) → i ≤ r
-    go rest (inl e) = omega arith
-    go rest (inr m) = omega (arith, rest m)
+    go : (List·Memᴰ r (countUp (suc i) n) → (suc i ≤ r) × (r < suc i + n)) → (r ≡ i) ⊎ List·Memᴰ r (countUp (suc i) n) → (i ≤ r) × (r < i + suc n)
+    go rest (inl e) = (omega arith, omega arith)
+    go rest (inr m) = (omega (arith, rest m .0), omega (arith, rest m .1))
 
-below-counted : (i n r : ℕ) → List·Memᴰ r (countUp i n) → r < i + n
-unfolding countUp
-below-counted i zero r m = absurd (List·Memᴰ·not-nil m)
-below-counted i (suc n) r m = go (below-counted (suc i) n r) (List·Memᴰ·cases-cons m)
-  where
-    go : (List·Memᴰ r (countUp (suc i) n) → r < suc i + n) → (r ≡ i) ⊎ List·Memᴰ r (countUp (suc i) n) → r < i + suc n
-    go rest (inl e) = omega arith
-    go rest (inr m) = omega (arith, rest m)
+pub from-counted : (i n r : ℕ) → List·Memᴰ r (countUp i n) → i ≤ r
+from-counted i n r m = from-to i n r m .0
 
 pub mem-below : (n r : ℕ) → r < n → List·Memᴰ r (below n)
 unfolding below
@@ -67,7 +62,7 @@ mem-below n r h = counted-below 0 n r (omega arith) (omega arith)
 
 pub below-mem : (n r : ℕ) → List·Memᴰ r (below n) → r < n
 unfolding below
-below-mem n r m = omega (arith, below-counted 0 n r m)
+below-mem n r m = omega (arith, from-to 0 n r m .1)
 
 -- ---- the elements that pass a test
 
@@ -155,61 +150,3 @@ pub every-make : (p : ℕ → Bool) (n : ℕ) → ((k : ℕ) → k < n → p k �
 unfolding everyBelow
 every-make p zero h = refl
 every-make p (suc n) h = and-make _ _ (every-make p n (λ k l. h k (omega arith))) (h n (omega arith))
-
--- ---- the first number at which a test fails
-
--- none fails exactly when each passes
-pub none-failing : (good : ℕ → Bool) (i n : ℕ) → firstFailing good i n ≡ none → (k : ℕ) → i ≤ k → k < i + n → good k ≡ true
-unfolding firstFailing
-none-failing good i zero e k h h′ = absurd (omega arith)
-none-failing good i (suc n) e k h h′ = go (good i) refl e (none-failing good (suc i) n) (decide (eqb i k))
-  where
-    go : (b : Bool) → good i ≡ b → _≡_ {A = Option ℕ} (elim b as (λ _. Option ℕ) [ true ↦ firstFailing good (suc i) n | false ↦ some i ]) none →
-        (firstFailing good (suc i) n ≡ none → (k : ℕ) → suc i ≤ k → k < suc i + n → good k ≡ true) → (eqb i k ≡ true) ⊎ (eqb i k ≡ false) → good k ≡ true
-    go true g e rest (inl t) = rw (← eqb-true i k t) g
-    go true g e rest (inr t) = let ne : i ≡ k → ⊥ = eqb-false i k t in rest e k (omega arith) (omega arith)
-    go false g e rest t = cc
-
-pub all-passing : (good : ℕ → Bool) (i n : ℕ) → ((k : ℕ) → i ≤ k → k < i + n → good k ≡ true) → firstFailing good i n ≡ none
-unfolding firstFailing
-all-passing good i zero h = refl
-all-passing good i (suc n) h = rw (h i (omega arith) (omega arith), firstFailing) (all-passing good (suc i) n (λ k a b. h k (omega arith) (omega arith)))
-
-pub first-failing : (good : ℕ → Bool) (i n k : ℕ) → firstFailing good i n ≡ some k → FirstFails good i n k
-unfolding firstFailing
-first-failing good i zero k e = absurd (let z : _≡_ {A = ℕ} 0 1 = cc in omega arith)
-first-failing good i (suc n) k e = go (good i) refl e (first-failing good (suc i) n k)
-  where
-    later : good i ≡ true → FirstFails good (suc i) n k → (j : ℕ) → i ≤ j → j < k → good j ≡ true
-    later g f j h l = pick (eq-or-lt-of-le h)
-      where
-        pick : (i ≡ j) ⊎ (i < j) → good j ≡ true
-        pick (inl p) = rw (← p) g
-        pick (inr m) = f .before j m l
-
-    go : (b : Bool) → good i ≡ b → _≡_ {A = Option ℕ} (elim b as (λ _. Option ℕ) [ true ↦ firstFailing good (suc i) n | false ↦ some i ]) (some k) →
-        (firstFailing good (suc i) n ≡ some k → FirstFails good (suc i) n k) → FirstFails good i (suc n) k
-    go true g e rest = let f = rest e in record { from = omega (arith, f .from); to = omega (arith, f .to); fails = f .fails; before = later g f }
-    go false g e rest =
-        let p : i ≡ k = cc in
-        record { from = omega arith; to = omega arith; fails = rw (← p) g; before = λ j h l. absurd (omega arith) }
-
-pub failing-first : (good : ℕ → Bool) (i n k : ℕ) → FirstFails good i n k → firstFailing good i n ≡ some k
-unfolding firstFailing
-failing-first good i zero k f = absurd (omega (arith, f .from, f .to))
-failing-first good i (suc n) k f = pick (eq-or-lt-of-le (f .from)) (failing-first good (suc i) n k)
-  where
-    pick : (i ≡ k) ⊎ (i < k) → (FirstFails good (suc i) n k → firstFailing good (suc i) n ≡ some k) → firstFailing good i (suc n) ≡ some k
-    pick (inl p) rest = let e : good i ≡ false = rw p (f .fails) in rw (e, firstFailing) (ap some p)
-    pick (inr l) rest =
-        let e : good i ≡ true = f .before i (omega arith) l in
-        rw (e, firstFailing) (rest (record { from = l; to = omega (arith, f .to); fails = f .fails; before = λ j h m. f .before j (omega arith) m }))
-
-pub unless-none : (good : Bool) (v : ℕ) → unless good v ≡ none → good ≡ true
-unfolding unless
-unless-none true v e = refl
-unless-none false v e = cc
-
-pub unless-good : (good : Bool) (v : ℕ) → good ≡ true → unless good v ≡ none
-unfolding unless
-unless-good good v e = rw (e, unless)

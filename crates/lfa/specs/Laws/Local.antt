@@ -13,7 +13,7 @@ use borrow.Author.Tests.{ltb-true, ltb-false}
 use Rattle.lfa.specs.Laws.Test.{decide}
 use Rattle.lfa.specs.Network.{Arc, arc}
 use Rattle.lfa.specs.Distance.{unreachable, RouterPath, stay, via, LeastCosts}
-use Rattle.lfa.specs.Laws.Distance.{route-cost}
+use Rattle.lfa.specs.Laws.Hop.{route-cost}
 use Rattle.lfa.specs.Laws.Walk.{Descends}
 
 -- the laws of distances at each arc

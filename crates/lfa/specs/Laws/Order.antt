@@ -98,6 +98,16 @@ module _ (k : Pair → List ℕ) where
 
 -- ---- the five clauses
 
+-- keys that agree one by one are the same
+keysMade : (first endpoint class cost distance : ℕ) → Keys
+keysMade n y k c r = record { told = record { first = n; endpoint = y; class = k; cost = c }; distance = r }
+
+same-keys : (a b : Keys) → a .told .first ≡ b .told .first → a .told .endpoint ≡ b .told .endpoint → a .told .class ≡ b .told .class → a .told .cost ≡ b .told .cost → a .distance ≡ b .distance → a ≡ b
+unfolding keysMade
+same-keys a b e₁ e₂ e₃ e₄ e₅ =
+    let e : keysMade (a .told .first) (a .told .endpoint) (a .told .class) (a .told .cost) (a .distance) ≡ keysMade (b .told .first) (b .told .endpoint) (b .told .class) (b .told .cost) (b .distance) = cc in
+    e
+
 -- The list of keys comes no later exactly when one of the five clauses holds or all keys are the same: key by key, the first that
 -- differs is the clause.
 pub key-first : (a b : Keys) → NoLater (key a) (key b) → First a b
@@ -107,7 +117,7 @@ key-first a b (same e₁ (less h)) = inl (by-distance e₁ h)
 key-first a b (same e₁ (same e₂ (less h))) = inl (by-endpoint e₁ e₂ h)
 key-first a b (same e₁ (same e₂ (same e₃ (less h)))) = inl (by-tunnel e₁ e₂ e₃ h)
 key-first a b (same e₁ (same e₂ (same e₃ (same e₄ (less h))))) = inl (by-hop e₁ e₂ e₃ e₄ h)
-key-first a b (same e₁ (same e₂ (same e₃ (same e₄ (same e₅ r))))) = inr (record { class = e₁; distance = e₂; endpoint = e₃; tunnel = e₄; hop = e₅ })
+key-first a b (same e₁ (same e₂ (same e₃ (same e₄ (same e₅ r))))) = inr (same-keys a b e₅ e₃ e₁ e₄ e₂)
 
 pub first-key : (a b : Keys) → First a b → NoLater (key a) (key b)
 unfolding key
@@ -116,4 +126,4 @@ first-key a b (inl (by-distance e₁ h)) = same e₁ (less h)
 first-key a b (inl (by-endpoint e₁ e₂ h)) = same e₁ (same e₂ (less h))
 first-key a b (inl (by-tunnel e₁ e₂ e₃ h)) = same e₁ (same e₂ (same e₃ (less h)))
 first-key a b (inl (by-hop e₁ e₂ e₃ e₄ h)) = same e₁ (same e₂ (same e₃ (same e₄ (less h))))
-first-key a b (inr s) = same (s .class) (same (s .distance) (same (s .endpoint) (same (s .tunnel) (same (s .hop) ended))))
+first-key a b (inr e) = rw e (later-refl (key b))

@@ -9,7 +9,7 @@ use Rattle.lfa.specs.File.{routersOf, linksOf, prefixesOf}
 use Rattle.lfa.specs.Question.{Question, workArea, routeBuffer, aLink, aPrefix, lent, HasInput}
 use Rattle.lfa.specs.Refusal.{Row, shortArea, shortBuffer, noSuchLink, noSuchPrefix, entryOf, tries, returned, sizedReturned}
 use Rattle.lfa.specs.Laws.Test.{and-make}
-use Rattle.lfa.specs.Laws.List.{unless-good}
+use Rattle.lfa.specs.Laws.FirstFailing.{unless-good}
 
 module _ (q : Question) where
   -- a row that does not apply, where the call tries it

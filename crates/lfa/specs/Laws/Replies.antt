@@ -1,6 +1,6 @@
 -- What each call answers to a question that no row before 14 turns away, and what that tells of the network.
 -- Assumes nothing.
-use Prim.Native.Nat.{ℕ}
+use Prim.Native.Nat.{ℕ, _<_}
 use mathlib.Core.Path.{_≡_, refl, sym, ap, _∙_, subst}
 use mathlib.Core.Logic.{_⊎_, inl, inr, _↔_}
 use mathlib.Core.Bool.{true, false≢true}
@@ -9,14 +9,14 @@ use lib.ListN.{length}
 use Rattle.lfa.specs.Lists.{anyOf, memberOf}
 use Rattle.lfa.specs.Network.{router}
 use Rattle.lfa.specs.Space.{Space}
-use Rattle.lfa.specs.Repair.{Outcome, prefixUnreachable, prefixUntouched, noneServes, chosen}
+use Rattle.lfa.specs.Repair.{Serves, Told, Outcome, prefixUnreachable, prefixUntouched, noneServes, serving}
 use Rattle.lfa.specs.Route.{routeOf}
 use Rattle.lfa.specs.Question.{Question, Call, load, fill, space, linkRepair, prefixRepair, route, askPrefix, toPrefixRepair, workArea, routeBuffer, aLink, aPrefix, lent, Input, inputsOf, inputNumber, hasInput, HasInput, networkAsked, linkAsked, prefixAsked, withDistances, linkFound, prefixFound}
 use Rattle.lfa.specs.Refusal.{entryOf, Posed}
 use Rattle.lfa.specs.Answer.{refused, Answer, untouched, unreached, repair, repairAnswer, routeAnswer, routeFor, routePlayed, computed, answerTo, routeAfter}
 use Rattle.lfa.specs.Demands.{N, Hops, D, RouteNamed}
 use Rattle.lfa.specs.Laws.Asked.{posed-answer, posed-route, answer-chosen}
-use Rattle.lfa.specs.Laws.Repair.{SearchMeans, PrefixMeans, IsFirstPair, link-means, prefix-means}
+use Rattle.lfa.specs.Laws.Repair.{SearchMeans, PrefixMeans, IsFirstPair, link-means, prefix-means, told-routers}
 use Rattle.lfa.specs.Laws.Route.{route-named, route-once, route-walks}
 use Rattle.lfa.specs.Laws.HasThis.{sound, least-costs, named}
 
@@ -70,14 +70,14 @@ unfolding repairAnswer entryOf
 repair-tells prefixUnreachable = record { is-unreached = (λ e. refl, λ e. refl); is-untouched = (λ e. cc, λ e. cc); is-14 = (λ e. cc, λ e. cc) }
 repair-tells prefixUntouched = record { is-unreached = (λ e. cc, λ e. cc); is-untouched = (λ e. refl, λ e. refl); is-14 = (λ e. cc, λ e. cc) }
 repair-tells noneServes = record { is-unreached = (λ e. cc, λ e. cc); is-untouched = (λ e. cc, λ e. cc); is-14 = (λ e. refl, λ e. refl) }
-repair-tells (chosen n y class cost) = record { is-unreached = (λ e. cc, λ e. cc); is-untouched = (λ e. cc, λ e. cc); is-14 = (λ e. cc, λ e. cc) }
+repair-tells (serving t) = record { is-unreached = (λ e. cc, λ e. cc); is-untouched = (λ e. cc, λ e. cc); is-14 = (λ e. cc, λ e. cc) }
 
 pub route-tells : (o : Outcome) (count : ℕ) → Tells (routeAnswer o count) o
 unfolding routeAnswer entryOf
 route-tells prefixUnreachable count = record { is-unreached = (λ e. refl, λ e. refl); is-untouched = (λ e. cc, λ e. cc); is-14 = (λ e. cc, λ e. cc) }
 route-tells prefixUntouched count = record { is-unreached = (λ e. cc, λ e. cc); is-untouched = (λ e. refl, λ e. refl); is-14 = (λ e. cc, λ e. cc) }
 route-tells noneServes count = record { is-unreached = (λ e. cc, λ e. cc); is-untouched = (λ e. cc, λ e. cc); is-14 = (λ e. refl, λ e. refl) }
-route-tells (chosen n y class cost) count = record { is-unreached = (λ e. cc, λ e. cc); is-untouched = (λ e. cc, λ e. cc); is-14 = (λ e. cc, λ e. cc) }
+route-tells (serving t) count = record { is-unreached = (λ e. cc, λ e. cc); is-untouched = (λ e. cc, λ e. cc); is-14 = (λ e. cc, λ e. cc) }
 
 module _ (q : Question) (p : Posed q) where
   pub prefix-tells : HasInput q aPrefix → Tells (answerTo q) (prefixFound q)
@@ -139,33 +139,42 @@ module _ (q : Question) (p : Posed q) (c : q .call ≡ route) where
   unfolding toPrefixRepair askPrefix prefixFound networkAsked linkAsked prefixAsked hasInput inputsOf inputNumber memberOf anyOf
   prefix-tells-same = prefix-tells (toPrefixRepair q) prefix-posed refl
 
-  pub pair-found : {n y class cost : ℕ} → answerTo (toPrefixRepair q) ≡ repair n y class cost → prefixFound q ≡ chosen n y class cost
+  pub pair-found : {t : Told} → answerTo (toPrefixRepair q) ≡ repair t → prefixFound q ≡ serving t
   unfolding computed toPrefixRepair askPrefix prefixFound networkAsked linkAsked prefixAsked
-  pair-found {n} {y} {class} {cost} r = answer-chosen (prefixFound q) n y class cost (sym (posed-answer (toPrefixRepair q) prefix-posed) ∙ r)
+  pair-found {t} r = answer-chosen (prefixFound q) t (sym (posed-answer (toPrefixRepair q) prefix-posed) ∙ r)
 
-  module _ {n y class cost : ℕ} (found : prefixFound q ≡ chosen n y class cost) where
-    searched-first : IsFirstPair (N q) (Hops q) (D q) (linkAsked q) (prefixAsked q) n y class cost
+  module _ {t : Told} (found : prefixFound q ≡ serving t) where
+    searched-first : IsFirstPair (N q) (Hops q) (D q) (linkAsked q) (prefixAsked q) t
     searched-first = subst (PrefixMeans (N q) (Hops q) (D q) (linkAsked q) (prefixAsked q)) found (prefix-meaning q p (route-has-prefix (q .call) c)) .1
 
     -- the route of the pair that was found
     abbrev pub Played : List ℕ
-    Played = routeOf (N q) (Hops q) (D q) (prefixAsked q) (q .choices) (linkAsked q .near) n y
+    Played = routeOf (N q) (Hops q) (D q) (prefixAsked q) (q .choices) (linkAsked q .near) (t .first) (t .endpoint)
 
     played-is : routePlayed q ≡ Played
     unfolding routePlayed routeFor withDistances
     played-is = ap (routeFor q) found
 
-    pub played-named : RouteNamed q n y
+    -- its two legs avoid the link, and its routers are routers
+    of-told : (P : ℕ → ℕ → Type 0) → P (searched-first .pair .hop .router) (searched-first .pair .endpoint) → P (t .first) (t .endpoint)
+    of-told = told-routers (D q) (linkAsked q) (prefixAsked q) (searched-first .pair) (searched-first .told-is)
+
+    pub told-first-in : t .first < N q
+    told-first-in = of-told (λ n y. n < N q) (sound q p .within .to (searched-first .is-pair .first-hop .joined))
+
+    pub told-endpoint-in : t .endpoint < N q
+    told-endpoint-in = of-told (λ n y. y < N q) (searched-first .is-pair .end-in)
+
+    pub played-named : RouteNamed q (t .first) (t .endpoint)
     unfolding computed routeAnswer hasInput inputsOf inputNumber memberOf anyOf
     played-named =
-        let f = searched-first in
-        let hop-in = sound q p .within .to (f .is-pair .first-hop .joined) in
+        let serves = of-told (Serves (Hops q) (D q) (linkAsked q) (prefixAsked q)) (searched-first .serves) in
         let named =
-        route-named (N q) (Hops q) (D q) (prefixAsked q) (q .choices) (linkAsked q .near) n y (sound q p) (least-costs q p)
-        hop-in (f .is-pair .end-in) (f .serves .tunnel .reachable) (f .serves .onward .reachable) in
+        route-named (N q) (Hops q) (D q) (prefixAsked q) (q .choices) (linkAsked q .near) (t .first) (t .endpoint) (sound q p) (least-costs q p)
+        told-first-in told-endpoint-in (serves .tunnel .reachable) (serves .onward .reachable) in
         let walks =
-        route-walks (N q) (Hops q) (D q) (prefixAsked q) (q .choices) (linkAsked q .near) n y (sound q p) (least-costs q p)
-        hop-in (f .is-pair .end-in) (f .serves .tunnel .reachable) (f .serves .onward .reachable) named in
+        route-walks (N q) (Hops q) (D q) (prefixAsked q) (q .choices) (linkAsked q .near) (t .first) (t .endpoint) (sound q p) (least-costs q p)
+        told-first-in told-endpoint-in (serves .tunnel .reachable) (serves .onward .reachable) named in
         record {
           routers = Played;
           named = named;

@@ -11,7 +11,7 @@ use mathlib.Core.List.{List, List·Memᴰ}
 use Rattle.lfa.specs.Lists.{one, count, HowMany, nothing, one-more, no-more}
 use Rattle.lfa.specs.Network.{Arc, router}
 use Rattle.lfa.specs.Walk.{Avoids, avoids}
-use Rattle.lfa.specs.Space.{Protected, FirstHop, first, firstHops, hopRouter, Space, pSpace, extendedP, qSpace, NeighbourAvoids, Member, inSpace, setOf, spaceOf, has, sizeOf}
+use Rattle.lfa.specs.Space.{Protected, FirstHop, firstHops, Space, pSpace, extendedP, qSpace, NeighbourAvoids, Member, inSpace, setOf, spaceOf, has, sizeOf}
 use Rattle.lfa.specs.Laws.List.{any-gives, any-make}
 use Rattle.lfa.specs.Laws.Bound.{Sound}
 use Rattle.lfa.specs.Laws.Avoid.{Named, avoids-gives, avoids-make}
@@ -25,20 +25,20 @@ module _ (n : ℕ) (hops : List Arc) (d : ℕ → ℕ → ℕ) (q : Protected) (
   in-gives : (s : Space) (r : ℕ) → r < n → inSpace s n hops d q r ≡ true → Member s hops d q r
   unfolding inSpace
   in-gives pSpace r h e = decided r (q .near) (sound .within .from (named .outward)) e
-  in-gives extendedP r h e = let a = any-gives (λ f. avoids n hops d (router r) (q .number) (hopRouter f)) (firstHops q hops) e in by (a .0) (a .1) (a .2)
+  in-gives extendedP r h e = let a = any-gives (λ f. avoids n hops d (router r) (q .number) (f .router)) (firstHops q hops) e in by (a .0) (a .1) (a .2)
     where
-      by : (f : FirstHop) → List·Memᴰ f (firstHops q hops) → avoids n hops d (router r) (q .number) (hopRouter f) ≡ true → NeighbourAvoids hops d q r
-      by (first m c l) k t =
-          let g = firsts-give q hops m c l k in
-          record { neighbour = m; cost = c; over = l; first-hop = g; avoids-to = decided r m (sound .within .to (g .joined)) (unfold hopRouter in t) }
+      by : (f : FirstHop) → List·Memᴰ f (firstHops q hops) → avoids n hops d (router r) (q .number) (f .router) ≡ true → NeighbourAvoids hops d q r
+      by f k t =
+          let g = firsts-give q hops f k in
+          record { neighbour = f; first-hop = g; avoids-to = decided r (f .router) (sound .within .to (g .joined)) t }
   in-gives qSpace r h e = decided (q .far) r h e
 
   in-make : (s : Space) (r : ℕ) → Member s hops d q r → inSpace s n hops d q r ≡ true
-  unfolding inSpace hopRouter
+  unfolding inSpace
   in-make pSpace r m = avoids-make n hops d (router r) (q .number) (q .near) m
   in-make extendedP r m =
-      any-make (λ f. avoids n hops d (router r) (q .number) (hopRouter f))
-      (firsts-make q hops (m .neighbour) (m .cost) (m .over) (m .first-hop)) (avoids-make n hops d (router r) (q .number) (m .neighbour) (m .avoids-to))
+      any-make (λ f. avoids n hops d (router r) (q .number) (f .router))
+      (firsts-make q hops (m .neighbour) (m .first-hop)) (avoids-make n hops d (router r) (q .number) (m .neighbour .router) (m .avoids-to))
   in-make qSpace r m = avoids-make n hops d (router (q .far)) (q .number) r m
 
   -- Bit r of a space is one exactly when r is a router and a member: the set is built from the test, and the test decides walks.

@@ -14,7 +14,8 @@ use Rattle.lfa.specs.Question.{Question, Buffer, workArea, routeBuffer, 
 use Rattle.lfa.specs.Refusal.{FileRow, Row, ofFile, shortArea, shortBuffer, noSuchLink, noSuchPrefix, noPair, asLent, leavesAll, entryOf, earlyRows, questionRows, tries, returned, Decided, decided, firstRow, inFile, orLater, earlyRefusal, fileRefusal, refusalOf, Accepted, Posed, sizedReturned}
 use Rattle.lfa.specs.Answer.{Answer, refused, accepted, refusal, earlyAnswer, computed, answerTo, leave, exitBy, exitOf, workAfter, routeAfter}
 use Rattle.lfa.specs.Laws.Test.{and-left, and-right}
-use Rattle.lfa.specs.Laws.List.{select-gives, select-make, unless-none}
+use Rattle.lfa.specs.Laws.List.{select-gives, select-make}
+use Rattle.lfa.specs.Laws.FirstFailing.{unless-none}
 use Rattle.lfa.specs.Laws.Rows.{FirstFound, first-found, none-decides, still-decides}
 use Rattle.lfa.specs.Laws.FileRows.{first-listed, loaded-rows, load-passes, refused-file, load-accepted}
 use Rattle.lfa.specs.Laws.Accepted.{link-count, prefix-count}
@@ -31,8 +32,7 @@ LeavesAll r = (x : Buffer) → entryOf r .left x ≡ asLent
 
 leaves-all : (x : Buffer) → leavesAll x ≡ asLent
 unfolding leavesAll
-leaves-all workArea = refl
-leaves-all routeBuffer = refl
+leaves-all x = refl
 
 module _ (q : Question) (r : Row) (v : ℕ) where
   turned-away : refusalOf q ≡ some (decided r v) → LeavesAll r → TurnedAway q (refused (entryOf r .number) v)
@@ -63,15 +63,7 @@ pub file-turned-away : (q : Question) (d : Decided FileRow) → fileRefusal (q .
 unfolding refusal inFile entryOf
 file-turned-away q (decided r v) e = turned-away q (ofFile r) v (refused-file q (decided r v) e) leaves-all
 
--- so does a refusal that `load` answers, and where it answers with none, no row turns the file away
-pub load-refuses : (q : Question) (d : Decided FileRow) → answerTo (loading (q .file)) ≡ refusal (inFile d) → TurnedAway q (refusal (inFile d))
-unfolding loadAnswer refusal inFile
-load-refuses q (decided r v) e = go (fileRefusal (q .file)) refl (sym (load-answer (q .file)) ∙ e)
-  where
-    go : (o : Option (Decided FileRow)) → fileRefusal (q .file) ≡ o → loadAnswer o ≡ refusal (inFile (decided r v)) → TurnedAway q (refusal (inFile (decided r v)))
-    go none p e = absurd (let z : _≡_ {A = ℕ} 0 1 = cc in omega arith)
-    go (some d) p e = subst (TurnedAway q) e (file-turned-away q d p)
-
+-- where `load` answers with no refusal, no row turns the file away
 pub load-accepts : (b : Bytes) → answerTo (loading b) ≡ accepted → fileRefusal b ≡ none
 unfolding loadAnswer refusal inFile
 load-accepts b e = go (fileRefusal b) refl (sym (load-answer b) ∙ e)

@@ -22,9 +22,9 @@ unfolding linksFit
 links-fit {n} {links} {from} {to} w =
     and-make _ _ (le-leb links 128 (w .few-links)) (every-make (joins n from to) links (λ k h. and-make _ _ (lt-ltb _ _ (w .from-in k h)) (lt-ltb _ _ (w .to-in k h))))
 
-pub slots-fit : {n first count : ℕ} {routers : List ℕ} → SlotsWithin n first count routers → slotsFit n first count routers ≡ true
+pub slots-fit : {n slot count : ℕ} {routers : List ℕ} → SlotsWithin n slot count routers → slotsFit n slot count routers ≡ true
 unfolding slotsFit
-slots-fit {n} {first} {count} {routers} w = and-make _ _ (le-leb _ 1024 (w .few)) (every-make (attaches n first routers) count (λ s h. lt-ltb _ _ (w .router-in s h)))
+slots-fit {n} {slot} {count} {routers} w = and-make _ _ (le-leb _ 1024 (w .few)) (every-make (attaches n slot routers) count (λ s h. lt-ltb _ _ (w .router-in s h)))
 
 -- ---- what a test that passed tells
 
@@ -43,9 +43,9 @@ links-give n links from to few e =
       to-in = λ k h. ltb-true _ _ (and-right (ltb (getD from k 0) n) _ (each k h));
     }
 
-pub slots-give : (n first count : ℕ) (routers : List ℕ) → slotsFit n first count routers ≡ true → SlotsWithin n first count routers
+pub slots-give : (n slot count : ℕ) (routers : List ℕ) → slotsFit n slot count routers ≡ true → SlotsWithin n slot count routers
 unfolding slotsFit
-slots-give n first count routers e = record {
+slots-give n slot count routers e = record {
   few = leb-true _ 1024 (and-left _ _ e);
-  router-in = λ s h. ltb-true _ _ (every-gives (attaches n first routers) count (and-right (leb (first + count) 1024) _ e) s h);
+  router-in = λ s h. ltb-true _ _ (every-gives (attaches n slot routers) count (and-right (leb (slot + count) 1024) _ e) s h);
 }

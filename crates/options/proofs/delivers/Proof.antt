@@ -10,15 +10,15 @@ use borrow.Author.Tests.{eqb-true, eqb-false}
 use borrow.Author.Needs.{needs}
 use Rattle.lfa.specs.Network.{at as attachment}
 use Rattle.lfa.specs.Route.{attachedAt}
-use Rattle.options.proofs.OptionLaws.{never-delivers, NoneBefore, none-yet, none-here, other-router, other-cost, delivers-here, delivers-nowhere}
+use Rattle.options.proofs.DeliveryLaws.{never-delivers, NoneBefore, none-yet, none-here, other-router, other-cost, delivers-here, delivers-nowhere}
 use Rattle.options.proofs.delivers.Statement.{statement}
 use Rattle.options.proofs.delivers.Tie as tie
 
 abbrev Inv-loop : tie.InvT-loop
-Inv-loop at own first count target x d s₀ s = (s ≤ count) × NoneBefore at own first x d s
+Inv-loop at own slot count target x d s₀ s = (s ≤ count) × NoneBefore at own slot x d s
 
 abbrev μ-loop : tie.MeasureT-loop
-μ-loop at own first count target x d s₀ s = count - s
+μ-loop at own slot count target x d s₀ s = count - s
 
 mul-d : tie.Need-mul-d Inv-loop μ-loop
 mul-d c = search needs
@@ -54,7 +54,7 @@ returns-2 : tie.Need-returns-2 Inv-loop μ-loop
 returns-2 c =
     let l = c .before .before .before .before .before .before .before in
     let a = l .before .before .before .args in
-    let f : getD (a .own .now) (a .first + l .loop .s) 0 ≡ getD (a .target .now) (a .x) 0 = sym (c .before .cost-of .ensures) ∙ eqb-true _ _ (c .if3 .taken) in
+    let f : getD (a .own .now) (a .slot + l .loop .s) 0 ≡ getD (a .target .now) (a .x) 0 = sym (c .before .cost-of .ensures) ∙ eqb-true _ _ (c .if3 .taken) in
     delivers-here _ _ _ _ _ _ (l .loop .s) (c .before .before .before .before .before .before .loop-test .taken) (sym (c .before .before .before .before .wide .ensures) ∙ c .before .before .before .if2 .taken)
     f (c .before .before .before .before .before .before .before .before .if1 .left)
 
@@ -68,12 +68,12 @@ loop-again : tie.Need-loop-again Inv-loop μ-loop
 loop-again c =
     let at-loop = c .before .before .before .before in
     let a = at-loop .before .before .before .args in
-    let k = a .first + at-loop .loop .s in (
+    let k = a .slot + at-loop .loop .s in (
       omega arith,
       none-here _ _ _ _ _ _ (at-loop .loop .inv .1)
           (⊎-elim {C = attachedAt (a .x) (getD (a .target .now) (a .x) 0) (attachment (getD (a .at .now) k 0) (getD (a .own .now) k 0)) ≡ false}
-          (λ w. other-cost (a .at .now) (a .own .now) (a .first) (a .x) _ (at-loop .loop .s) (λ e. eqb-false _ _ (w .3 .left) (w .2 .ensures ∙ e)))
-          (λ w. other-router (a .at .now) (a .own .now) (a .first) (a .x) _ (at-loop .loop .s) (λ e. w .left (c .before .wide .ensures ∙ e))) (c .if2 .came)),
+          (λ w. other-cost (a .at .now) (a .own .now) (a .slot) (a .x) _ (at-loop .loop .s) (λ e. eqb-false _ _ (w .3 .left) (w .2 .ensures ∙ e)))
+          (λ w. other-router (a .at .now) (a .own .now) (a .slot) (a .x) _ (at-loop .loop .s) (λ e. w .left (c .before .wide .ensures ∙ e))) (c .if2 .came)),
     )
 
 returns-3 : tie.Need-returns-3 Inv-loop μ-loop

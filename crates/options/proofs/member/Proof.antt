@@ -7,7 +7,7 @@ use native.Mathlib.Omega.{arith}
 use lib.ListN.{getD}
 use borrow.Author.Needs.{needs}
 use Rattle.options.specs.Options.{membersOf}
-use Rattle.options.proofs.OptionLaws.{from, from-all, member-found, member-passed, member-other, member-none}
+use Rattle.options.proofs.MemberLaws.{from, from-all, member-found, member-passed, member-other, member-none}
 use Rattle.options.proofs.member.Statement.{statement}
 use Rattle.options.proofs.member.Tie as tie
 

@@ -4,7 +4,7 @@ use mathlib.Core.Logic.{inl, inr}
 use native.Mathlib.Omega.{arith}
 use borrow.Author.Needs.{needs}
 use Rattle.options.specs.Options.{moveIn}
-use Rattle.options.proofs.OptionLaws.{move-none, move-taken}
+use Rattle.options.proofs.MoveLaws.{move-none, move-taken}
 use Rattle.options.proofs.move_at.Statement.{statement}
 use Rattle.options.proofs.move_at.Tie as tie
 

@@ -6,9 +6,9 @@ use native.Mathlib.Omega.{arith}
 use lib.ListN.{getD}
 use borrow.Author.Needs.{needs}
 use Rattle.lfa.specs.Space.{setOf}
-use Rattle.distance.specs.Columns.{arcsIn}
+use Rattle.metric.specs.Columns.{arcsIn}
 use Rattle.options.specs.Options.{nextBy}
-use Rattle.options.proofs.OptionLaws.{nothing-next, next-more}
+use Rattle.options.proofs.NextLaws.{nothing-next, next-more}
 use Rattle.options.proofs.next_routers.Statement.{statement}
 use Rattle.options.proofs.next_routers.Tie as tie
 

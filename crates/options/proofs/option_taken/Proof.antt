@@ -8,7 +8,8 @@ use lib.ListN.{getD}
 use borrow.Author.Tests.{not-true, not-false}
 use borrow.Author.Needs.{needs}
 use Rattle.options.specs.Options.{moveIn, membersOf}
-use Rattle.options.proofs.OptionLaws.{few-ones, members-count, taken-none, taken-step, taken-delivery, taken-later}
+use Rattle.options.proofs.MemberLaws.{few-ones, members-count}
+use Rattle.options.proofs.MoveLaws.{taken-none, taken-step, taken-delivery, taken-later}
 use Rattle.options.proofs.option_taken.Statement.{statement}
 use Rattle.options.proofs.option_taken.Tie as tie
 

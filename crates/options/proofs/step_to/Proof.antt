@@ -3,7 +3,7 @@
 use mathlib.Core.Path.{sym, _∙_}
 use native.Mathlib.Omega.{arith}
 use borrow.Author.Needs.{needs}
-use Rattle.options.proofs.OptionLaws.{leaves-other, not-reached, leads-beyond, not-tight, stepped}
+use Rattle.options.proofs.NextLaws.{leaves-other, not-reached, leads-beyond, not-tight, stepped}
 use Rattle.options.proofs.step_to.Statement.{statement}
 use Rattle.options.proofs.step_to.Tie as tie
 

@@ -19,11 +19,11 @@ use Rattle.lfa.specs.Laws.List.{any-gives, below-mem, from-counted}
 use Rattle.lfa.specs.Laws.Set.{has-setOf}
 use Rattle.lfa.specs.Laws.Arrive.{Within}
 use Rattle.metric.specs.Fit.{ColumnsWithin}
-use Rattle.distance.specs.Columns.{arcsIn}
-use Rattle.column.specs.Column.{column, slotsIn}
-use Rattle.distance.specs.Laws.List.{select-append, any-same, select-same}
-use Rattle.distance.specs.Laws.Columns.{columns-within}
-use Rattle.column.specs.Laws.Column.{column-at}
+use Rattle.metric.specs.Columns.{arcsIn}
+use Rattle.metric.specs.Column.{column, slotsIn}
+use Rattle.metric.specs.Laws.List.{select-append, any-same, select-same}
+use Rattle.metric.specs.Laws.Columns.{columns-within}
+use Rattle.metric.specs.Laws.Column.{column-at}
 use Rattle.options.specs.Options.{stepTo, nextBy, deliversBy, membersOf, fits, moveBy}
 
 -- ---- the options
@@ -113,15 +113,15 @@ module _ (n : ℕ) (few : n ≤ 64) (hops : List Arc) (within : Within hops n) (
 -- ---- the move
 
 -- numbers that are cells of the columns
-pub all-fit : (links first count x : ℕ) → links ≤ 128 → first + count ≤ 1024 → x < 64 → fits links first count x ≡ true
+pub all-fit : (links slot count x : ℕ) → links ≤ 128 → slot + count ≤ 1024 → x < 64 → fits links slot count x ≡ true
 unfolding fits
-all-fit links first count x l s h = and-make _ _ (and-make _ _ (le-leb links 128 l) (le-leb (first + count) 1024 s)) (lt-ltb x 64 h)
+all-fit links slot count x l s h = and-make _ _ (and-make _ _ (le-leb links 128 l) (le-leb (slot + count) 1024 s)) (lt-ltb x 64 h)
 
 -- The columns hold a network, the slots in use are among the 1024, and `target` holds the distances to what is attached there.
-pub move-known : {n links : ℕ} {from to : List ℕ} → ColumnsWithin n links from to → (out back routers costs : List ℕ) (first count : ℕ) → first + count ≤ 1024 →
-    (d : ℕ → ℕ → ℕ) (target : List ℕ) → target ≡ column n (towards d (slotsIn routers costs first count)) → (x byte : ℕ) → x < n →
-    moveBy links from to out back routers costs first count target x byte ≡ optionTaken (options n (arcsIn from to out back links) d (slotsIn routers costs first count) x) byte
+pub move-known : {n links : ℕ} {from to : List ℕ} → ColumnsWithin n links from to → (out back routers costs : List ℕ) (slot count : ℕ) → slot + count ≤ 1024 →
+    (d : ℕ → ℕ → ℕ) (target : List ℕ) → target ≡ column n (towards d (slotsIn routers costs slot count)) → (x byte : ℕ) → x < n →
+    moveBy links from to out back routers costs slot count target x byte ≡ optionTaken (options n (arcsIn from to out back links) d (slotsIn routers costs slot count) x) byte
 unfolding moveBy
-move-known {n} {links} {from} {to} w out back routers costs first count few d target held x byte x-in =
-    rw (all-fit links first count x (w .few-links) few (omega (arith, w .few-routers)), moveBy)
-    (ap (λ (ms : List Move). optionTaken ms byte) (options-same n (w .few-routers) (arcsIn from to out back links) (columns-within from to out back links n w) d (slotsIn routers costs first count) target held x x-in))
+move-known {n} {links} {from} {to} w out back routers costs slot count few d target held x byte x-in =
+    rw (all-fit links slot count x (w .few-links) few (omega (arith, w .few-routers)), moveBy)
+    (ap (λ (ms : List Move). optionTaken ms byte) (options-same n (w .few-routers) (arcsIn from to out back links) (columns-within from to out back links n w) d (slotsIn routers costs slot count) target held x x-in))

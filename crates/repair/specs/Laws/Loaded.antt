@@ -19,8 +19,8 @@ use Rattle.network_file.specs.declared.Verdict.the-variants as verdict
 use Rattle.network_file.specs.Struct.{fromOf, toOf, outOf, backOf, linkColumn, structOf}
 use Rattle.network_file.specs.declared.network.Network as struct
 use Rattle.metric.specs.Fit.{ColumnsWithin}
-use Rattle.distance.specs.Columns.{linksIn, InColumns}
-use Rattle.distance.specs.Laws.Columns.{limits-columns}
+use Rattle.metric.specs.Columns.{linksIn, InColumns}
+use Rattle.metric.specs.Laws.Columns.{limits-columns}
 use Rattle.network_file.specs.declared.Loaded.{Loaded}
 use Rattle.network_file.specs.declared.Verdict.the-variants as verdict
 use Rattle.network_file.specs.Load.{answerOf}

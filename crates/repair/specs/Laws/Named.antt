@@ -1,28 +1,24 @@
 -- What the columns of the network by value hold, once its file is accepted: the prefix and the link that a question names, the arcs,
 -- and with the work area filled the distances.
 -- Assumes nothing.
-use Prim.Native.Nat.{ℕ, _*_, _≤_, _<_}
+use Prim.Native.Nat.{ℕ, _*_, _<_}
 use mathlib.Core.Path.{_≡_, sym, ap, _∙_}
-use mathlib.Core.Bool.{true, _&&_}
 use mathlib.Core.List.{List, []}
 use native.Mathlib.Omega.{arith}
-use lib.Dec.{ltb, leb}
 use lib.ListN.{length, getD}
-use borrow.Author.Tests.{ltb-true, leb-true}
 use Rattle.lfa.specs.Network.{Link, link, arcs}
 use Rattle.lfa.specs.File.{Bytes, networkOf}
 use Rattle.lfa.specs.Distance.{distances, distanceIn, filled}
 use Rattle.lfa.specs.Space.{protectedBy, protected}
-use Rattle.lfa.specs.Laws.Test.{and-left, and-right}
 use Rattle.network_file.specs.declared.network.Network.{Network}
 use Rattle.network_file.specs.Struct.{structOf}
-use Rattle.distance.specs.Columns.{arcsIn}
+use Rattle.metric.specs.Columns.{arcsIn}
 use Rattle.metric.specs.Fit.{SlotsWithin}
-use Rattle.distance.specs.Area.{held}
-use Rattle.column.specs.Column.{slotsIn}
-use Rattle.distance.specs.Laws.Area.{held-filled}
-use Rattle.distance.specs.Laws.Columns.{arcs-columns}
-use Rattle.search.specs.Spaces.{protectedIn}
+use Rattle.metric.specs.Area.{held}
+use Rattle.metric.specs.Column.{slotsIn}
+use Rattle.metric.specs.Laws.Area.{held-filled}
+use Rattle.metric.specs.Laws.Columns.{arcs-columns}
+use Rattle.search.specs.Hops.{protectedIn}
 use Rattle.repair.specs.Taken.{Taken}
 use Rattle.repair.specs.Laws.Loaded.{limits, network-columns, routers-are, struct-link}
 use Rattle.repair.specs.Laws.Slot.{slots-prefix, slots-within}
@@ -61,20 +57,10 @@ module _ {b : Bytes} {network : Network} (t : Taken b network) (x : ℕ) (x-in :
 
 -- ---- the link that is named
 
-module _ {b : Bytes} {network : Network} (t : Taken b network) (l e : ℕ) (named : (ltb l (network .links) && leb e 1) ≡ true) where
-  pub link-in : l < network .links
-  link-in = search (ltb-true, and-left)
-
-  pub end-in : e ≤ 1
-  end-in = search (leb-true, and-right)
-
-  pub link-exists : l < length (networkOf b .links)
-  unfolding structOf
-  link-exists = let n : network .links ≡ length (networkOf b .links) = ap (λ (n : Network). n .links) (t .network-is) in omega (arith, link-in)
-
-  -- the columns hold the protected link
-  pub protected-is : protectedIn (network .from) (network .to) (network .out) (network .back) l e ≡ protected (networkOf b) l e
-  unfolding protectedIn protected structOf
-  protected-is =
-      let s : Network → Link = λ n. link (getD (n .from) l 0) (getD (n .to) l 0) (getD (n .out) l 0) (getD (n .back) l 0) in
-      ap (protectedBy l e) (ap s (t .network-is) ∙ struct-link (networkOf b) l link-exists)
+-- the columns hold the protected link
+pub protected-is : {b : Bytes} {network : Network} (t : Taken b network) (l e : ℕ) → l < length (networkOf b .links) →
+    protectedIn (network .from) (network .to) (network .out) (network .back) l e ≡ protected (networkOf b) l e
+unfolding protectedIn protected structOf
+protected-is {b} t l e link-in =
+    let s : Network → Link = λ n. link (getD (n .from) l 0) (getD (n .to) l 0) (getD (n .out) l 0) (getD (n .back) l 0) in
+    ap (protectedBy l e) (ap s (t .network-is) ∙ struct-link (networkOf b) l link-in)

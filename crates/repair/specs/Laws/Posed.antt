@@ -1,29 +1,59 @@
--- What the answer of `pose` tells of a question: it is turned away with that refusal, or no row before 14 applies to it.
+-- What the answer of `pose` tells of a question: it is turned away with that refusal, or no row before 14 applies to it, and the work area
+-- holds the distances.
 -- Assumes nothing.
 use Prim.Native.Nat.{ℕ, _<_}
 use mathlib.Core.Path.{_≡_, refl, sym, ap, _∙_}
+use mathlib.Core.List.{List}
 use Rattle.lfa.specs.Lists.{select, memberOf, anyOf}
-use Rattle.lfa.specs.File.{Bytes, byteAt}
+use Rattle.lfa.specs.File.{Bytes, byteAt, networkOf}
+use Rattle.lfa.specs.Distance.{filled}
 use Rattle.lfa.specs.Space.{Space}
 use Rattle.lfa.specs.Question.{Question, inputsOf, inputNumber, hasInput, askSpace, askLink}
 use Rattle.lfa.specs.Refusal.{entryOf, earlyRows, tries, returned, firstRow, earlyRefusal, Posed, sizedReturned}
-use Rattle.lfa.specs.Answer.{earlyAnswer}
+use Rattle.lfa.specs.Answer.{earlyAnswer, networkLoaded}
+use Rattle.lfa.specs.Contract.{Answered}
+use Rattle.lfa.specs.Laws.Accepted.{accepted-loaded}
 use Rattle.lfa.specs.Laws.Turned.{TurnedAway, answer-turned-away, answer-posed}
+use Rattle.network_file.specs.declared.network.Network.{Network}
 use Rattle.repair.specs.declared.Refusal.{Refusal}
 use Rattle.repair.specs.declared.question.Turned.{Turned}
 use Rattle.repair.specs.declared.question.Turned.the-variants.{Refused, Ready}
-use Rattle.repair.specs.Answer.{refusalAnswer, turnedAnswer}
+use Rattle.repair.specs.Answer.{refusalAnswer, turnedAnswer, areaPosed, Judges}
+use Rattle.repair.specs.Taken.{Taken}
+use Rattle.repair.specs.Laws.Loaded.{taken-posed}
 
-module _ (q : Question) {turned : Turned} (told : turnedAnswer turned ≡ earlyAnswer q) where
-  pub refused-away : {x : Refusal} → turned ≡ Refused x → TurnedAway q (refusalAnswer x)
-  unfolding turnedAnswer
-  refused-away {x} e = answer-turned-away q (refusalAnswer x) (sym told ∙ ap turnedAnswer e)
+module _ {q : Question} {turned : Turned} {network : Network} {area after : List ℕ} (j : Judges q turned network area after) where
+  -- where it is turned away
+  module _ {x : Refusal} (e : turned ≡ Refused x) where
+    pub refused-away : TurnedAway q (refusalAnswer x)
+    unfolding turnedAnswer
+    refused-away = answer-turned-away q (refusalAnswer x) (sym (j .turned-is) ∙ ap turnedAnswer e)
 
-  pub ready-posed : ((i : ℕ) → byteAt (q .file) i < 256) → turned ≡ Ready → Posed q
-  unfolding turnedAnswer
-  ready-posed bytes e = answer-posed q bytes (sym told ∙ ap turnedAnswer e)
+    pub area-lent : after ≡ area
+    unfolding areaPosed
+    area-lent = j .area-is ∙ ap (λ (t : Turned). areaPosed t (networkLoaded (q .file)) area) e
+
+    pub refused-answered : Answered q (refusalAnswer x) area after
+    refused-answered = record { answer-is = sym (refused-away .answered); area-is = area-lent ∙ sym (refused-away .area-left area) }
+
+  -- where it is not
+  module _ (bytes : (i : ℕ) → byteAt (q .file) i < 256) (e : turned ≡ Ready) where
+    pub ready-posed : Posed q
+    unfolding turnedAnswer
+    ready-posed = answer-posed q bytes (sym (j .turned-is) ∙ ap turnedAnswer e)
+
+    pub ready-taken : Taken (q .file) network
+    ready-taken = taken-posed q ready-posed (j .network-is)
+
+    pub area-filled : after ≡ filled (networkOf (q .file)) area
+    unfolding areaPosed
+    area-filled = j .area-is ∙ ap (λ (t : Turned). areaPosed t (networkLoaded (q .file)) area) e ∙ ap (λ (net : _). filled net area) (accepted-loaded (q .file) (ready-posed .file))
 
 -- a space is turned away as the link repair is: what is tried before the search is the same
-pub space-as-link : (s : Space) (b : Bytes) (area l e : ℕ) → earlyAnswer (askLink b area l e) ≡ earlyAnswer (askSpace s b area l e)
-unfolding earlyAnswer earlyRefusal earlyRows select tries entryOf hasInput inputsOf inputNumber memberOf anyOf firstRow returned sizedReturned askLink askSpace
-space-as-link s b area l e = refl
+pub space-as-link : {turned : Turned} {network : Network} {area after : List ℕ} (s : Space) (b : Bytes) (cells l e : ℕ) →
+    Judges (askLink b cells l e) turned network area after → Judges (askSpace s b cells l e) turned network area after
+unfolding askLink askSpace
+space-as-link s b cells l e j = record { cells-are = j .cells-are; turned-is = j .turned-is ∙ same; network-is = j .network-is; area-is = j .area-is }
+  where
+    same : earlyAnswer (askLink b cells l e) ≡ earlyAnswer (askSpace s b cells l e)
+    same = unfold earlyAnswer earlyRefusal earlyRows select tries entryOf hasInput inputsOf inputNumber memberOf anyOf firstRow returned sizedReturned askLink askSpace in refl

@@ -12,8 +12,8 @@ use Rattle.lfa.specs.Laws.Chunks.{element-mapped, part-element, part-flat, Each
 use Rattle.lfa.specs.Laws.List.{getD-in}
 use Rattle.network_file.specs.Struct.{routerOf, costOf, slotColumn, attachedColumn, structOf}
 use Rattle.metric.specs.Fit.{SlotsWithin}
-use Rattle.column.specs.Column.{slotsIn}
-use Rattle.column.specs.Laws.Column.{pad-at}
+use Rattle.metric.specs.Column.{slotsIn}
+use Rattle.metric.specs.Laws.Column.{pad-at}
 
 -- a list padded to its size
 length-pad : (n : ℕ) (b : List ℕ) → length b ≤ n → length (pad n b) ≡ n

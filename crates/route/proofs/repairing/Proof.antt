@@ -5,7 +5,7 @@ use mathlib.Core.Path.{_≡_, refl, _∙_}
 use borrow.Author.Needs.{needs}
 use Rattle.lfa.specs.Network.{link}
 use Rattle.lfa.specs.Space.{protectedBy}
-use Rattle.search.specs.Spaces.{protectedIn}
+use Rattle.search.specs.Hops.{protectedIn}
 use Rattle.route.proofs.repairing.Statement.{statement}
 use Rattle.route.proofs.repairing.Tie as tie
 

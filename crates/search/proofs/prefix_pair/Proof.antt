@@ -1,19 +1,64 @@
--- `search::prefix_pair` meets its contract. The columns are lent one by one.
+-- `search::prefix_pair` meets its contract. The distances to the prefix are read, and the link is seen from its end, first.
 -- Assumes nothing.
+use mathlib.Core.Path.{ap, ap₂, _∙_}
+use mathlib.Core.List.{List}
+use Prim.Native.Nat.{ℕ, _*_}
+use lib.ListN.{length}
+use borrow.Author.Tests.{lt-ltb, le-ltb}
+use Rattle.lfa.specs.Space.{Protected}
+use Rattle.column.specs.Calls.{prefixColumn}
+use Rattle.search.specs.Calls.{searchable, prefixIf, hopsOf, prefixBy}
 use borrow.Author.Needs.{needs}
-use Rattle.search.specs.Calls.{prefixBy, prefixAnswered, prefixHeld, answered, areaBy}
 use Rattle.search.proofs.prefix_pair.Statement.{statement}
 use Rattle.search.proofs.prefix_pair.Tie as tie
 
-prefix-asked-requires : tie.Need-prefix-asked-requires
-prefix-asked-requires c κs = search needs
-
-same-length : tie.Need-same-length
-same-length c = search needs
-
 returns : tie.Need-returns
-unfolding prefixBy prefixAnswered prefixHeld answered areaBy
-returns c = let told = c .before .before .prefix-asked .ensures in (told .found-is, told .area-is)
+unfolding prefixBy prefixIf
+returns c = rw (le-ltb _ _ (c .if1 .taken), prefixIf)
+
+returns-2 : tie.Need-returns-2
+unfolding prefixBy prefixIf
+returns-2 c = rw (lt-ltb _ _ (c .before .if1 .left), le-ltb _ _ (c .if2 .taken), prefixIf)
+
+element-copy-out-wide : tie.Need-element-copy-out-wide
+element-copy-out-wide c = search needs
+
+wide-requires : tie.Need-wide-requires
+wide-requires c κs = search needs
+
+mul-towards-prefix : tie.Need-mul-towards-prefix
+mul-towards-prefix c = search needs
+
+towards-prefix-requires : tie.Need-towards-prefix-requires
+towards-prefix-requires c κs = search needs
+
+protect-requires : tie.Need-protect-requires
+protect-requires c κs = search needs
+
+prefix-found-requires : tie.Need-prefix-found-requires
+prefix-found-requires c κs = search needs
+
+returns-3 : tie.Need-returns-3
+unfolding prefixBy
+returns-3 c =
+    let w = c .before .before .before .before .before .before .before .before .before .before .before .before .before .before .before .before .before in
+    let e = w .before .before in
+    let a = e .before .before .before .args in
+    let target = c .before .before .before .before .before .before .before .before .before .before .before .before .before .towards-prefix .ensures ∙ ap (λ (k : ℕ). prefixColumn (a .t1 .routers) (a .t1 .at) (a .t1 .own) (8 * a .prefix) k (a .dist .now)) (w .wide .ensures) in
+    let found = c .prefix-found .ensures
+    ∙ ap₂ (λ (q : Protected) (l : List ℕ). prefixIf (searchable (a .t1 .routers) (a .t1 .links) q (length (a .dist .now))) (a .t1 .routers) (hopsOf (a .t1)) q (a .dist .now) l) (c .before .before .before .before .before .before .before .protect .ensures) target in
+    rw (lt-ltb _ _ (e .before .if1 .left), lt-ltb _ _ (e .if2 .left)) found
 
 pub prefix-pair-spec : {M : Type 1} → statement M
-prefix-pair-spec = tie.close (tie.spec prefix-asked-requires same-length returns)
+prefix-pair-spec =
+    tie.close
+    (tie.spec
+    returns
+    returns-2
+    element-copy-out-wide
+    wide-requires
+    mul-towards-prefix
+    towards-prefix-requires
+    protect-requires
+    prefix-found-requires
+    returns-3)

@@ -1,84 +1,62 @@
--- The tests of the public functions, and their answers where the columns hold a network, as a caller knows it.
+-- The answers of the public functions, where the area holds the distances of the network: they are document 01's.
 -- Assumes nothing.
-use Prim.Native.Nat.{ℕ, _+_, _*_, _≤_, _<_}
-use mathlib.Core.Path.{_≡_, sym, _∙_}
+use Prim.Native.Nat.{ℕ, _*_, _≤_, _<_}
+use mathlib.Core.Path.{_≡_, refl}
 use mathlib.Core.Bool.{true}
 use mathlib.Core.List.{List}
+use native.Mathlib.Omega.{arith}
 use lib.ListN.{getD}
 use borrow.Author.Tests.{lt-ltb, le-leb}
-use native.Mathlib.Omega.{arith}
-use Rattle.lfa.specs.Network as lfa
-use Rattle.lfa.specs.Distance.{distances, distanceIn, filled}
-use Rattle.lfa.specs.Space.{protected, Space, spaceOf}
-use Rattle.lfa.specs.Repair.{Outcome, linkOutcome, prefixOutcome}
+use Rattle.lfa.specs.Network.{router}
+use Rattle.lfa.specs.Space.{Space, spaceOf}
+use Rattle.lfa.specs.Repair.{linkOutcome, prefixOutcome}
 use Rattle.lfa.specs.Laws.Test.{and-make}
-use Rattle.lfa.specs.Laws.List.{every-make}
-use Rattle.lfa.specs.Laws.Walk.{level}
-use Rattle.lfa.specs.Laws.Network.{LinksSound}
 use Rattle.network_file.specs.declared.network.Network.{Network}
-use Rattle.distance.specs.Columns.{InColumns}
+use Rattle.metric.specs.Area.{held}
+use Rattle.metric.specs.Column.{slotsIn}
 use Rattle.metric.specs.Fit.{SlotsWithin}
-use Rattle.metric.specs.Laws.Fit.{cells-fit, slots-fit}
-use Rattle.distance.specs.Laws.Columns.{link-held}
-use Rattle.distance.specs.Laws.Calls.{same-filled}
-use Rattle.search.specs.Calls.{priced, linkPriced, linksPriced, answered, prefixHeld, prefixAnswered, heldBy, targetIn, areaBy, spaceBy, linkBy, prefixBy}
+use Rattle.column.specs.Laws.Calls as column
+use Rattle.avoid.specs.Known.{Known}
+use Rattle.avoid.specs.Laws.Calls.{passes}
+use Rattle.avoid.specs.Laws.Known.{can-read}
+use Rattle.search.specs.Calls.{searchable, spaceIf, linkIf, prefixIf, hopsOf, protectedOf, searches, spaceBy, linkBy, prefixBy}
+use Rattle.search.specs.Laws.Known.{far-in, space-known}
+use Rattle.search.specs.Laws.Pairs.{pair-known, prefix-known}
 
--- the columns hold a network whose links are sound and cost something, the area has a cell for each two routers, and an end of a link is named
-pub record Asking (net : lfa.Network) (network : Network) (l e cells : ℕ) : Type 0 where
-  pub held : InColumns net (network .routers) (network .links) (network .from) (network .to) (network .out) (network .back)
-  pub sound : LinksSound net level
+-- the columns have a cell for each link, and the area holds the distances of the network, an end of a link of which is named
+pub record Asking (network : Network) (l e : ℕ) (area : List ℕ) : Type 0 where
   pub few-links : network .links ≤ 128
-  pub long : network .routers * network .routers ≤ cells
   pub link-in : l < network .links
-  pub end-in : e ≤ 1
+  pub known : Known (network .routers) (hopsOf network) (protectedOf network l e) area
 
-module _ {net : lfa.Network} {network : Network} {l e cells : ℕ} (a : Asking net network l e cells) where
-  -- ---- the tests pass
+module _ {network : Network} {l e : ℕ} {area : List ℕ} (a : Asking network l e area) where
+  abbrev n : ℕ
+  n = network .routers
 
-  links-priced : linksPriced (network .routers) (network .links) (network .from) (network .to) (network .out) (network .back) ≡ true
-  unfolding linksPriced
-  links-priced = and-make _ _ (le-leb (network .links) 128 (a .few-links)) (every-make (linkPriced (network .routers) (network .from) (network .to) (network .out) (network .back)) (network .links) each)
-    where
-      cost : (c : ℕ) → 0 < 2 * c + 0 → c ≤ 65535 → priced c ≡ true
-      cost c some most = and-make _ _ (lt-ltb 0 c (omega arith)) (le-leb c 65535 most)
+  abbrev d : ℕ → ℕ → ℕ
+  d = held n area
 
-      each : (k : ℕ) → k < network .links → linkPriced (network .routers) (network .from) (network .to) (network .out) (network .back) k ≡ true
-      each k h =
-          let s = link-held (a .sound) (a .held) k h in
-          and-make _ _ (and-make _ _ (lt-ltb _ _ (s .a-in)) (lt-ltb _ _ (s .b-in))) (and-make _ _ (cost _ (s .out-falls) (s .out-most)) (cost _ (s .back-falls) (s .back-most)))
+  -- the test passes
+  searched : searches network l e area ≡ true
+  unfolding searchable
+  searched = and-make _ _ (lt-ltb l 128 (omega (arith, a .few-links, a .link-in))) (and-make _ _ (le-leb (network .links) 128 (a .few-links)) (passes (can-read n (hopsOf network) (protectedOf network l e) area (a .known))))
 
-  few : network .routers ≤ 64
-  few = omega (arith, a .sound .few-routers, a .held .routers-are)
+  pub space-found : (s : Space) → spaceBy s network l e area ≡ spaceOf s n (hopsOf network) d (protectedOf network l e)
+  unfolding spaceBy spaceIf
+  space-found s = rw (searched, spaceIf) (space-known n (hopsOf network) (protectedOf network l e) area (a .known) s)
 
-  pub answers-pass : answered network l e cells ≡ true
-  unfolding answered
-  answers-pass = and-make _ _ (cells-fit (network .routers) cells few (a .long)) (and-make _ _ links-priced (and-make _ _ (lt-ltb l (network .links) (a .link-in)) (le-leb e 1 (a .end-in))))
+  pub link-found : linkBy network l e area ≡ linkOutcome n (hopsOf network) d (protectedOf network l e)
+  unfolding linkBy linkIf linkOutcome
+  link-found =
+      let q = protectedOf network l e in
+      let known = a .known in
+      let to-far = column.router-known n area (known .sound .few) (known .long) (q .far) (far-in n (hopsOf network) q area known) refl in
+      rw (searched, linkIf) (pair-known n (hopsOf network) q area known (router (q .far)) _ to-far)
 
-  pub prefix-passes : (x : ℕ) → x < 128 → SlotsWithin (network .routers) (8 * x) (getD (network .attached) x 0) (network .at) → prefixAnswered network l e x cells ≡ true
-  unfolding prefixAnswered prefixHeld
-  prefix-passes x h w = and-make _ _ answers-pass (and-make _ _ (lt-ltb x 128 h) (slots-fit w))
-
-  -- ---- the answers
-
-  -- the area holds the distances of the network
-  pub area-known : (area : List ℕ) {after : List ℕ} → after ≡ areaBy (answered network l e cells) network area → after ≡ filled net area
-  unfolding areaBy
-  area-known area {after} s = (rw (answers-pass, areaBy) at s) ∙ same-filled (heldBy network) net (sym (a .held .routers-are)) (sym (a .held .links-are)) area
-
-  pub space-known : (s : Space) {set : ℕ} → set ≡ spaceBy s network l e cells → set ≡ spaceOf s (net .routers) (lfa.arcs net) (distanceIn (distances net)) (protected net l e)
-  unfolding spaceBy lfa.arcs distances protected
-  space-known s e = e ∙ rw (answers-pass, spaceBy, a .held .routers-are, a .held .links-are)
-
-  pub link-known : {o : Outcome} → o ≡ linkBy network l e cells → o ≡ linkOutcome (net .routers) (lfa.arcs net) (distanceIn (distances net)) (protected net l e)
-  unfolding linkBy lfa.arcs distances protected
-  link-known e = e ∙ rw (answers-pass, linkBy, a .held .routers-are, a .held .links-are)
-
-  -- the prefix is one of the network, and its slots hold its attachments
-  module _ (x : ℕ) (x-in : x < 128) (slots : SlotsWithin (network .routers) (8 * x) (getD (network .attached) x 0) (network .at)) where
-    pub prefix-area-known : (area : List ℕ) {after : List ℕ} → after ≡ areaBy (prefixAnswered network l e x cells) network area → after ≡ filled net area
-    unfolding areaBy
-    prefix-area-known area {after} s = (rw (prefix-passes x x-in slots, areaBy) at s) ∙ same-filled (heldBy network) net (sym (a .held .routers-are)) (sym (a .held .links-are)) area
-
-    pub prefix-known : {o : Outcome} → o ≡ prefixBy network l e x cells → o ≡ prefixOutcome (net .routers) (lfa.arcs net) (distanceIn (distances net)) (protected net l e) (targetIn network x)
-    unfolding prefixBy lfa.arcs distances protected
-    prefix-known e = e ∙ rw (prefix-passes x x-in slots, prefixBy, a .held .routers-are, a .held .links-are)
+  pub prefix-found : (x : ℕ) → x < 128 → SlotsWithin n (8 * x) (getD (network .attached) x 0) (network .at) →
+      prefixBy network l e x area ≡ prefixOutcome n (hopsOf network) d (protectedOf network l e) (slotsIn (network .at) (network .own) (8 * x) (getD (network .attached) x 0))
+  unfolding prefixBy prefixIf
+  prefix-found x x-in slots =
+      let known = a .known in
+      let to-prefix = column.prefix-known n area (known .sound .few) (known .long) (network .at) (network .own) (8 * x) (getD (network .attached) x 0) slots refl in
+      rw (searched, lt-ltb x 128 x-in, prefixIf) (prefix-known n (hopsOf network) (protectedOf network l e) area known _ _ to-prefix)

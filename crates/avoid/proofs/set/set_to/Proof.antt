@@ -8,29 +8,29 @@ use native.Mathlib.Omega.{arith}
 use lib.ListN.{getD}
 use borrow.Author.Needs.{needs}
 use Rattle.lfa.specs.Space.{setOf}
-use Rattle.distance.specs.Area.{held}
+use Rattle.metric.specs.Area.{held}
 use Rattle.avoid.specs.Avoiding.{asked, clears}
-use Rattle.avoid.proofs.SetLaws.{cells-clear, put-in, left-out}
+use Rattle.avoid.proofs.SetLaws.{known, cells-clear, put-in, left-out}
 use Rattle.avoid.proofs.set.set_to.Statement.{statement}
 use Rattle.avoid.proofs.set.set_to.Tie as tie
 
 abbrev Inv-loop : tie.InvT-loop
-Inv-loop dist n link to near far to-near to-far set₀ x₀ set x = (x ≤ n) × (set ≡ setOf x (clears (held n dist) (asked link) (λ x. getD to x 0)))
+Inv-loop left sums n protected target near far s e set₀ x₀ set x = (x ≤ n) × (set ≡ setOf x (clears (λ x. getD left x 0) (held n sums) (asked protected) (λ x. getD target x 0)))
 
 abbrev μ-loop : tie.MeasureT-loop
-μ-loop dist n link to near far to-near to-far set₀ x₀ set x = n - x
+μ-loop left sums n protected target near far s e set₀ x₀ set x = n - x
 
-mul-to-near : tie.Need-mul-to-near Inv-loop μ-loop
-mul-to-near c = search needs
+mul-s : tie.Need-mul-s Inv-loop μ-loop
+mul-s c = search needs
 
-element-copy-out-to-near : tie.Need-element-copy-out-to-near Inv-loop μ-loop
-element-copy-out-to-near c = search needs
+element-copy-out-s : tie.Need-element-copy-out-s Inv-loop μ-loop
+element-copy-out-s c = search needs
 
-mul-to-far : tie.Need-mul-to-far Inv-loop μ-loop
-mul-to-far c = search needs
+mul-e : tie.Need-mul-e Inv-loop μ-loop
+mul-e c = search needs
 
-element-copy-out-to-far : tie.Need-element-copy-out-to-far Inv-loop μ-loop
-element-copy-out-to-far c = search needs
+element-copy-out-e : tie.Need-element-copy-out-e Inv-loop μ-loop
+element-copy-out-e c = search needs
 
 loop-holds : tie.Need-loop-holds Inv-loop μ-loop
 unfolding setOf
@@ -65,18 +65,21 @@ loop-again c =
     let at-loop = c .before .before .before .before .before .before in
     let s = at-loop .before .before .before .before in
     let i = at-loop .loop .x in
-    let d = held (s .args .n) (s .args .dist .now) in
-    let q = asked (s .args .link) in
-    let h : ℕ → ℕ = λ x. getD (s .args .to .now) x 0 in
-    let p : ℕ → Bool = clears d q h in
-    let e : c .before .below-both .result ≡ p i = cells-clear d q h i refl (c .before .before .before .before .cell .ensures) (c .before .before .before .cell2 .ensures) refl refl (c .before .below-both .ensures) in
+    let left : ℕ → ℕ = λ x. getD (s .args .left .now) x 0 in
+    let sums = held (s .args .n) (s .args .sums .now) in
+    let q = asked (s .args .protected) in
+    let target : ℕ → ℕ = λ x. getD (s .args .target .now) x 0 in
+    let p : ℕ → Bool = clears left sums q target in
+    let to-near = known (s .pre) i (q .near) (omega arith) (s .pre .near-in) (c .before .before .before .before .cell .ensures) in
+    let to-far = known (s .pre) i (q .far) (omega arith) (s .pre .far-in) (c .before .before .before .cell2 .ensures) in
+    let e : c .before .below-both .result ≡ p i = cells-clear left sums q target i refl to-near to-far refl refl (c .before .below-both .ensures) in
     (omega arith, ⊎-elim (λ w. w .1 ∙ put-in p (omega arith) (at-loop .loop .inv .1) (sym e ∙ w .0 .taken)) (λ w. w .1 ∙ left-out p (at-loop .loop .inv .1) (sym e ∙ w .0 .left)) (c .if1 .came))
 
 returns : tie.Need-returns Inv-loop μ-loop
 returns c =
     let s = c .before .before .before .before .before in
     let e : c .before .loop .x ≡ s .args .n = omega arith in
-    c .before .loop .inv .1 ∙ ap (λ (k : ℕ). setOf k (clears (held (s .args .n) (s .args .dist .now)) (asked (s .args .link)) (λ x. getD (s .args .to .now) x 0))) e
+    c .before .loop .inv .1 ∙ ap (λ (k : ℕ). setOf k (clears (λ x. getD (s .args .left .now) x 0) (held (s .args .n) (s .args .sums .now)) (asked (s .args .protected)) (λ x. getD (s .args .target .now) x 0))) e
 
 pub set-to-spec : {M : Type 1} → statement M
 set-to-spec =
@@ -84,10 +87,10 @@ set-to-spec =
     (tie.spec
     Inv-loop
     μ-loop
-    mul-to-near
-    element-copy-out-to-near
-    mul-to-far
-    element-copy-out-to-far
+    mul-s
+    element-copy-out-s
+    mul-e
+    element-copy-out-e
     loop-holds
     cell-requires
     cell-requires-2

@@ -19,26 +19,29 @@ mul-least c = let start = c .before in omega (arith, place-in (start .args .a) (
 slice-read-least : tie.Need-slice-read-least
 slice-read-least c = let start = c .before .before in omega (arith, place-in (start .args .a) (start .args .b) (start .pre .0) (start .pre .1) (start .pre .2))
 
+cost-of-requires : tie.Need-cost-of-requires
+cost-of-requires c κs = search needs
+
 least-requires : tie.Need-least-requires
 least-requires c κs =
-    let start = c .before .before in
+    let start = c .before .before .before in
     let pre = start .pre in
-    omega (arith, pre .0 .small (start .args .a) (start .args .b) (pre .1) (pre .2), pre .3)
+    omega (arith, pre .0 .small (start .args .a) (start .args .b) (pre .1) (pre .2), start .fits .cost .fits, c .cost-of .ensures)
 
 mul-cells : tie.Need-mul-cells
-mul-cells c = let start = c .before .before .before in omega (arith, place-in (start .args .a) (start .args .b) (start .pre .0) (start .pre .1) (start .pre .2))
+mul-cells c = let start = c .before .before .before .before in omega (arith, place-in (start .args .a) (start .args .b) (start .pre .0) (start .pre .1) (start .pre .2))
 
 slice-write-cells : tie.Need-slice-write-cells
-slice-write-cells c = let start = c .before .before .before in omega (arith, place-in (start .args .a) (start .args .b) (start .pre .0) (start .pre .1) (start .pre .2))
+slice-write-cells c = let start = c .before .before .before .before in omega (arith, place-in (start .args .a) (start .args .b) (start .pre .0) (start .pre .1) (start .pre .2))
 
 same-length : tie.Need-same-length
 same-length c = search needs
 
 returns : tie.Need-returns
 returns c =
-    let start = c .before .before .before in
+    let start = c .before .before .before .before in
     let pre = start .pre in
-    rw (c .least .ensures) (lowered-cell (start .args .a) (start .args .b) (start .args .cost) (pre .1) (pre .2) (pre .0))
+    (omega (arith, start .fits .cost .fits), rw (c .least .ensures, c .before .cost-of .ensures) (lowered-cell (start .args .a) (start .args .b) (start .args .cost) (pre .1) (pre .2) (pre .0)))
 
 pub lower-spec : {M : Type 1} → statement M
 lower-spec =
@@ -48,6 +51,7 @@ lower-spec =
     add-at
     mul-least
     slice-read-least
+    cost-of-requires
     least-requires
     mul-cells
     slice-write-cells

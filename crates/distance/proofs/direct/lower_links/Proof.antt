@@ -1,9 +1,9 @@
 -- `lower_links` has lowered the cells to the costs of the first k links.
 -- Assumes nothing.
 use Rattle.distance.specs.Cells.{Cells, selfLoops, cheapest, CostsCapped}
-use Rattle.distance.specs.Columns.{arcsIn}
+use Rattle.metric.specs.Columns.{arcsIn}
 use Rattle.distance.proofs.DirectLaws.{lowered-limited, cheapest-limited, linked-none, linked-more}
-use mathlib.Core.Path.{_≡_, sym, _∙_}
+use mathlib.Core.Path.{_≡_, refl, sym, _∙_}
 use mathlib.Core.List.{_++_}
 use Prim.Native.Nat.{_-_, _≤_}
 use native.Mathlib.Omega.{arith}
@@ -35,49 +35,42 @@ element-copy-out-wide-2 c = search needs
 wide-requires-2 : tie.Need-wide-requires-2 Inv-loop μ-loop
 wide-requires-2 c κs = search needs
 
-mul-cost-of : tie.Need-mul-cost-of Inv-loop μ-loop
-mul-cost-of c = search needs
+mul-lower : tie.Need-mul-lower Inv-loop μ-loop
+mul-lower c = search needs
 
-element-copy-out-cost-of : tie.Need-element-copy-out-cost-of Inv-loop μ-loop
-element-copy-out-cost-of c = search needs
-
-cost-of-requires : tie.Need-cost-of-requires Inv-loop μ-loop
-cost-of-requires c κs = search needs
+element-copy-out-lower : tie.Need-element-copy-out-lower Inv-loop μ-loop
+element-copy-out-lower c = search needs
 
 lower-requires : tie.Need-lower-requires Inv-loop μ-loop
 lower-requires c κs =
-    let turn = c .before .before .before .before .before .before .before in
+    let turn = c .before .before .before .before .before .before in
     let at-loop = turn .before in
     let w = at-loop .before .before .pre .0 in
     let k = at-loop .loop .k in
     let a-in = w .from-in k (turn .loop-test .taken) in
     let b-in = w .to-in k (turn .loop-test .taken) in
-    let a-is = c .before .before .before .before .before .wide .ensures in
-    let b-is = c .before .before .before .wide2 .ensures in
-    (cheapest-limited _ (w .few-routers) (at-loop .loop .inv .2), omega arith, omega arith, c .before .cost-of .ensures .1)
+    let a-is = c .before .before .before .before .wide .ensures in
+    let b-is = c .before .before .wide2 .ensures in
+    (cheapest-limited _ (w .few-routers) (at-loop .loop .inv .2), omega arith, omega arith)
 
-mul-cost-of-2 : tie.Need-mul-cost-of-2 Inv-loop μ-loop
-mul-cost-of-2 c = search needs
+mul-lower-2 : tie.Need-mul-lower-2 Inv-loop μ-loop
+mul-lower-2 c = search needs
 
-element-copy-out-cost-of-2 : tie.Need-element-copy-out-cost-of-2 Inv-loop μ-loop
-element-copy-out-cost-of-2 c = search needs
-
-cost-of-requires-2 : tie.Need-cost-of-requires-2 Inv-loop μ-loop
-cost-of-requires-2 c κs = search needs
+element-copy-out-lower-2 : tie.Need-element-copy-out-lower-2 Inv-loop μ-loop
+element-copy-out-lower-2 c = search needs
 
 lower-requires-2 : tie.Need-lower-requires-2 Inv-loop μ-loop
 lower-requires-2 c κs =
-    let at-lower = c .before .before .before .before .before in
-    let at-cost = at-lower .before .before in
-    let turn = at-cost .before .before .before .before .before .before in
+    let at-lower = c .before .before .before .before in
+    let turn = at-lower .before .before .before .before .before .before .before in
     let at-loop = turn .before in
     let w = at-loop .before .before .pre .0 in
     let k = at-loop .loop .k in
     let a-in = w .from-in k (turn .loop-test .taken) in
     let b-in = w .to-in k (turn .loop-test .taken) in
-    let a-is = at-cost .before .before .before .before .wide .ensures in
-    let b-is = at-cost .before .before .wide2 .ensures in
-    (lowered-limited (cheapest-limited _ (w .few-routers) (at-loop .loop .inv .2)) (at-lower .lower .ensures), omega arith, omega arith, c .before .cost-of2 .ensures .1)
+    let a-is = at-lower .before .before .before .before .before .wide .ensures in
+    let b-is = at-lower .before .before .before .wide2 .ensures in
+    (lowered-limited (cheapest-limited _ (w .few-routers) (at-loop .loop .inv .2)) (at-lower .lower .ensures .1), omega arith, omega arith)
 
 add-k : tie.Need-add-k Inv-loop μ-loop
 add-k c = search needs
@@ -87,13 +80,12 @@ loop-less c = search needs
 
 loop-again : tie.Need-loop-again Inv-loop μ-loop
 loop-again c =
-    let at-lower = c .before .before .before .before .before .before .before .before in
-    let at-cost = at-lower .before .before in
-    let turn = at-cost .before .before .before .before .before .before in
+    let at-lower = c .before .before .before .before .before .before .before in
+    let turn = at-lower .before .before .before .before .before .before .before in
     let at-loop = turn .before in
     let a = at-loop .before .before .args in
     let l = linked-more (a .from .now) (a .to .now) (a .out .now) (a .back .now) (at-loop .loop .k)
-    (at-cost .before .before .before .before .wide .ensures) (at-cost .before .before .wide2 .ensures) (at-cost .cost-of .ensures) (c .before .before .before .before .cost-of2 .ensures)
+    (at-lower .before .before .before .before .before .wide .ensures) (at-lower .before .before .before .wide2 .ensures) refl refl
     (at-lower .lower .ensures) (c .before .before .lower2 .ensures) (at-loop .loop .inv .1, at-loop .loop .inv .2) in
     (omega (arith, turn .loop-test .taken), l .0, l .1)
 
@@ -117,13 +109,11 @@ lower-links-spec =
     wide-requires
     element-copy-out-wide-2
     wide-requires-2
-    mul-cost-of
-    element-copy-out-cost-of
-    cost-of-requires
+    mul-lower
+    element-copy-out-lower
     lower-requires
-    mul-cost-of-2
-    element-copy-out-cost-of-2
-    cost-of-requires-2
+    mul-lower-2
+    element-copy-out-lower-2
     lower-requires-2
     add-k
     loop-less

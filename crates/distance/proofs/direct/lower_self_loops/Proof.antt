@@ -21,7 +21,7 @@ loop-holds c = (omega arith, c .before .pre .1)
 lower-requires : tie.Need-lower-requires Inv-loop μ-loop
 lower-requires c κs =
     let at-loop = c .before .before in
-    (cheapest-limited (selfLoops (at-loop .loop .x)) (at-loop .before .before .pre .0) (at-loop .loop .inv .1), c .before .loop-test .taken, c .before .loop-test .taken, omega arith)
+    (cheapest-limited (selfLoops (at-loop .loop .x)) (at-loop .before .before .pre .0) (at-loop .loop .inv .1), c .before .loop-test .taken, c .before .loop-test .taken)
 
 add-x : tie.Need-add-x Inv-loop μ-loop
 add-x c = search needs
@@ -32,7 +32,7 @@ loop-less c = search needs
 loop-again : tie.Need-loop-again Inv-loop μ-loop
 loop-again c =
     let turn = c .before .before .before .before in
-    (omega (arith, turn .loop-test .taken), loops-more (turn .before .loop .inv .1) (c .before .before .lower .ensures))
+    (omega (arith, turn .loop-test .taken), loops-more (turn .before .loop .inv .1) (c .before .before .lower .ensures .1))
 
 same-length : tie.Need-same-length Inv-loop μ-loop
 same-length c = c .before .loop .inv .1 .long ∙ sym (c .before .before .before .pre .1 .long)

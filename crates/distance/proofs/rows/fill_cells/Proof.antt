@@ -1,7 +1,7 @@
 -- `fill_cells` lowers the cells to the costs of arcs, eliminates, substitutes, and shows what the cells stand for.
 -- Assumes nothing.
 use Rattle.lfa.specs.Laws.Distance.{distances-least}
-use Rattle.distance.specs.Laws.Columns.{columns-within}
+use Rattle.metric.specs.Laws.Columns.{columns-within}
 use Rattle.distance.proofs.DirectLaws.{cheapest-limited, cheapest-none}
 use Rattle.distance.proofs.EliminationLaws.{fallen-limited}
 use Rattle.distance.proofs.CloseLaws.{cells-closed, cells-finished}

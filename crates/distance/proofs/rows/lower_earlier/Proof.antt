@@ -1,7 +1,7 @@
 -- `lower_earlier` has lowered the first i rows.
 -- Assumes nothing.
 use native.Mathlib.Nat.{zero-mul}
-use Rattle.distance.specs.RightTable.{areaCell}
+use Rattle.metric.specs.Area.{areaCell}
 use Rattle.distance.specs.Cells.{RowsLowered}
 use Rattle.distance.proofs.StoreLaws.{next}
 use Rattle.distance.proofs.RowLaws.{row-inside, row-ready, rows-none, rows-more}

@@ -1,6 +1,6 @@
 -- `lower_later` has lowered the rows after row k up to row i.
 -- Assumes nothing.
-use Rattle.distance.specs.RightTable.{areaCell}
+use Rattle.metric.specs.Area.{areaCell}
 use Rattle.distance.specs.Cells.{RowsLowered}
 use Rattle.distance.proofs.StoreLaws.{next}
 use Rattle.distance.proofs.RowLaws.{row-inside, row-ready, rows-more}

@@ -14,10 +14,10 @@ use Rattle.metric.proofs.fit.slots_fit.Statement.{statement}
 use Rattle.metric.proofs.fit.slots_fit.Tie as tie
 
 abbrev Inv-loop : tie.InvT-loop
-Inv-loop n at first count s₀ s = (s ≤ count) × ((j : ℕ) → j < s → attaches n first at j ≡ true)
+Inv-loop n at slot count s₀ s = (s ≤ count) × ((j : ℕ) → j < s → attaches n slot at j ≡ true)
 
 abbrev μ-loop : tie.MeasureT-loop
-μ-loop n at first count s₀ s = count - s
+μ-loop n at slot count s₀ s = count - s
 
 returns : tie.Need-returns Inv-loop μ-loop
 returns c = slots-many _ _ _ _ (omega arith)
@@ -52,8 +52,8 @@ loop-again : tie.Need-loop-again Inv-loop μ-loop
 loop-again c =
     let at-loop = c .before .before .before .before in
     let a = at-loop .before .before .before .args in
-    let h : getD (a .at .now) (a .first + at-loop .loop .s) 0 < a .n = omega (arith, c .before .wide .ensures) in
-    (omega arith, every-more (attaches (a .n) (a .first) (a .at .now)) (at-loop .loop .s) (at-loop .loop .inv .1) (lt-ltb _ _ h))
+    let h : getD (a .at .now) (a .slot + at-loop .loop .s) 0 < a .n = omega (arith, c .before .wide .ensures) in
+    (omega arith, every-more (attaches (a .n) (a .slot) (a .at .now)) (at-loop .loop .s) (at-loop .loop .inv .1) (lt-ltb _ _ h))
 
 returns-4 : tie.Need-returns-4 Inv-loop μ-loop
 returns-4 c = slots-pass _ _ _ _ (omega arith) (λ s h. c .before .loop .inv .1 s (omega arith))

@@ -1,7 +1,7 @@
 -- `entry_at` is the entry of the prefix that has its place there.
 -- Assumes nothing.
 use Rattle.field.specs.Laws.Part.{part-taken}
-use Rattle.network_file.proofs.PrefixLaws.{place-there}
+use Rattle.network_file.proofs.PlaceLaws.{place-there}
 use borrow.Author.Needs.{needs}
 use Rattle.network_file.proofs.prefix.entry_at.Statement.{statement}
 use Rattle.network_file.proofs.prefix.entry_at.Tie as tie

@@ -9,7 +9,8 @@ use Rattle.lfa.specs.File.{prefixEntry, attachments, slot}
 use Rattle.network_file.specs.Struct.{routerOf, costOf, column}
 use Rattle.network_file.specs.Entry.{placeOf}
 use Rattle.network_file.proofs.ColumnLaws.{column-none, more}
-use Rattle.network_file.proofs.PrefixLaws.{attached-read, eight-more, columns-filled, place-inside, place-small}
+use Rattle.network_file.proofs.PlaceLaws.{place-inside, place-small}
+use Rattle.network_file.proofs.AttachmentLaws.{attached-read, eight-more, columns-filled}
 use Rattle.network_file.proofs.prefix.fill_prefixes.Statement.{statement}
 use Rattle.network_file.proofs.prefix.fill_prefixes.Tie as tie
 

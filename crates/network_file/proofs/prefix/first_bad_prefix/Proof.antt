@@ -8,7 +8,8 @@ use borrow.Author.Needs.{needs}
 use Rattle.network_file.specs.Entry.{placeOf}
 use Rattle.lfa.specs.File.{prefixGood}
 use Rattle.block.specs.Laws.First.{Searching, search-starts, search-passed, search-found, search-none}
-use Rattle.network_file.proofs.PrefixLaws.{prefix-tested, place-inside, place-small}
+use Rattle.network_file.proofs.PlaceLaws.{place-inside, place-small}
+use Rattle.network_file.proofs.PrefixLaws.{prefix-tested}
 use Rattle.network_file.proofs.prefix.first_bad_prefix.Statement.{statement}
 use Rattle.network_file.proofs.prefix.first_bad_prefix.Tie as tie
 

@@ -1,6 +1,6 @@
 -- `first_place` is the place of prefix 0.
 -- Assumes nothing.
-use Rattle.network_file.proofs.PrefixLaws.{place-first}
+use Rattle.network_file.proofs.PlaceLaws.{place-first}
 use borrow.Author.Needs.{needs}
 use Rattle.network_file.proofs.prefix.first_place.Statement.{statement}
 use Rattle.network_file.proofs.prefix.first_place.Tie as tie

@@ -9,7 +9,8 @@ use denote.Ref.{now}
 use borrow.Author.Needs.{needs}
 use Rattle.lfa.specs.Lists.{everyBelow}
 use Rattle.lfa.specs.File.{slotNew, attachments, byteAt}
-use Rattle.network_file.proofs.PrefixLaws.{every-none, every-more, every-fails, namedBy, named-more, is-new, not-new}
+use Rattle.network_file.proofs.EveryLaws.{every-none, every-more, every-fails}
+use Rattle.network_file.proofs.PrefixLaws.{namedBy, named-more, is-new, not-new}
 use Rattle.network_file.proofs.prefix.new_routers.Statement.{statement}
 use Rattle.network_file.proofs.prefix.new_routers.Tie as tie
 

@@ -1,6 +1,6 @@
 -- `next_place` is the place of the prefix after.
 -- Assumes nothing.
-use Rattle.network_file.proofs.PrefixLaws.{place-block, place-behind}
+use Rattle.network_file.proofs.PlaceLaws.{place-block, place-behind}
 use borrow.Author.Needs.{needs}
 use Rattle.network_file.proofs.prefix.next_place.Statement.{statement}
 use Rattle.network_file.proofs.prefix.next_place.Tie as tie

@@ -1,8 +1,7 @@
 -- `prefix_part` is the entry of prefix p.
 -- Assumes nothing.
-use mathlib.Core.Path.{_∙_}
 use Rattle.field.specs.Laws.Part.{part-taken}
-use Rattle.network_file.proofs.PrefixLaws.{prefix-inside, prefix-there}
+use Rattle.network_file.proofs.PlaceLaws.{place-found, place-inside, place-there}
 use borrow.Author.Needs.{needs}
 use Rattle.network_file.proofs.prefix.prefix_part.Statement.{statement}
 use Rattle.network_file.proofs.prefix.prefix_part.Tie as tie
@@ -38,13 +37,13 @@ part-result-start : tie.Need-part-result-start
 part-result-start c = search needs
 
 part-result-end : tie.Need-part-result-end
-part-result-end c = let pre = c .pre in prefix-inside _ _ _ (pre .1) (pre .0) (pre .2)
+part-result-end c = let pre = c .pre in place-inside _ _ _ (place-found _ _ _ (pre .1)) (pre .0) (pre .2)
 
 returns : tie.Need-returns
 returns c =
     let pre = c .before .pre in
-    let taken = part-taken _ _ 34 (prefix-inside _ _ _ (pre .1) (pre .0) (pre .2)) in
-    (taken .0 ∙ prefix-there _ _ _ (pre .1), taken .1)
+    let taken = part-taken _ _ 34 (place-inside _ _ _ (place-found _ _ _ (pre .1)) (pre .0) (pre .2)) in
+    (place-there _ _ _ (place-found _ _ _ (pre .1)) (taken .0), taken .1)
 
 pub prefix-part-spec : {M : Type 1} → statement M
 prefix-part-spec =

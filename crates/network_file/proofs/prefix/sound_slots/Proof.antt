@@ -8,8 +8,8 @@ use denote.Ref.{now}
 use borrow.Author.Tests.{not-true, not-false}
 use borrow.Author.Needs.{needs}
 use Rattle.lfa.specs.Lists.{everyBelow}
-use Rattle.network_file.proofs.PrefixLaws.{every-none}
-use Rattle.network_file.proofs.SlotLaws.{slotPasses, slot-tested, passed-more, failed-more, eight-tested}
+use Rattle.network_file.proofs.EveryLaws.{every-none, passed-more, failed-more}
+use Rattle.network_file.proofs.SlotLaws.{slotPasses, slot-tested, eight-tested}
 use Rattle.network_file.proofs.prefix.sound_slots.Statement.{statement}
 use Rattle.network_file.proofs.prefix.sound_slots.Tie as tie
 

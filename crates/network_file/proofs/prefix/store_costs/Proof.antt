@@ -8,7 +8,7 @@ use borrow.Author.Needs.{needs}
 use Rattle.lfa.specs.File.{slot}
 use Rattle.network_file.specs.Struct.{costOf, stored}
 use Rattle.network_file.proofs.ColumnLaws.{stored-none, stored-more}
-use Rattle.network_file.proofs.PrefixLaws.{cost-read}
+use Rattle.network_file.proofs.AttachmentLaws.{cost-read}
 use Rattle.network_file.proofs.prefix.store_costs.Statement.{statement}
 use Rattle.network_file.proofs.prefix.store_costs.Tie as tie
 

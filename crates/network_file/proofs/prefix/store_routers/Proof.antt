@@ -8,7 +8,7 @@ use borrow.Author.Needs.{needs}
 use Rattle.lfa.specs.File.{slot}
 use Rattle.network_file.specs.Struct.{routerOf, stored}
 use Rattle.network_file.proofs.ColumnLaws.{stored-none, stored-more}
-use Rattle.network_file.proofs.PrefixLaws.{router-read}
+use Rattle.network_file.proofs.AttachmentLaws.{router-read}
 use Rattle.network_file.proofs.prefix.store_routers.Statement.{statement}
 use Rattle.network_file.proofs.prefix.store_routers.Tie as tie
 

@@ -1,42 +1,46 @@
--- `route::play::leg` meets its contract. The loop's invariant: what is written and what is ahead make the leg from its start; each
--- step is nearer to the target, which is what makes the loop end.
+-- `route::play::leg` meets its contract. The loop's invariant: what is written and what is ahead make the leg from its start, the next
+-- choice byte being the first of those that are ahead; each step is nearer to the target, which is what makes the loop end.
 -- Assumes nothing.
-use Prim.Native.Nat.{_-_, _<_}
+use Prim.Native.Nat.{_<_}
 use mathlib.Core.Path.{_≡_, sym, ap, _∙_}
 use native.Mathlib.Omega.{arith}
+use native.Mathlib.Numerals.{add-one}
 use borrow.Author.Needs.{needs}
 use Rattle.lfa.specs.Route.{go, options, choiceAt, optionTaken, Takes}
 use Rattle.lfa.specs.Laws.Walk.{level, measure}
-use Rattle.distance.specs.Columns.{arcsIn}
-use Rattle.distance.specs.Area.{held}
-use Rattle.column.specs.Column.{slotsIn}
+use Rattle.metric.specs.Columns.{arcsIn}
+use Rattle.metric.specs.Area.{held}
+use Rattle.metric.specs.Column.{slotsIn}
 use Rattle.column.specs.Laws.Calls.{prefix-known}
-use Rattle.distance.specs.Laws.Columns.{columns-within}
+use Rattle.metric.specs.Laws.Columns.{columns-within}
 use Rattle.options.specs.Options.{moveIn}
 use Rattle.options.specs.Laws.Options.{move-known}
-use Rattle.route.proofs.LegLaws.{step-nearer, leg-stops, leg-delivers, Playing, playing-starts, playing-on, playing-ends}
+use Rattle.route.proofs.LegLaws.{step-nearer, leg-stops, leg-delivers}
+use Rattle.route.proofs.ProgressLaws.{Playing, playing-starts, playing-uses, playing-on, playing-ends}
 use Rattle.route.proofs.play.leg.Statement.{statement}
 use Rattle.route.proofs.play.leg.Tie as tie
 
 abbrev Inv-loop : tie.InvT-loop
-Inv-loop dist n links from to out back at own first count choices stop start written buffer₀ target x₀ k₀ buffer x k =
-    Playing (options n (arcsIn from to out back links) (held n dist) (slotsIn at own first count)) choices stop n start written buffer₀ x k buffer
+Inv-loop dist n links from to out back at own slot count choices stop start used written buffer₀ target x₀ next₀ k₀ buffer x next k =
+    Playing (options n (arcsIn from to out back links) (held n dist) (slotsIn at own slot count)) choices stop n start used written buffer₀ x next k buffer
 
 abbrev μ-loop : tie.MeasureT-loop
-μ-loop dist n links from to out back at own first count choices stop start written buffer₀ target x₀ k₀ buffer x k =
-    measure level (held n dist) (slotsIn at own first count) x
+μ-loop dist n links from to out back at own slot count choices stop start used written buffer₀ target x₀ next₀ k₀ buffer x next k =
+    measure level (held n dist) (slotsIn at own slot count) x
 
 towards-prefix-requires : tie.Need-towards-prefix-requires Inv-loop μ-loop
 towards-prefix-requires c κs = search needs
 
 loop-holds : tie.Need-loop-holds Inv-loop μ-loop
-loop-holds c = let p = c .before .before .before .before .pre in playing-starts (p .3 .1) (p .3 .2) (p .3 .3) (p .1) (p .2)
-
-sub-choice : tie.Need-sub-choice Inv-loop μ-loop
-sub-choice c = search needs
+loop-holds c = let p = c .before .before .before .before .pre in playing-starts (p .2 .2) (p .2 .3) (p .2 .4) (p .2 .5) (p .1)
 
 choice-requires : tie.Need-choice-requires Inv-loop μ-loop
 choice-requires c κs = search needs
+
+add-next : tie.Need-add-next Inv-loop μ-loop
+add-next c =
+    let l = c .before .before in
+    record { fits = omega (arith, playing-uses (l .loop .inv) (c .before .if1 .left), l .before .before .before .before .before .pre .0 .within .few-routers) }
 
 move-at-requires : tie.Need-move-at-requires Inv-loop μ-loop
 move-at-requires c κs = search needs
@@ -51,14 +55,14 @@ enum-told c = search needs
 moved : (c : tie.After-move-at Inv-loop μ-loop) →
     let l = c .before .before .before .before in
     let a = l .before .before .before .before .before .args in
-    optionTaken (options (a .n) (arcsIn (a .from .now) (a .to .now) (a .out .now) (a .back .now) (a .links)) (held (a .n) (a .dist .now)) (slotsIn (a .at .now) (a .own .now) (a .first) (a .count)) (l .loop .x))
-    (choiceAt (a .choices .now) (l .loop .k - 2)) ≡ moveIn (c .move-at .result)
+    optionTaken (options (a .n) (arcsIn (a .from .now) (a .to .now) (a .out .now) (a .back .now) (a .links)) (held (a .n) (a .dist .now)) (slotsIn (a .at .now) (a .own .now) (a .slot) (a .count)) (l .loop .x))
+    (choiceAt (a .choices .now) (l .loop .next)) ≡ moveIn (c .move-at .result)
 moved c =
     let l = c .before .before .before .before in
     let s = l .before .before .before .before .before in
     let a = s .args in
     let net = s .pre .0 in
-    let target-is = prefix-known (a .n) (a .dist .now) (net .within .few-routers) (net .long) (a .at .now) (a .own .now) (a .first) (a .count) (net .slots) (l .before .towards-prefix .ensures) in
+    let target-is = prefix-known (a .n) (a .dist .now) (net .within .few-routers) (net .long) (a .at .now) (a .own .now) (a .slot) (a .count) (net .slots) (l .before .towards-prefix .ensures) in
     ap (optionTaken _) (sym (c .before .before .choice .ensures)) ∙ sym (c .move-at .ensures ∙ move-known (net .within) _ _ _ _ _ _ (net .slots .few) (held (a .n) (a .dist .now)) _ target-is _ _ (l .loop .inv .inside))
 
 -- a step leads to a router that is nearer to the target
@@ -67,8 +71,8 @@ went : (c : tie.After-known-told Inv-loop μ-loop) →
     let a = l .before .before .before .before .before .args in
     let z = c .before .taken .given .0 .0 in
     let d = held (a .n) (a .dist .now) in
-    let target = slotsIn (a .at .now) (a .own .now) (a .first) (a .count) in
-    Takes (options (a .n) (arcsIn (a .from .now) (a .to .now) (a .out .now) (a .back .now) (a .links)) d target) (a .choices .now) (l .loop .k - 2) (l .loop .x) (go z)
+    let target = slotsIn (a .at .now) (a .own .now) (a .slot) (a .count) in
+    Takes (options (a .n) (arcsIn (a .from .now) (a .to .now) (a .out .now) (a .back .now) (a .links)) d target) (a .choices .now) (l .loop .next) (l .loop .x) (go z)
     × (z < a .n) × (measure level d target z < measure level d target (l .loop .x))
 unfolding moveIn
 went c =
@@ -98,17 +102,18 @@ same-length : tie.Need-same-length Inv-loop μ-loop
 same-length c = c .before .loop .inv .wrote .same
 
 returns : tie.Need-returns Inv-loop μ-loop
-returns c = λ rs l.
-    playing-ends (c .before .loop .inv) (leg-stops (c .if1 .taken) (c .before .loop .inv .ahead)) l (omega (arith, c .before .before .before .before .before .before .pre .3 .2))
+returns c = λ rs next l.
+    playing-ends (c .before .loop .inv) (leg-stops (c .if1 .taken) (c .before .loop .inv .ahead)) l (omega (arith, c .before .before .before .before .before .before .pre .2 .4))
 
 same-length-2 : tie.Need-same-length-2 Inv-loop μ-loop
 same-length-2 c = c .before .before .before .before .before .before .loop .inv .wrote .same
 
 returns-2 : tie.Need-returns-2 Inv-loop μ-loop
 unfolding moveIn
-returns-2 c = λ rs leg.
+returns-2 c = λ rs next leg.
     let l = c .before .before .before .before .before .before in
-    playing-ends (l .loop .inv) (leg-delivers (moved (c .before .before) ∙ ap moveIn (c .enum-told .given .1)) (l .loop .inv .ahead)) leg (omega (arith, l .before .before .before .before .before .pre .3 .2))
+    let over = leg-delivers (c .before .before .before .before .before .if1 .left) (moved (c .before .before) ∙ ap moveIn (c .enum-told .given .1)) (l .loop .inv .ahead) in
+    playing-ends (l .loop .inv) (over .0, over .1 ∙ sym (add-one _)) leg (omega (arith, l .before .before .before .before .before .pre .2 .4))
 
 pub leg-spec : {M : Type 1} → statement M
 leg-spec =
@@ -118,8 +123,8 @@ leg-spec =
     μ-loop
     towards-prefix-requires
     loop-holds
-    sub-choice
     choice-requires
+    add-next
     move-at-requires
     enum-known-taken
     enum-told

@@ -1,41 +1,43 @@
--- `search::pair::link_found` meets its contract. The target is E.
+-- `search::pair::link_found` meets its contract. The distances to E are read first.
 -- Assumes nothing.
-use mathlib.Core.Path.{_∙_}
+use mathlib.Core.Path.{sym, ap, _∙_}
 use mathlib.Core.List.{List}
-use borrow.Author.Needs.{needs}
-use Rattle.lfa.specs.Network.{Arc, router}
-use Rattle.lfa.specs.Repair.{linkOutcome}
-use Rattle.distance.specs.Columns.{arcsIn}
-use Rattle.column.specs.Laws.Calls.{router-known}
+use Prim.Native.Nat.{ℕ}
+use borrow.Author.Tests.{not-true, not-false}
+use Rattle.metric.specs.Columns.{arcsIn}
 use Rattle.avoid.specs.Avoiding.{asked}
-use Rattle.avoid.specs.Calls.{Readable}
-use Rattle.avoid.specs.Laws.Known.{can-read}
+use Rattle.search.specs.Calls.{pairFor, linkIf}
+use Rattle.search.proofs.SpaceLaws.{can-search}
+use borrow.Author.Needs.{needs}
 use Rattle.search.proofs.pair.link_found.Statement.{statement}
 use Rattle.search.proofs.pair.link_found.Tie as tie
 
--- the arcs of the network
-abbrev hops : tie.Start → List Arc
-hops s = arcsIn (s .args .from .now) (s .args .to .now) (s .args .out .now) (s .args .back .now) (s .args .links)
+can-search-requires : tie.Need-can-search-requires
+can-search-requires c κs = search needs
 
--- the table can be read
-known : (s : tie.Start) → Readable (s .args .n) (asked (s .args .link)) (s .args .dist .now)
-known s = can-read (s .args .n) (hops s) (asked (s .args .link)) (s .args .dist .now) (s .pre .1)
+returns : tie.Need-returns
+unfolding linkIf
+returns c = rw (sym (c .before .can-search .ensures) ∙ not-true _ (c .if1 .taken))
 
 towards-router-requires : tie.Need-towards-router-requires
 towards-router-requires c κs = search needs
 
-first-pair-requires : tie.Need-first-pair-requires
-first-pair-requires c κs = search needs
+pair-found-requires : tie.Need-pair-found-requires
+pair-found-requires c κs =
+    let e = c .before .before in
+    let s = can-search _ _ _ _ (sym (e .before .can-search .ensures) ∙ not-false _ (e .if1 .left)) in
+    (s .0, s .1, s .3)
 
-told-requires : tie.Need-told-requires
-told-requires c κs = search needs
-
-returns : tie.Need-returns
-unfolding linkOutcome
-returns c =
-    let s = c .before .before .before .before .before in
-    let r = known s in
-    c .told .ensures ∙ c .before .first-pair .ensures (router (s .args .link .far)) (router-known _ _ (r .few) (r .long) _ (r .far-in) (c .before .before .before .towards-router .ensures))
+returns-2 : tie.Need-returns-2
+unfolding linkIf
+returns-2 c =
+    let e = c .before .before .before in
+    let a = e .before .before .before .args in
+    let passes = sym (e .before .can-search .ensures) ∙ not-false _ (e .if1 .left) in
+    let found = c .pair-found .ensures ∙ ap (λ (l : List ℕ). pairFor (a .n) (arcsIn (a .from .now) (a .to .now) (a .out .now) (a .back .now) (a .links)) (asked (a .protected)) (a .dist .now) l) (c .before .before .towards-router .ensures) in
+    rw passes found
 
 pub link-found-spec : {M : Type 1} → statement M
-link-found-spec = tie.close (tie.spec towards-router-requires first-pair-requires told-requires returns)
+link-found-spec =
+    tie.close
+    (tie.spec can-search-requires returns towards-router-requires pair-found-requires returns-2)

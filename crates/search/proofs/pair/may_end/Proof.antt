@@ -2,7 +2,7 @@
 -- Assumes nothing.
 use borrow.Author.Tests.{eq-eqb, ne-eqb}
 use borrow.Author.Needs.{needs}
-use Rattle.distance.specs.Laws.Set.{has-bit, has-no-bit}
+use Rattle.metric.specs.Laws.Set.{has-bit, has-no-bit}
 use Rattle.search.proofs.pair.may_end.Statement.{statement}
 use Rattle.search.proofs.pair.may_end.Tie as tie
 

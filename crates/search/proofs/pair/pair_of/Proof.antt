@@ -1,9 +1,7 @@
--- `search::pair::pair_of` meets its contract. Each part is a key of the pair.
+-- `search::pair::pair_of` meets its contract. Each part is read from the table or the column.
 -- Assumes nothing.
-use lib.ListN.{getD}
+use Rattle.search.specs.Choice.{orderedAt}
 use borrow.Author.Needs.{needs}
-use Rattle.distance.specs.Area.{held}
-use Rattle.search.proofs.ChoiceLaws.{keys-made}
 use Rattle.search.proofs.pair.pair_of.Statement.{statement}
 use Rattle.search.proofs.pair.pair_of.Tie as tie
 
@@ -25,16 +23,15 @@ class-of-requires c κs = search needs
 cell-requires : tie.Need-cell-requires
 cell-requires c κs = search needs
 
-add-requires : tie.Need-add-requires
-add-requires c κs = search needs
-
 cell-requires-2 : tie.Need-cell-requires-2
 cell-requires-2 c κs = search needs
 
+add-requires : tie.Need-add-requires
+add-requires c κs = search needs
+
 returns : tie.Need-returns
-returns c =
-    let a = c .before .before .before .before .before .before .before .args in
-    keys-made (held (a .n) (a .dist .now)) (a .near) (λ x. getD (a .to .now) x 0) (a .hop) (a .cost) (a .endpoint) (c .before .before .before .class-of .ensures) (c .before .before .cell .ensures) (c .before .add .ensures) (c .cell2 .ensures)
+unfolding orderedAt
+returns c = rw (c .add .ensures, c .before .cell2 .ensures, c .before .before .cell .ensures, c .before .before .before .class-of .ensures)
 
 pub pair-of-spec : {M : Type 1} → statement M
 pair-of-spec =
@@ -46,6 +43,6 @@ pair-of-spec =
     element-copy-out-class-of-2
     class-of-requires
     cell-requires
-    add-requires
     cell-requires-2
+    add-requires
     returns)

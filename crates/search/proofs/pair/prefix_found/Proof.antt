@@ -1,104 +1,67 @@
--- `search::pair::prefix_found` meets its contract. Unreachable, untouched, or what the search finds.
+-- `search::pair::prefix_found` meets its contract. Unreachable, untouched, or the pair that serves.
 -- Assumes nothing.
-use mathlib.Core.Path.{_∙_, _≡_}
-use mathlib.Core.List.{List}
+use mathlib.Core.Path.{_≡_, sym, _∙_}
+use mathlib.Core.Bool.{true}
 use native.Mathlib.Omega.{arith}
-use borrow.Author.Tests.{not-true, not-false}
-use borrow.Author.Needs.{needs}
-use Rattle.lfa.specs.Network.{Arc, Target}
-use Rattle.lfa.specs.Distance.{towards}
-use Rattle.lfa.specs.Repair.{prefixOutcome}
-use Rattle.distance.specs.Columns.{arcsIn}
-use Rattle.distance.specs.Area.{held}
-use Rattle.column.specs.Column.{column, slotsIn}
-use Rattle.column.specs.Laws.Calls.{prefix-known}
-use Rattle.order.specs.Keys.{foundIn}
+use borrow.Author.Tests.{not-true, not-false, lt-ltb, le-ltb}
 use Rattle.avoid.specs.Avoiding.{asked}
-use Rattle.avoid.specs.Calls.{Readable}
-use Rattle.search.specs.Choice.{outcomeFor}
-use Rattle.avoid.specs.Laws.Known.{can-read}
-use Rattle.search.proofs.KnownLaws.{prefix-unreachable, prefix-untouched, prefix-searched}
+use lib.ListN.{length}
+use Rattle.search.specs.Calls.{searchable, prefixIf, prefixFor}
+use Rattle.search.proofs.SpaceLaws.{can-search}
+use borrow.Author.Needs.{needs}
 use Rattle.search.proofs.pair.prefix_found.Statement.{statement}
 use Rattle.search.proofs.pair.prefix_found.Tie as tie
 
--- the arcs of the network
-abbrev hops : tie.Start → List Arc
-hops s = arcsIn (s .args .from .now) (s .args .to .now) (s .args .out .now) (s .args .back .now) (s .args .links)
-
--- the table can be read
-known : (s : tie.Start) → Readable (s .args .n) (asked (s .args .link)) (s .args .dist .now)
-known s = can-read (s .args .n) (hops s) (asked (s .args .link)) (s .args .dist .now) (s .pre .1)
-
--- the attachments of the prefix
-abbrev target : tie.Start → Target
-target s = slotsIn (s .args .at .now) (s .args .own .now) (s .args .first) (s .args .count)
-
--- the column holds the distances to the prefix
-column-is : (c : tie.After-towards-prefix) →
-    let s = c .before .before in
-    c .towards-prefix .result ≡ column (s .args .n) (towards (held (s .args .n) (s .args .dist .now)) (target s))
-column-is c =
-    let s = c .before .before in
-    let r = known s in
-    prefix-known _ _ (r .few) (r .long) _ _ _ _ (s .pre .2) (c .towards-prefix .ensures)
-
-towards-prefix-requires : tie.Need-towards-prefix-requires
-towards-prefix-requires c κs = search needs
-
-mul-if1 : tie.Need-mul-if1
-mul-if1 c = omega (arith, known (c .before .before))
-
-array-read-if1 : tie.Need-array-read-if1
-array-read-if1 c = omega (arith, known (c .before .before))
+can-search-requires : tie.Need-can-search-requires
+can-search-requires c κs = search needs
 
 returns : tie.Need-returns
-returns c =
-    let s = c .before .before .before in
-    let a = s .args in
-    prefix-unreachable (a .n) (hops s) (asked (a .link)) (a .dist .now) (s .pre .1) (target s) (c .before .towards-prefix .result) (column-is (c .before)) (c .if1 .taken)
+unfolding prefixIf
+returns c = rw (sym (c .before .can-search .ensures) ∙ not-true _ (c .if1 .taken))
 
-may-cross-requires : tie.Need-may-cross-requires
-may-cross-requires c κs =
-    let r = known (c .before .before .before .before) in
-    (omega (arith, r .few, r .near-in), omega (arith, r .few, r .far-in))
+-- the question is searched for
+passes : (c : tie.Else1) → let a = c .before .before .before .args in searchable (a .n) (a .links) (asked (a .protected)) (length (a .dist .now)) ≡ true
+passes c = sym (c .before .can-search .ensures) ∙ not-false _ (c .if1 .left)
+
+mul-if2 : tie.Need-mul-if2
+mul-if2 c = omega (arith, can-search _ _ _ _ (passes c) .1)
+
+element-copy-out-if2 : tie.Need-element-copy-out-if2
+element-copy-out-if2 c = omega (arith, can-search _ _ _ _ (passes c) .1)
 
 returns-2 : tie.Need-returns-2
-returns-2 c =
-    let s = c .before .before .before .before .before .before in
-    let a = s .args in
-    let p = c .before .before .before .before in
-    prefix-untouched (a .n) (hops s) (asked (a .link)) (a .dist .now) (s .pre .1) (target s) (p .towards-prefix .result) (column-is p) (c .before .before .before .if1 .left) (c .before .may-cross .ensures) (not-true _ (c .if2 .taken))
+unfolding prefixIf prefixFor
+returns-2 c = rw (passes (c .before .before), prefixIf, le-ltb _ _ (c .if2 .taken), prefixFor)
 
-first-pair-requires : tie.Need-first-pair-requires
-first-pair-requires c κs = search needs
-
-told-requires : tie.Need-told-requires
-told-requires c κs = search needs
-
--- what the search found is the outcome
-searched : (c : tie.After-first-pair) →
-    let s = c .before .before .before .before .before .before .before .before in
-    outcomeFor (foundIn (c .first-pair .result)) ≡ prefixOutcome (s .args .n) (hops s) (held (s .args .n) (s .args .dist .now)) (asked (s .args .link)) (target s)
-searched c =
-    let s = c .before .before .before .before .before .before .before .before in
-    let a = s .args in
-    let p = c .before .before .before .before .before .before in
-    prefix-searched (a .n) (hops s) (asked (a .link)) (a .dist .now) (s .pre .1) (target s) (p .towards-prefix .result) (column-is p)
-    (c .before .before .before .before .before .if1 .left) (c .before .before .before .may-cross .ensures) (not-false _ (c .before .before .if2 .left)) (c .first-pair .ensures (target s) (column-is p))
+may-cross-requires : tie.Need-may-cross-requires
+may-cross-requires c κs = let s = can-search _ _ _ _ (passes (c .before .before)) in (s .1, s .2)
 
 returns-3 : tie.Need-returns-3
-returns-3 c = c .told .ensures ∙ searched (c .before)
+unfolding prefixIf prefixFor
+returns-3 c =
+    let e = c .before .before in
+    rw (passes (e .before .before), prefixIf, lt-ltb _ _ (e .if2 .left), prefixFor, sym (c .before .may-cross .ensures) ∙ not-true _ (c .if3 .taken))
+
+pair-found-requires : tie.Need-pair-found-requires
+pair-found-requires c κs = let s = can-search _ _ _ _ (passes (c .before .before .before .before)) in (s .0, s .1, s .3)
+
+returns-4 : tie.Need-returns-4
+unfolding prefixIf prefixFor
+returns-4 c =
+    let m = c .before .before in
+    let e = m .before in
+    rw (passes (e .before .before), prefixIf, lt-ltb _ _ (e .if2 .left), prefixFor, sym (m .may-cross .ensures) ∙ not-false _ (c .before .if3 .left)) (c .pair-found .ensures)
 
 pub prefix-found-spec : {M : Type 1} → statement M
 prefix-found-spec =
     tie.close
     (tie.spec
-    towards-prefix-requires
-    mul-if1
-    array-read-if1
+    can-search-requires
     returns
-    may-cross-requires
+    mul-if2
+    element-copy-out-if2
     returns-2
-    first-pair-requires
-    told-requires
-    returns-3)
+    may-cross-requires
+    returns-3
+    pair-found-requires
+    returns-4)

@@ -1,7 +1,7 @@
 -- `search::protected::protect` meets its contract. The cells of the link are read.
 -- Assumes nothing.
 use borrow.Author.Needs.{needs}
-use Rattle.search.specs.Spaces.{protectedIn}
+use Rattle.search.specs.Hops.{protectedIn}
 use Rattle.search.proofs.protected.protect.Statement.{statement}
 use Rattle.search.proofs.protected.protect.Tie as tie
 

@@ -1,24 +1,22 @@
 -- `search::space::extended_p` meets its contract. The loop's invariant: the set holds the routers that one of the first hops passed avoids to.
 -- Assumes nothing.
-use Prim.Native.Nat.{ℕ, _-_, _≤_, _<_}
+use Prim.Native.Nat.{ℕ, _-_, _≤_}
 use mathlib.Core.Path.{_≡_, ap, _∙_}
 use mathlib.Core.List.{List}
 use native.Mathlib.Omega.{arith}
 use borrow.Author.Needs.{needs}
-use Rattle.lfa.specs.Space.{setOf}
-use Rattle.distance.specs.Area.{held}
 use Rattle.avoid.specs.Avoiding.{asked}
-use Rattle.avoid.specs.Laws.Calls.{from-known}
-use Rattle.search.specs.Spaces.{firstsIn, someClears}
+use Rattle.search.specs.Hops.{hopsIn}
+use Rattle.search.specs.Spaces.{gathered}
 use Rattle.search.proofs.SpaceLaws.{no-hops, hop-more}
 use Rattle.search.proofs.space.extended_p.Statement.{statement}
 use Rattle.search.proofs.space.extended_p.Tie as tie
 
 abbrev Inv-loop : tie.InvT-loop
-Inv-loop dist n from to link hops set₀ i₀ set i = (i ≤ hops .count) × ((out back : List ℕ) → set ≡ setOf n (someClears (held n dist) (asked link) (firstsIn from to out back i (hops .arcs))))
+Inv-loop dist n from to protected hops set₀ i₀ set i = (i ≤ hops .count) × ((out back : List ℕ) → set ≡ gathered n (asked protected) dist 0 (hopsIn from to out back i (hops .arcs)))
 
 abbrev μ-loop : tie.MeasureT-loop
-μ-loop dist n from to link hops set₀ i₀ set i = hops .count - i
+μ-loop dist n from to protected hops set₀ i₀ set i = hops .count - i
 
 loop-holds : tie.Need-loop-holds Inv-loop μ-loop
 loop-holds c = (omega arith, λ out back. no-hops _ _ _ _ _ _ out back)
@@ -40,22 +38,17 @@ loop-less c = search needs
 
 loop-again : tie.Need-loop-again Inv-loop μ-loop
 loop-again c =
-    let in-loop = c .before .before .before in
-    let at-loop = in-loop .before in
-    let p = at-loop .before .before .pre in
-    let a = at-loop .before .before .args in
-    let hop-in : c .before .head-of .result < a .n = omega (arith, c .before .head-of .ensures, p .1 .head-in (at-loop .loop .i) (in-loop .loop-test .taken)) in (
+    let at-loop = c .before .before .before .before in
+    let a = at-loop .before .before .args in (
       omega arith,
-      λ out back. hop-more (a .n) (held (a .n) (a .dist .now)) (asked (a .link)) (a .from .now) (a .to .now) (a .t6 .arcs) out back (at-loop .loop .i) (at-loop .loop .inv .1 out back)
-          (c .before .head-of .ensures) (from-known (p .0) _ hop-in (c .avoiding-from .ensures)),
+      λ out back. hop-more (a .n) (asked (a .protected)) (a .dist .now) (a .from .now) (a .to .now) (a .t6 .arcs) out back (at-loop .loop .i) (at-loop .loop .inv .1 out back) (c .before .head-of .ensures) (c .avoiding-from .ensures),
     )
 
 returns : tie.Need-returns Inv-loop μ-loop
 returns c = λ out back.
     let a = c .before .before .before .args in
     let e : c .before .loop .i ≡ a .t6 .count = omega arith in
-    c .before .loop .inv .1 out back
-    ∙ ap (λ (k : ℕ). setOf (a .n) (someClears (held (a .n) (a .dist .now)) (asked (a .link)) (firstsIn (a .from .now) (a .to .now) out back k (a .t6 .arcs)))) e
+    c .before .loop .inv .1 out back ∙ ap (λ (k : ℕ). gathered (a .n) (asked (a .protected)) (a .dist .now) 0 (hopsIn (a .from .now) (a .to .now) out back k (a .t6 .arcs))) e
 
 pub extended-p-spec : {M : Type 1} → statement M
 extended-p-spec =

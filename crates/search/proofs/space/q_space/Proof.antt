@@ -1,18 +1,13 @@
--- `search::space::q_space` meets its contract. By distances just the routers of Q avoid to E.
+-- `search::space::q_space` meets its contract. The distances to E are read first.
 -- Assumes nothing.
-use borrow.Author.Needs.{needs}
-use Rattle.column.specs.Laws.Calls.{router-known}
+use mathlib.Core.Path.{ap, _∙_}
+use mathlib.Core.List.{List}
+use Prim.Native.Nat.{ℕ}
 use Rattle.avoid.specs.Avoiding.{asked}
-use Rattle.avoid.specs.Calls.{Readable}
-use Rattle.avoid.specs.Laws.Calls.{to-known}
-use Rattle.avoid.specs.Laws.Known.{can-read}
-use Rattle.search.proofs.KnownLaws.{q-space}
+use Rattle.search.specs.Spaces.{avoidingIn, spaceFor}
+use borrow.Author.Needs.{needs}
 use Rattle.search.proofs.space.q_space.Statement.{statement}
 use Rattle.search.proofs.space.q_space.Tie as tie
-
--- the table can be read
-known : (s : tie.Start) → Readable (s .args .n) (asked (s .args .link)) (s .args .dist .now)
-known s = can-read (s .args .n) (s .pre .0) (asked (s .args .link)) (s .args .dist .now) (s .pre .1)
 
 towards-router-requires : tie.Need-towards-router-requires
 towards-router-requires c κs = search needs
@@ -21,10 +16,10 @@ avoiding-to-requires : tie.Need-avoiding-to-requires
 avoiding-to-requires c κs = search needs
 
 returns : tie.Need-returns
-returns c = λ hops k.
-    let r = known (c .before .before .before .before) in
-    let to = c .before .before .towards-router in
-    q-space _ hops _ _ k (to .result) (router-known _ _ (r .few) (r .long) _ (r .far-in) (to .ensures)) (to-known r _ (c .avoiding-to .ensures))
+unfolding spaceFor
+returns c =
+    let a = c .before .before .before .before .before .args in
+    c .avoiding-to .ensures ∙ ap (λ (l : List ℕ). avoidingIn (a .n) (asked (a .protected)) (a .dist .now) l) (c .before .before .before .towards-router .ensures)
 
 pub q-space-spec : {M : Type 1} → statement M
 q-space-spec = tie.close (tie.spec towards-router-requires avoiding-to-requires returns)

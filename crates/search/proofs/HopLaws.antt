@@ -1,0 +1,127 @@
+-- Laws of the first hops: the arcs of the columns by their numbers, and the column of those that are first hops.
+-- Assumes nothing.
+use Prim.Native.Nat.{ℕ, zero, suc, _+_, _*_, _/_, _%_, _≤_, _<_}
+use mathlib.Core.Path.{_≡_, refl, sym, ap, ap₂, _∙_}
+use mathlib.Core.Bool.{Bool, true, false, not}
+use mathlib.Core.List.{List, [], _∷_, _++_, map, map-map, append-nil, append-assoc}
+use native.Mathlib.Numerals.{add-one}
+use native.Mathlib.Omega.{arith}
+use lib.Dec.{eqb}
+use lib.ListN.{length, getD, set, length-set}
+use lib.Seq.{getD-set-same, getD-set-other}
+use borrow.Author.Tests.{eq-eqb, ne-eqb}
+use Rattle.lfa.specs.Lists.{countUp, below, select, keepIf}
+use Rattle.lfa.specs.Network.{Arc, arc, arcsFrom}
+use Rattle.lfa.specs.Laws.Counting.{map-below-same}
+use Rattle.lfa.specs.Space.{Protected, isFirst, hopOver, firstHops}
+use Rattle.metric.specs.Columns.{linksIn, arcsIn}
+use Rattle.metric.specs.Laws.List.{below-more, map-below-more, select-append}
+use Rattle.metric.specs.Laws.Columns.{arcsIn-more}
+use Rattle.search.specs.Hops.{sideOf, leavesNear, arcsListed, Listed, hopBy, hopsIn}
+use Rattle.metric.specs.Laws.Select.{select-map}
+
+-- ---- arcs by their numbers
+
+-- what the code reads for an arc
+pub reads-there : {w k : ℕ} (a : ℕ) (there back : List ℕ) → k ≡ a / 2 → w ≡ getD there k 0 → a % 2 ≡ 0 → w ≡ sideOf a there back
+unfolding sideOf
+reads-there a there back e f h = f ∙ rw (e, eq-eqb (a % 2) 0 h, sideOf)
+
+pub reads-back : {w k : ℕ} (a : ℕ) (there back : List ℕ) → k ≡ a / 2 → w ≡ getD back k 0 → (a % 2 ≡ 0 → ⊥) → w ≡ sideOf a there back
+unfolding sideOf
+reads-back a there back e f h = f ∙ rw (e, ne-eqb (a % 2) 0 h, sideOf)
+
+side-there : (k : ℕ) (there back : List ℕ) → sideOf (2 * k) there back ≡ getD there k 0
+side-there k there back =
+    let e : 2 * k / 2 ≡ k = omega arith in
+    sym (reads-there (2 * k) there back refl refl (omega arith)) ∙ ap (λ (i : ℕ). getD there i 0) e
+
+side-back : (k : ℕ) (there back : List ℕ) → sideOf (2 * k + 1) there back ≡ getD back k 0
+side-back k there back =
+    let e : (2 * k + 1) / 2 ≡ k = omega arith in
+    sym (reads-back (2 * k + 1) there back refl refl (λ h. absurd (omega arith))) ∙ ap (λ (i : ℕ). getD back i 0) e
+
+module _ (from to out back : List ℕ) where
+  abbrev arcBy : ℕ → Arc
+  arcBy a = arc (sideOf a from to) (sideOf a to from) (sideOf a out back) (a / 2)
+
+  -- the arcs of k links are those with the numbers below 2k
+  arcs-by : (k : ℕ) → arcsIn from to out back k ≡ map arcBy (below (2 * k))
+  arcs-by zero = unfold arcsIn linksIn arcsFrom below countUp in refl
+  arcs-by (suc k) =
+      let e : 2 * suc k ≡ 2 * k + 1 + 1 = omega arith in
+      let h : 2 * k / 2 ≡ k = omega arith in
+      let o : (2 * k + 1) / 2 ≡ k = omega arith in
+      let two : (arc (getD from k 0) (getD to k 0) (getD out k 0) k ∷ arc (getD to k 0) (getD from k 0) (getD back k 0) k ∷ []) ≡ (arcBy (2 * k) ∷ arcBy (2 * k + 1) ∷ []) =
+      rw (side-there k from to, side-there k to from, side-there k out back, side-back k from to, side-back k to from, side-back k out back, h, o) in
+      ap (arcsIn from to out back) (sym (add-one k)) ∙ arcsIn-more from to out back k ∙ ap₂ (λ (l m : List Arc). l ++ m) (arcs-by k) two
+      ∙ sym (append-assoc (map arcBy (below (2 * k))) (arcBy (2 * k) ∷ []) (arcBy (2 * k + 1) ∷ []))
+      ∙ ap (λ (l : List Arc). l ++ (arcBy (2 * k + 1) ∷ [])) (sym (map-below-more arcBy (2 * k)))
+      ∙ sym (map-below-more arcBy (2 * k + 1)) ∙ ap (λ (m : ℕ). map arcBy (below m)) (sym e)
+
+-- ---- first hops
+
+pub leaves-tried : {w v : ℕ} (near far : ℕ) (from to : List ℕ) (a : ℕ) → w ≡ sideOf a from to → w ≡ near → v ≡ sideOf a to from → not (eqb v far) ≡ leavesNear near far from to a
+unfolding leavesNear
+leaves-tried {w} {v} near far from to a e h f = rw (← e, ← f, eq-eqb w near h)
+
+pub other-start : {w : ℕ} (near far : ℕ) (from to : List ℕ) (a : ℕ) → w ≡ sideOf a from to → (w ≡ near → ⊥) → eqb w near ≡ leavesNear near far from to a
+unfolding leavesNear
+other-start {w} near far from to a e h = rw (← e, ne-eqb w near h)
+
+-- the first hops found among the arcs before a, in a column of 256 cells
+pub record FirstsFound (near far : ℕ) (from to : List ℕ) (a count : ℕ) (arcs : List ℕ) : Type 0 where
+  pub few : count ≤ a
+  pub long : length arcs ≡ 256
+  pub all : arcsListed count arcs ≡ select (leavesNear near far from to) (below a)
+
+pub firsts-none : (near far : ℕ) (from to arcs : List ℕ) → length arcs ≡ 256 → FirstsFound near far from to 0 0 arcs
+unfolding arcsListed below countUp select
+firsts-none near far from to arcs l = record { few = omega arith; long = l; all = refl }
+
+-- one arc more is put after those found where it is a first hop, and else left out
+module _ (near far : ℕ) (from to : List ℕ) (a count : ℕ) (arcs : List ℕ) (f : FirstsFound near far from to a count arcs) where
+  abbrev test : ℕ → Bool
+  test = leavesNear near far from to
+
+  arc-more : (b : Bool) → test a ≡ b → select test (below (a + 1)) ≡ select test (below a) ++ keepIf b a []
+  unfolding select
+  arc-more b e = ap (select test) (below-more a) ∙ select-append test (below a) (a ∷ []) ∙ ap (λ (c : Bool). select test (below a) ++ keepIf c a []) e
+
+  put : a < 256 → arcsListed (count + 1) (set arcs count a) ≡ arcsListed count arcs ++ (a ∷ [])
+  unfolding arcsListed
+  put h =
+      map-below-more (λ i. getD (set arcs count a) i 0) count
+      ∙ ap₂ (λ (l : List ℕ) (x : ℕ). l ++ (x ∷ []))
+      (map-below-same _ _ count (λ i k. getD-set-other arcs count i a 0 (λ e. absurd (omega arith))))
+      (getD-set-same arcs count a 0 (omega (arith, f .few, f .long)))
+
+  pub first-put : a < 256 → test a ≡ true → FirstsFound near far from to (a + 1) (count + 1) (set arcs count a)
+  first-put h e = record {
+    few = omega (arith, f .few);
+    long = simp length-set (f .long);
+    all = put h ∙ ap (λ (l : List ℕ). l ++ (a ∷ [])) (f .all) ∙ sym (arc-more true e);
+  }
+
+  pub other-left : test a ≡ false → FirstsFound near far from to (a + 1) count arcs
+  other-left e = record {
+    few = omega (arith, f .few);
+    long = f .long;
+    all = f .all ∙ sym (arc-more false e ∙ append-nil (select test (below a)));
+  }
+
+module _ (q : Protected) (from to : List ℕ) (links count : ℕ) (arcs : List ℕ) (l : Listed q from to links count arcs) where
+  -- the column holds the first hops of the network, whatever the costs are
+  pub listed-hops : (out back : List ℕ) → hopsIn from to out back count arcs ≡ firstHops q (arcsIn from to out back links)
+  unfolding hopsIn arcsListed firstHops hopOver isFirst leavesNear
+  listed-hops out back =
+      sym (map-map (hopBy from to out back) (λ i. getD arcs i 0) (below count))
+      ∙ ap (map (hopBy from to out back)) (l .all)
+      ∙ sym (ap (λ (h : List Arc). map hopOver (select (isFirst q) h)) (arcs-by from to out back links)
+      ∙ ap (map hopOver) (select-map (isFirst q) (arcBy from to out back) (below (2 * links)))
+      ∙ map-map hopOver (arcBy from to out back) (select (leavesNear (q .near) (q .far) from to) (below (2 * links))))
+
+-- one first hop more of a column
+pub hops-more : (from to out back : List ℕ) (i : ℕ) (arcs : List ℕ) → hopsIn from to out back (i + 1) arcs ≡ hopsIn from to out back i arcs ++ (hopBy from to out back (getD arcs i 0) ∷ [])
+unfolding hopsIn
+hops-more from to out back i arcs = map-below-more (λ i. hopBy from to out back (getD arcs i 0)) i

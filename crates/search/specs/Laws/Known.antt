@@ -1,0 +1,122 @@
+-- What the numbers of an area say of spaces and crossing is what document 01 defines by walks, where the area holds the distances of the
+-- network.
+-- Assumes nothing.
+use Prim.Native.Nat.{ℕ, _+_, _≤_, _<_, min}
+use mathlib.Core.Path.{_≡_, refl, ap, _∙_}
+use mathlib.Core.Logic.{_⊎_, inl, inr}
+use mathlib.Core.Bool.{Bool, true, false, _||_}
+use mathlib.Core.List.{List, [], _∷_, List·Memᴰ, List·Memᴰ·head, List·Memᴰ·tail}
+use native.Mathlib.Omega.{arith}
+use lib.Bits.{bitOr}
+use lib.ListN.{getD}
+use borrow.Author.Tests.{ltb-true, lt-ltb, eqb-true, eq-eqb}
+use Rattle.lfa.specs.Lists.{anyOf}
+use Rattle.lfa.specs.Network.{Arc, Target, router}
+use Rattle.lfa.specs.Distance.{unreachable, towards, stay}
+use Rattle.lfa.specs.Walk.{Step, here, hop, avoids}
+use Rattle.lfa.specs.Space.{Protected, FirstHop, firstHops, Space, pSpace, extendedP, qSpace, inSpace, spaceOf, setOf}
+use Rattle.lfa.specs.Repair.{MayCross, mayCross}
+use Rattle.lfa.specs.Laws.Test.{and-left, and-right, and-make, same-test}
+use Rattle.lfa.specs.Laws.Set.{setOf-same}
+use Rattle.lfa.specs.Laws.Walk.{equation-crossing}
+use Rattle.lfa.specs.Laws.Arrive.{never-twice}
+use Rattle.lfa.specs.Laws.Pair.{firsts-give}
+use Rattle.lfa.specs.Laws.Repair.{may-gives, may-make}
+use Rattle.metric.specs.Area.{held}
+use Rattle.metric.specs.Column.{column}
+use Rattle.metric.specs.Laws.Column.{column-at}
+use Rattle.metric.specs.Laws.Set.{or-setOf, setOf-none}
+use Rattle.column.specs.Laws.Calls.{router-known}
+use Rattle.avoid.specs.Known.{Known}
+use Rattle.avoid.specs.Laws.Known.{can-read, avoiding-to, avoiding-from}
+use Rattle.search.specs.Spaces.{avoidedFrom, avoidingIn, gathered, spaceFor, crossesOut}
+
+module _ (n : ℕ) (hops : List Arc) (q : Protected) (area : List ℕ) (known : Known n hops q area) where
+  abbrev d : ℕ → ℕ → ℕ
+  d = held n area
+
+  pub near-in : q .near < n
+  near-in = can-read n hops q area known .near-in
+
+  pub far-in : q .far < n
+  far-in = can-read n hops q area known .far-in
+
+  -- a first hop is a router
+  pub hop-in : (f : FirstHop) → List·Memᴰ f (firstHops q hops) → f .router < n
+  hop-in f j = known .sound .within .to (firsts-give q hops f j .joined)
+
+  -- ---- the routers that avoid, and the spaces
+
+  pub avoided-known : (x : ℕ) → x < n → avoidedFrom n q area x ≡ setOf n (λ r. avoids n hops d (router r) (q .number) x)
+  avoided-known x i = avoiding-from n hops q area known x i
+
+  pub avoiding-known : (target : Target) (l : List ℕ) → l ≡ column n (towards d target) → avoidingIn n q area l ≡ setOf n (avoids n hops d target (q .number))
+  avoiding-known target l e = avoiding-to n hops q area known target (λ x. getD l x 0) (λ z k. rw e (column-at n (towards d target) z k))
+
+  -- The sets of first hops, put together one by one, hold what some first hop of the list avoids to.
+  gathered-known : (p : ℕ → Bool) (fs : List FirstHop) → ((f : FirstHop) → List·Memᴰ f fs → f .router < n) →
+      gathered n q area (setOf n p) fs ≡ setOf n (λ r. p r || anyOf (λ f. avoids n hops d (router r) (q .number) (f .router)) fs)
+  unfolding gathered anyOf
+  gathered-known p [] h = setOf-same n _ _ (λ r k. or-none (p r))
+    where
+      or-none : (b : Bool) → b ≡ (b || false)
+      or-none true = refl
+      or-none false = refl
+  gathered-known p (f ∷ fs) h =
+      let test : ℕ → Bool = λ r. avoids n hops d (router r) (q .number) (f .router) in
+      let one : bitOr (setOf n p) (avoidedFrom n q area (f .router)) ≡ setOf n (λ r. p r || test r) =
+      ap (bitOr (setOf n p)) (avoided-known (f .router) (h f (List·Memᴰ·head refl))) ∙ or-setOf n p test in
+      ap (λ (s : ℕ). gathered n q area s fs) one ∙ gathered-known (λ r. p r || test r) fs (λ g m. h g (List·Memᴰ·tail m)) ∙ setOf-same n _ _ (λ r k. or-or (p r) (test r) _)
+    where
+      or-or : (a b c : Bool) → ((a || b) || c) ≡ (a || (b || c))
+      or-or true b c = refl
+      or-or false b c = refl
+
+  -- Each space by the numbers of the area is that of document 01.
+  pub space-known : (s : Space) → spaceFor s n hops q area ≡ spaceOf s n hops d q
+  unfolding spaceFor spaceOf inSpace
+  space-known pSpace = avoided-known (q .near) near-in
+  space-known extendedP =
+      ap (λ (s : ℕ). gathered n q area s (firstHops q hops)) (setOf-none n) ∙ gathered-known (λ r. false) (firstHops q hops) hop-in
+  space-known qSpace = avoiding-known (router (q .far)) _ (router-known n area (known .sound .few) (known .long) (q .far) far-in refl)
+
+  -- ---- crossing
+
+  -- Traffic from S may cross the link just where its distance is that over the link; the link does not lead from S to S, since a walk
+  -- never visits a router twice.
+  module _ (target : Target) (l : List ℕ) (e : l ≡ column n (towards d target)) where
+    pub near-held : getD l (q .near) 0 ≡ towards d target (q .near)
+    near-held = rw e (column-at n (towards d target) (q .near) near-in)
+
+    far-held : getD l (q .far) 0 ≡ towards d target (q .far)
+    far-held = rw e (column-at n (towards d target) (q .far) far-in)
+
+    pub crosses-may : crossesOut q (λ x. getD l x 0) ≡ mayCross n hops d q target
+    unfolding crossesOut
+    crosses-may = same-test _ _ there back
+      where
+        self : d (q .near) (q .near) ≤ 0
+        self = known .costs .least stay
+
+        there : crossesOut q (λ x. getD l x 0) ≡ true → mayCross n hops d q target ≡ true
+        there t =
+            let f : getD l (q .near) 0 < unreachable = search (ltb-true, and-left) in
+            let s : min (q .out + getD l (q .far) 0) unreachable ≡ getD l (q .near) 0 = search (eqb-true, and-right) in
+            may-make n hops d q (known .sound) (known .named) target
+            (equation-crossing hops d target (known .costs) (known .named .outward) (omega (arith, near-held, far-held, self)) (omega (arith, near-held)))
+
+        cost : (r : MayCross hops d q target) → ((q .near ≡ q .near) × (q .far ≡ q .far) × (r .step .cost ≡ q .out)) ⊎ ((q .near ≡ q .far) × (q .far ≡ q .near) × (r .step .cost ≡ q .back)) →
+            q .out + towards d target (q .far) ≡ towards d target (q .near)
+        cost r (inl k) = omega (arith, k .2, r .step .tight)
+        cost r (inr k) =
+            let g = known .sound .falls d target in
+            let back : Step hops d target (q .far) (q .far) (q .number) = rw (k .0) at (r .step) in
+            absurd (never-twice hops d target n (g .0) (known .sound .within) (g .1) (hop back here))
+
+        back : mayCross n hops d q target ≡ true → crossesOut q (λ x. getD l x 0) ≡ true
+        back t =
+            let r = may-gives n hops d q (known .sound) (known .named) target t in
+            let f = r .step .finite in
+            let c = cost r (known .named .only (r .step .joined)) in
+            let s : min (q .out + getD l (q .far) 0) unreachable ≡ getD l (q .near) 0 = omega (arith, near-held, far-held, c, f) in
+            and-make _ _ (lt-ltb (getD l (q .near) 0) unreachable (omega (arith, near-held, f))) (eq-eqb _ _ s)
