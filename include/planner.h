@@ -32,7 +32,8 @@
  *   11      `route` has fewer than 2 * N bytes                                                       2 * N
  *   12      `link` is not below the number of links, or `end` is above 1                             the number of links
  *   13      `prefix` is not below the number of prefixes                                             the number of prefixes
- *   14      there is no repair: no pair of first hop and endpoint serves                             0
+ *   14      there is no repair: no pair of first hop and endpoint serves; a neighbour to which the   0
+ *           link costs 65,535 from S (under maintenance) is no first hop
  *
  * A call that is refused by one of the rows 1 to 13 leaves every cell of every buffer as it was. Row 14 leaves the distances in the
  * work area, and `route` as it was. docs/SPECIFICATION.md has an example of each row (Refusals), and says what S, E and the spaces are

@@ -33,11 +33,13 @@ pub fn one_block() -> Vec<u8> {
 /// down. So a method that relaxes the links in file order gets only one more
 /// router right in each pass, and every chord first puts a distance that is
 /// too large where a step later puts the right one. The step down is the least
-/// path between two neighbours, so that most links have a repair.
+/// path between two neighbours, so that most links have a repair. A chord down
+/// costs as much as it may without being under maintenance, so that it is a
+/// first hop to be tried.
 pub fn ring_with_chords() -> Vec<u8> {
     let mut links: Vec<Link> = Vec::new();
     for router in (0..64).rev() {
-        links.push((router, (router + 2) % 64, 3, 65_535));
+        links.push((router, (router + 2) % 64, 3, 65_534));
     }
     for router in (0..64).rev() {
         links.push((router, (router + 1) % 64, 1, 62));

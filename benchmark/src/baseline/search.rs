@@ -5,7 +5,7 @@
 //! bits. To a router out of reach the own distance is the largest number,
 //! which is below no sum, whether that wraps round or not.
 
-use super::graph::Graph;
+use super::graph::{Arc, Graph};
 use crate::answer::{self, Answer, Network, Refusal, Space, NO_PATH, PAIR, UNREACHABLE, UNTOUCHED};
 
 /// The protected link, seen from the end that the question names.
@@ -102,14 +102,24 @@ fn avoiding_to(graph: &Graph, work: &[u32], link: &Protected, to: &[u32; 64]) ->
     set
 }
 
+/// The cost of an arc under maintenance, over which no repair starts.
+const MAINTENANCE: u32 = 65_535;
+
+/// The arcs from S to its first hops: to its neighbours other than E, at a cost
+/// below 65,535.
+#[inline]
+fn first_hops<'a>(graph: &'a Graph, link: &'a Protected) -> impl Iterator<Item = &'a Arc> {
+    let leaving = graph.leaving(link.near).iter();
+    leaving.filter(move |arc| arc.head() != link.far && arc.cost() < MAINTENANCE)
+}
+
 /// One of the three spaces.
 pub fn space(space: Space, graph: &Graph, work: &[u32], link: &Protected) -> u64 {
     match space {
         Space::P => avoiding_from(graph, work, link, link.near),
         Space::ExtendedP => {
-            let hops = graph.leaving(link.near).iter().map(|arc| arc.head());
-            let others = hops.filter(|hop| *hop != link.far);
-            others.fold(0, |set, hop| set | avoiding_from(graph, work, link, hop))
+            let hops = first_hops(graph, link).map(|arc| arc.head());
+            hops.fold(0, |set, hop| set | avoiding_from(graph, work, link, hop))
         }
         Space::Q => {
             let target = Target::router(graph, work, link.far);
@@ -147,11 +157,8 @@ pub fn first_pair(
     let ends = avoiding_to(graph, work, link, &target.to) & !(1 << link.near) & !(1 << link.far);
     let from_near = row(graph, work, link.near);
     let mut best = u64::MAX;
-    for arc in graph.leaving(link.near) {
+    for arc in first_hops(graph, link) {
         let hop = arc.head();
-        if hop == link.far {
-            continue;
-        }
         let own = row(graph, work, hop);
         let mut rest = ends & avoiding_from(graph, work, link, hop);
         while rest != 0 {

@@ -5,12 +5,12 @@ use Prim.Native.Nat.{ℕ, _+_, min}
 use mathlib.Core.Bool.{Bool, _&&_}
 use lib.Dec.{ltb}
 use Rattle.lfa.specs.Distance.{unreachable}
-use Rattle.lfa.specs.Space.{Protected}
+use Rattle.lfa.specs.Space.{underMaintenance, Protected}
 use Rattle.avoid.specs.declared.Protected as declared
 
 -- the protected link that a value names
 abbrev pub asked : declared.Protected → Protected
-asked p = record { number = p .number; near = p .near; far = p .far; out = p .out; back = p .back }
+asked p = record { number = p .number; near = p .near; far = p .far; out = p .out; back = p .back; maintenance = underMaintenance }
 
 -- a distance is below the costs over the link in both directions: `near` and `far` lead to S and E, `fromNear` and `fromFar` from there
 abbrev pub belowBoth : (own near far out back fromNear fromFar : ℕ) → Bool

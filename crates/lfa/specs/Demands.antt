@@ -9,15 +9,15 @@ use mathlib.Core.Bool.{true}
 use mathlib.Core.List.{List, [], _∷_, _++_, map, List·Memᴰ}
 use lib.ListN.{getD, length, drop}
 use Rattle.lfa.specs.Lists.{countUp, HowMany}
-use Rattle.lfa.specs.Network.{Arc, Target, Network, router, arcs}
+use Rattle.lfa.specs.Network.{Arc, arc, Target, Network, router, arcs}
 use Rattle.lfa.specs.File.{Bytes, byteAt, linksOf, prefixesOf, linkEntry, prefixEntry}
 use Rattle.lfa.specs.FileOf.{fileOf, WithinLimits}
 use Rattle.lfa.specs.Distance.{unreachable, LeastCosts, distances, distanceIn, towards}
 use Rattle.lfa.specs.Walk.{Crosses, Arrives}
-use Rattle.lfa.specs.Space.{Space, has, sizeOf, Member}
+use Rattle.lfa.specs.Space.{underMaintenance, FirstHop, IsFirstHop, Space, has, sizeOf, Member}
 use Rattle.lfa.specs.Repair.{Pair, IsPair, Told, Tells, Keys, First, MayCross}
 use Rattle.lfa.specs.Route.{AreOptions, options, NamedRoute}
-use Rattle.lfa.specs.Question.{Question, Call, load, fill, linkRepair, prefixRepair, route, space, loading, toPrefixRepair, Buffer, workArea, routeBuffer, aPrefix, lent, HasInput, networkAsked, linkAsked, prefixAsked}
+use Rattle.lfa.specs.Question.{Question, Call, load, fill, linkRepair, prefixRepair, route, space, loading, toPrefixRepair, withoutMaintenance, LooksAtFirstHops, Buffer, workArea, routeBuffer, aPrefix, lent, HasInput, networkAsked, linkAsked, prefixAsked}
 use Rattle.lfa.specs.Refusal.{Row, noPair, Applies, entryOf, rowsTried, Decides, Accepted, Posed}
 use Rattle.lfa.specs.Answer.{Answer, refused, accepted, done, untouched, unreached, set, repair, played, answerTo, leave, writtenTo, exitOf, networkLoaded, linkPart, prefixPart}
 
@@ -90,7 +90,8 @@ pub record HasThis (q : Question) (to : Target) (n y : ℕ) : Type 0 where
   pub second-leg-arrives : Arrives (Hops q) (D q) to (N q) y
   pub second-leg-misses : (u v : ℕ) → Crosses (Hops q) (D q) to y (q .link) u v → ⊥
 
--- "no neighbour of that end but the far end, paired with any router other than the two ends"
+-- "no neighbour of that end but the far end, paired with any router other than the two ends"; Point 1: "extended P and the "exactly" of 14
+-- follow the new meaning of neighbour"
 abbrev pub Candidate : Question → Pair → Type 0
 Candidate q p = IsPair (N q) (Hops q) (linkAsked q) p
 
@@ -168,6 +169,26 @@ pub record Demand3 (q : Question) (answer : Answer) : Type 0 where
       × ((p : ℕ) → p < length (networkAsked q .prefixes) →
       MayCross (Hops q) (D q) (linkAsked q) (getD (networkAsked q .prefixes) p []) → HasThis q (getD (networkAsked q .prefixes) p []) (t .first) (t .endpoint))
 
+-- ---- Point 1: "From now on a neighbour counts as a first hop only when the cost from S to it is below 65,535." Candidates and extended P
+-- are made of first hops; nothing else changes.
+
+-- a neighbour of S that is not E, with the cost from S to it and the link that leads there
+abbrev pub IsNeighbour : Question → FirstHop → Type 0
+IsNeighbour q f = List·Memᴰ (arc (linkAsked q .near) (f .router) (f .cost) (f .over)) (Hops q) × (f .router ≡ linkAsked q .far → ⊥)
+
+-- the answer, and what is left in each buffer that the call is lent, are the same
+pub record SameReply (q other : Question) : Type 0 where
+  pub answer : answerTo q ≡ answerTo other
+  pub exit : (x : Buffer) → HasInput q (lent x) → (before : List ℕ) → exitOf q x before ≡ exitOf other x before
+
+pub record Point1 (q : Question) : Type 0 where
+  -- a first hop now, and before
+  pub first-hop : (f : FirstHop) → IsFirstHop (Hops q) (linkAsked q) f ↔ (IsNeighbour q f × (f .cost < 65535))
+  pub before : Posed q → (f : FirstHop) → IsFirstHop (Hops q) (linkAsked (withoutMaintenance q)) f ↔ IsNeighbour q f
+  -- distances, P and Q do not change on any file; no other question does whose links from S, but to E, all cost less than 65,535 from S
+  pub nothing-changes : (LooksAtFirstHops (q .call) → Posed q → (f : FirstHop) → IsNeighbour q f → f .cost < 65535) → SameReply q (withoutMaintenance q)
+  pub same-distances : HasInput q (lent workArea) → (area : List ℕ) → exitOf q workArea area ≡ exitOf (withoutMaintenance q) workArea area
+
 -- ---- the demands: 1 of every question at all; 2 and 3 of those that no row before 14 turns away, "for every accepted file, every link and
 -- end of it, and every prefix .. with work area enough"
 
@@ -175,6 +196,7 @@ pub record Demands : Type 0 where
   pub demand-1 : Demand1
   pub demand-2 : (q : Question) → Posed q → Demand2 q
   pub demand-3 : (q : Question) → Posed q → Demand3 q (answerTo q)
+  pub point-1 : (q : Question) → q .maintenance ≡ underMaintenance → ((i : ℕ) → byteAt (q .file) i < 256) → Point1 q
   -- of a file of bytes, that is what `Posed` means
   pub posed-when : (q : Question) → ((i : ℕ) → byteAt (q .file) i < 256) →
       Posed q ↔ ((r : Row) (v : ℕ) → List·Memᴰ r (rowsTried (q .call)) → (r ≡ noPair → ⊥) → Applies q r v → ⊥)

@@ -1,11 +1,11 @@
 -- "Hand-worked networks": the starred rows, as one table, and the lone theorem that the definitions yield every row of it. Each is
 -- asked through the definitions that the public contracts cite, from the bytes of its network's file.
 -- Assumes nothing.
-use Prim.Native.Nat.{ℕ, zero, suc, _+_, _*_, _^_, _≤_}
+use Prim.Native.Nat.{ℕ, zero, suc, _+_, _^_}
 use mathlib.Core.Path.{_≡_, refl, sym, ap, _∙_}
 use mathlib.Core.Logic.{inl}
-use mathlib.Core.Option.{none, some}
-use mathlib.Core.List.{List, [], _∷_}
+use mathlib.Core.Option.{none}
+use mathlib.Core.List.{List, [], _∷_, List·Memᴰ}
 use native.Mathlib.Omega.{arith}
 use Rattle.lfa.specs.Lists.{countUp, below, select, anyOf, everyBelow, memberOf, flat, count, firstFailing, unless, table, cell}
 use Rattle.lfa.specs.Network.{Network, Link, link, Target, at, router, arcs, arcsFrom}
@@ -13,16 +13,13 @@ use Rattle.lfa.specs.File.{byteAt, wordAt, partOf, allZero, blocksIn, bl
 use Rattle.lfa.specs.FileOf.{fileOf, blocksOf, prefixBlock, linkBlock, entriesBlock, prefixBytes, slotBytes, linkBytes, headBlock, blockBytes, pad, wordBytes}
 use Rattle.lfa.specs.Distance.{least, costOver, towards, hopCost, direct, through, stage, distances, distanceIn}
 use Rattle.lfa.specs.Walk.{isStep, leads, takers, over, overFrom, avoids, crosses}
-use Rattle.lfa.specs.Space.{Protected, pSpace, extendedP, qSpace, protectedBy, protected, isFirst, hopOver, firstHops, inSpace, setOf, spaceOf}
+use Rattle.lfa.specs.Space.{underMaintenance, Protected, Space, pSpace, extendedP, qSpace, protectedBy, protected, isFirst, hopOver, firstHops, inSpace, setOf, spaceOf}
 use Rattle.lfa.specs.Repair.{Pair, isEndpoint, pairsOf, pairs, serves, mayCross, orElse, classOf, toldOf, Keys, keysOf, key, noLater, earlier, choose, pairKey, firstPair, outcomeOf, linkOutcome, prefixOutcome}
 use Rattle.lfa.specs.Route.{isStepTo, nextRouters, attachedAt, delivers, movesOf, options, choiceAt, optionTaken, playTo, playOn, routeOf}
-use Rattle.lfa.specs.Laws.Rows.{also, nothing, decides-after}
-use Rattle.lfa.specs.Laws.Causes.{row-applies}
-use Rattle.lfa.specs.Laws.Passed.{area-passes, buffer-passes}
-use Rattle.lfa.specs.Laws.Turned.{early-turned-away}
+use Rattle.lfa.specs.Laws.Turned.{early-given}
 use mathlib.Core.Bool.{true}
-use Rattle.lfa.specs.Question.{Question, workArea, routeBuffer, aLink, lent, inputsOf, inputNumber, hasInput, HasInput, loading, askSpace, askLink, askPrefix, askRoute, networkAsked, linkAsked, prefixAsked, withDistances, linkFound, prefixFound, searched, ifNone}
-use Rattle.lfa.specs.Refusal.{noSuchLink, noSuchPrefix, decided, orLater, earlyRefusal, fileReturned, returned, fileNumber, entryOf, fileRows, earlyRows, questionRows, allRows, tries, rowsTried, firstRow, inFile, fileRefusal, refusalOf, sizedReturned}
+use Rattle.lfa.specs.Question.{Question, routeBuffer, aLink, inputsOf, inputNumber, hasInput, HasInput, loading, askSpace, askLink, askPrefix, askRoute, networkAsked, linkAsked, prefixAsked, withDistances, linkFound, prefixFound, searched, ifNone}
+use Rattle.lfa.specs.Refusal.{EarlyRow, shortArea, shortBuffer, noSuchLink, EarlyApplies, triesEarly, fileReturned, returned, fileNumber, entryOf, fileRows, earlyRows, questionRows, allRows, tries, rowsTried, firstRow, inFile, fileRefusal, refusalOf, sizedReturned}
 use Rattle.lfa.specs.Answer.{Answer, refused, accepted, set, repair, played, untouched, refusal, routeFor, routePlayed, repairAnswer, routeAnswer, computed, answerTo, writtenTo, leave, exitBy, exitOf}
 
 -- ---- the networks
@@ -77,22 +74,35 @@ pub data Worked : Type 0 where
 unfoldable pub told : (first endpoint class cost : ℕ) → Answer
 told n y k c = repair (record { first = n; endpoint = y; class = k; cost = c })
 
--- the work area has 64 × 64 cells, the route buffer 128 bytes, and there are no choice bytes
+-- the questions, about link 0 from its end 0 and prefix 0 where nothing else is said: the work area has 64 × 64 cells, the route buffer
+-- 128 bytes, and there are no choice bytes
+abbrev forSpace : Space → Network → Question
+forSpace s net = askSpace s (fileOf net) 4096 0 0
+
+abbrev forLink : Network → Question
+forLink net = askLink (fileOf net) 4096 0 0
+
+abbrev forPrefix : (link end : ℕ) → Network → Question
+forPrefix l e net = askPrefix (fileOf net) 4096 l e 0
+
+abbrev forRoute : Network → Question
+forRoute net = askRoute (fileOf net) 4096 128 0 0 0 []
+
 unfoldable pub starred : List Worked
 starred =
-    asked (askSpace pSpace (fileOf (ring 4 [])) 4096 0 0) (set (members (0 ∷ 3 ∷ [])))
-    ∷ asked (askSpace extendedP (fileOf (ring 4 [])) 4096 0 0) (set (members (0 ∷ 2 ∷ 3 ∷ [])))
-    ∷ asked (askSpace qSpace (fileOf (ring 4 [])) 4096 0 0) (set (members (1 ∷ 2 ∷ [])))
-    ∷ asked (askLink (fileOf (ring 4 [])) 4096 0 0) (told 3 2 3 2)
-    ∷ asked (askPrefix (fileOf ring4prefix) 4096 0 0 0) (told 3 3 1 1)
-    ∷ route (askRoute (fileOf ring4prefix) 4096 128 0 0 0 []) (played 3) (0 ∷ 3 ∷ 2 ∷ [])
-    ∷ asked (askPrefix (fileOf ring4prefix) 4096 1 1 0) untouched
-    ∷ asked (askLink (fileOf (ring 5 [])) 4096 0 0) (told 4 2 3 3)
-    ∷ route (askRoute (fileOf ring5prefix) 4096 128 0 0 0 []) (played 5) (0 ∷ 4 ∷ 3 ∷ 2 ∷ 1 ∷ [])
-    ∷ asked (askLink (fileOf (ring 3 [])) 4096 0 0) (told 2 2 1 1)
-    ∷ asked (askLink (fileOf ring3cost2) 4096 0 0) (refused 14 0)
-    ∷ asked (askLink (fileOf ring4cost10) 4096 0 0) (refused 14 0)
-    ∷ asked (askLink (fileOf twoRouters) 4096 0 0) (refused 14 0)
+    asked (forSpace pSpace (ring 4 [])) (set (members (0 ∷ 3 ∷ [])))
+    ∷ asked (forSpace extendedP (ring 4 [])) (set (members (0 ∷ 2 ∷ 3 ∷ [])))
+    ∷ asked (forSpace qSpace (ring 4 [])) (set (members (1 ∷ 2 ∷ [])))
+    ∷ asked (forLink (ring 4 [])) (told 3 2 3 2)
+    ∷ asked (forPrefix 0 0 ring4prefix) (told 3 3 1 1)
+    ∷ route (forRoute ring4prefix) (played 3) (0 ∷ 3 ∷ 2 ∷ [])
+    ∷ asked (forPrefix 1 1 ring4prefix) untouched
+    ∷ asked (forLink (ring 5 [])) (told 4 2 3 3)
+    ∷ route (forRoute ring5prefix) (played 5) (0 ∷ 4 ∷ 3 ∷ 2 ∷ 1 ∷ [])
+    ∷ asked (forLink (ring 3 [])) (told 2 2 1 1)
+    ∷ asked (forLink ring3cost2) (refused 14 0)
+    ∷ asked (forLink ring4cost10) (refused 14 0)
+    ∷ asked (forLink twoRouters) (refused 14 0)
     ∷ asked (loading (fileOf oneRouter)) accepted
     ∷ []
 
@@ -121,23 +131,20 @@ lone-loaded : fileRefusal (fileOf oneRouter) ≡ none
 unfolding opened oneRouter
 lone-loaded = refl
 
-lone-counts : (routersOf (fileOf oneRouter) ≡ 1) × (linksOf (fileOf oneRouter) ≡ 0)
+lone-links : linksOf (fileOf oneRouter) ≡ 0
 unfolding opened oneRouter
-lone-counts = (refl, refl)
+lone-links = refl
 
--- a question about the lone router: where the buffers are long enough, row 12 is the first that applies
-lone-refused : (q : Question) → q .file ≡ fileOf oneRouter → (HasInput q (lent workArea) → 1 ≤ q .area) → (HasInput q (lent routeBuffer) → 2 ≤ q .buffer) → HasInput q aLink → answerTo q ≡ refused 12 0
-unfolding earlyRefusal orLater earlyRows tries entryOf refusal
-lone-refused q about area buffer h =
-    let counts : (routersOf (q .file) ≡ 1) × (linksOf (q .file) ≡ 0) = rw about lone-counts in
-    let long : HasInput q (lent workArea) → routersOf (q .file) * routersOf (q .file) ≤ q .area = λ i. rw (counts .0) (omega (arith, area i)) in
-    let room : HasInput q (lent routeBuffer) → 2 * routersOf (q .file) ≤ q .buffer = λ i. rw (counts .0) (omega (arith, buffer i)) in
-    let none-there : linksOf (q .file) ≤ q .link = rw (counts .1) (omega arith) in
-    let applies : returned q noSuchLink ≡ some 0 = row-applies q noSuchLink 0 .1 (inl none-there, sym (counts .1)) in
-    let loaded : fileRefusal (q .file) ≡ none = ap fileRefusal about ∙ lone-loaded in
-    let decides : earlyRefusal q ≡ some (decided noSuchLink 0) =
-    rw loaded (decides-after (returned q) (tries (q .call)) (noSuchPrefix ∷ []) noSuchLink 0 (also (area-passes q long) (also (buffer-passes q room) nothing)) h applies) in
-    early-turned-away q (decided noSuchLink 0) decides .answered
+-- no row before 12 that the call tries applies: the buffers are long enough
+abbrev pub NoneBefore12 : Question → Type 0
+NoneBefore12 q = (r : EarlyRow) (v : ℕ) → List·Memᴰ r (shortArea ∷ shortBuffer ∷ []) → triesEarly (q .call) r ≡ true → EarlyApplies q r v → ⊥
+
+-- a link question about the lone router: where no row before 12 applies, row 12 does
+lone-refused : (q : Question) → q .file ≡ fileOf oneRouter → NoneBefore12 q → HasInput q aLink → answerTo q ≡ refused 12 0
+unfolding earlyRows tries entryOf
+lone-refused q about none-before h =
+    let links : linksOf (q .file) ≡ 0 = rw about lone-links in
+    early-given q _ _ noSuchLink 0 refl (ap fileRefusal about ∙ lone-loaded) none-before h (inl (rw links (omega arith)), sym links)
 
 -- ---- the lone theorem
 
@@ -146,7 +153,7 @@ unfoldable pub ring5d : ℕ → ℕ → ℕ
 ring5d = distanceIn (distances (ring 5 []))
 
 unfoldable pub ring5link : Protected
-ring5link = protected (ring 5 []) 0 0
+ring5link = protected underMaintenance (ring 5 []) 0 0
 
 -- the pairs of hop 4 there, and what the order looks at
 unfoldable pub overHop4 : ℕ → Pair
@@ -163,7 +170,7 @@ pub record Yielded : Type 0 where
   pub ring-5-tie : (serves 5 (arcs (ring 5 [])) ring5d ring5link (router 1) (overHop4 3) ≡ true)
       × (ring5keys (overHop4 3) .told .class ≡ ring5keys (overHop4 2) .told .class)
       × (ring5keys (overHop4 3) .distance ≡ ring5keys (overHop4 2) .distance)
-  pub lone : (q : Question) → q .file ≡ fileOf oneRouter → (HasInput q (lent workArea) → 1 ≤ q .area) → (HasInput q (lent routeBuffer) → 2 ≤ q .buffer) → HasInput q aLink → answerTo q ≡ refused 12 0
+  pub lone : (q : Question) → q .file ≡ fileOf oneRouter → NoneBefore12 q → HasInput q aLink → answerTo q ≡ refused 12 0
 
 pub hand-worked : Yielded
 unfolding opened ringFrom ring ring5d ring5link overHop4 ring5keys

@@ -26,7 +26,6 @@ pub mod Rows
 pub mod Causes
 pub mod FileRows
 pub mod Answers
-pub mod Passed
 pub mod Accepted
 pub mod Turned
 pub mod Asked
@@ -36,4 +35,6 @@ pub mod PosedWhen
 pub mod Demand1
 pub mod HasThis
 pub mod Replies
+pub mod Maintenance
+pub mod Point1
 pub mod Demands

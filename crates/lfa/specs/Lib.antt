@@ -8,6 +8,7 @@ pub mod Space
 pub mod Repair
 pub mod Route
 pub mod Question
+pub mod Causes
 pub mod Refusal
 pub mod Answer
 pub mod Contract

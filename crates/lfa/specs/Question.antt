@@ -10,7 +10,7 @@ use Rattle.lfa.specs.Lists.{Table, memberOf}
 use Rattle.lfa.specs.Network.{Network, Target, arcs}
 use Rattle.lfa.specs.File.{Bytes, networkOf}
 use Rattle.lfa.specs.Distance.{distances, distanceIn}
-use Rattle.lfa.specs.Space.{Space, Protected, protected}
+use Rattle.lfa.specs.Space.{Space, pSpace, extendedP, qSpace, underMaintenance, Protected, protected}
 use Rattle.lfa.specs.Repair.{Outcome, prefixUnreachable, prefixUntouched, noneServes, serving, linkOutcome, prefixOutcome}
 
 -- the calls that answer with a refusal or something else. The two calls for the bytes of an entry have answers of their own
@@ -21,7 +21,8 @@ pub data Call : Type 0 where
   space : Space → Call
 
 -- what a call is asked: the file, the lengths of the work area (in cells) and of the route buffer (in bytes), the link, the end,
--- the prefix and the choice bytes. A call reads only the inputs that it has.
+-- the prefix and the choice bytes. A call reads only the inputs that it has. `maintenance` is no input: it is the cost at which a link is
+-- under maintenance, the same in every question that is put.
 pub record Question : Type 0 where
   pub call : Call
   pub file : Bytes
@@ -31,30 +32,55 @@ pub record Question : Type 0 where
   pub end : ℕ
   pub prefix : ℕ
   pub choices : List ℕ
+  pub maintenance : ℕ
 
 -- ---- the questions of each call
 
+-- a question of a call that has no other inputs than these
+abbrev plain : Call → Bytes → (area link end : ℕ) → Question
+plain c b area l e = record { call = c; file = b; area = area; buffer = 0; link = l; end = e; prefix = 0; choices = []; maintenance = underMaintenance }
+
 unfoldable pub loading : Bytes → Question
-loading b = record { call = load; file = b; area = 0; buffer = 0; link = 0; end = 0; prefix = 0; choices = [] }
+loading b = plain load b 0 0 0
 
 unfoldable pub filling : Bytes → ℕ → Question
-filling b area = record { call = fill; file = b; area = area; buffer = 0; link = 0; end = 0; prefix = 0; choices = [] }
+filling b area = plain fill b area 0 0
 
 unfoldable pub askSpace : Space → Bytes → ℕ → ℕ → ℕ → Question
-askSpace s b area l e = record { call = space s; file = b; area = area; buffer = 0; link = l; end = e; prefix = 0; choices = [] }
+askSpace s b area l e = plain (space s) b area l e
 
 unfoldable pub askLink : Bytes → ℕ → ℕ → ℕ → Question
-askLink b area l e = record { call = linkRepair; file = b; area = area; buffer = 0; link = l; end = e; prefix = 0; choices = [] }
+askLink b area l e = plain linkRepair b area l e
 
 unfoldable pub askPrefix : Bytes → ℕ → ℕ → ℕ → ℕ → Question
-askPrefix b area l e p = record { call = prefixRepair; file = b; area = area; buffer = 0; link = l; end = e; prefix = p; choices = [] }
+askPrefix b area l e p = record { call = prefixRepair; file = b; area = area; buffer = 0; link = l; end = e; prefix = p; choices = []; maintenance = underMaintenance }
 
 unfoldable pub askRoute : Bytes → ℕ → ℕ → ℕ → ℕ → ℕ → List ℕ → Question
-askRoute b area buffer l e p choices = record { call = route; file = b; area = area; buffer = buffer; link = l; end = e; prefix = p; choices = choices }
+askRoute b area buffer l e p choices = record { call = route; file = b; area = area; buffer = buffer; link = l; end = e; prefix = p; choices = choices; maintenance = underMaintenance }
 
 -- the same question, put to the prefix repair call
 unfoldable pub toPrefixRepair : Question → Question
-toPrefixRepair q = askPrefix (q .file) (q .area) (q .link) (q .end) (q .prefix)
+toPrefixRepair q =
+    record { call = prefixRepair; file = q .file; area = q .area; buffer = 0; link = q .link; end = q .end; prefix = q .prefix; choices = []; maintenance = q .maintenance }
+
+-- another call about another file, with other choice bytes and another limit, and with what else is asked as in the question
+abbrev pub sameNumbers : Question → Call → Bytes → (choices : List ℕ) → (maintenance : ℕ) → Question
+sameNumbers q c b choices m = record { call = c; file = b; area = q .area; buffer = q .buffer; link = q .link; end = q .end; prefix = q .prefix; choices = choices; maintenance = m }
+
+-- the same question where no link is under maintenance, since none costs that much: as it was before Point 1
+unfoldable pub withoutMaintenance : Question → Question
+withoutMaintenance q = sameNumbers q (q .call) (q .file) (q .choices) 65536
+
+-- the calls that look at first hops
+abbrev pub LooksAtFirstHops : Call → Type 0
+LooksAtFirstHops load = ⊥
+LooksAtFirstHops fill = ⊥
+LooksAtFirstHops (space pSpace) = ⊥
+LooksAtFirstHops (space extendedP) = Unit {0}
+LooksAtFirstHops (space qSpace) = ⊥
+LooksAtFirstHops linkRepair = Unit {0}
+LooksAtFirstHops prefixRepair = Unit {0}
+LooksAtFirstHops route = Unit {0}
 
 -- ---- the inputs of a call, as far as a row of the table looks at them
 
@@ -96,7 +122,7 @@ unfoldable pub networkAsked : Question → Network
 networkAsked q = networkOf (q .file)
 
 unfoldable pub linkAsked : Question → Protected
-linkAsked q = protected (networkAsked q) (q .link) (q .end)
+linkAsked q = protected (q .maintenance) (networkAsked q) (q .link) (q .end)
 
 unfoldable pub prefixAsked : Question → Target
 prefixAsked q = getD (networkAsked q .prefixes) (q .prefix) []

@@ -20,7 +20,7 @@ pub record Pair : Type 0 where
   pub hop : FirstHop
   pub endpoint : ℕ
 
--- "the first hop n, a neighbour of S, not E; and the endpoint y, a router, neither S nor E"
+-- "the first hop n, a neighbour of S, not E; and the endpoint y, a router, neither S nor E"; Point 1 says which neighbours count
 pub record IsPair (routers : ℕ) (hops : List Arc) (q : Protected) (p : Pair) : Type 0 where
   pub first-hop : IsFirstHop hops q (p .hop)
   pub end-in : p .endpoint < routers

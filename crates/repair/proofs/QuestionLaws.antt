@@ -2,20 +2,18 @@
 -- hands over decide rows 10 to 13.
 -- Assumes nothing.
 use Prim.Native.Nat.{ℕ, _*_, _≤_, _<_}
-use mathlib.Core.Path.{_≡_, refl, sym, ap, _∙_, subst}
-use mathlib.Core.Bool.{true}
+use mathlib.Core.Path.{_≡_, sym, ap, _∙_, subst}
 use mathlib.Core.Option.{Option, none, some}
 use mathlib.Core.List.{List}
 use native.Mathlib.Omega.{arith}
 use lib.ListN.{length}
-use Rattle.lfa.specs.Lists.{select, memberOf, anyOf}
+use Rattle.lfa.specs.Lists.{select}
 use Rattle.lfa.specs.Network as lfa
 use Rattle.lfa.specs.Distance.{filled}
-use Rattle.lfa.specs.File.{Bytes, byteAt, routersOf, linksOf, prefixesOf, networkOf}
-use Rattle.lfa.specs.Question.{loading, workArea, lent, inputsOf, inputNumber, hasInput, networkAsked}
-use Rattle.lfa.specs.Refusal.{Row, earlyRows, tries, returned, Decided, firstRow, sizedReturned, Posed}
+use Rattle.lfa.specs.File.{byteAt, routersOf, linksOf, prefixesOf, networkOf}
+use Rattle.lfa.specs.Question.{Question, loading, workArea, lent, HasInput, networkAsked}
+use Rattle.lfa.specs.Refusal.{Row, earlyRows, triesEarly, Decided, firstRow, inEarly, sizedReturned}
 use Rattle.lfa.specs.Answer.{Answer, refusal, earlyAnswer, answerTo, networkLoaded}
-use Rattle.lfa.specs.Laws.Rows.{SameOn, nowhere, same-also, same-decides}
 use Rattle.lfa.specs.Laws.Turned.{load-early, loaded-early, answer-posed}
 use Rattle.lfa.specs.Laws.Accepted.{accepted-loaded}
 use Rattle.network_file.specs.declared.Fault.{Fault}
@@ -26,58 +24,38 @@ use Rattle.network_file.specs.Struct.{structOf}
 use Rattle.network_file.specs.declared.network.Network.{Network}
 use Rattle.distance.specs.Calls.{areaFilled}
 use Rattle.distance.specs.Laws.Calls.{filled-columns}
-use Rattle.rows.specs.declared.Call.{Call}
-use Rattle.rows.specs.declared.Call.the-variants.{Distances, Link, Prefix, Route}
-use Rattle.rows.specs.declared.Asked.{Asked}
 use Rattle.rows.specs.declared.Row as enum
-use Rattle.rows.specs.Rows.{callOf, questionAbout, questionOf, rowDecided}
-use Rattle.repair.specs.Answer.{rowAnswer, turnedAnswer, areaPosed}
+use Rattle.rows.specs.Rows.{rowDecided}
+use Rattle.repair.specs.Answer.{rowOf, turnedRow, turnedAnswer, areaPosed}
 use Rattle.repair.specs.declared.Refusal.{Refusal}
+use Rattle.repair.specs.declared.Refusal.the-variants.{File}
 use Rattle.repair.specs.declared.question.Turned.{Turned}
 use Rattle.repair.specs.declared.question.Turned.the-variants.{Refused, Ready}
 use Rattle.repair.specs.Taken.{Taken}
 use Rattle.repair.specs.Laws.Loaded.{columns-within, network-columns, routers-are, links-are, prefixes-are}
 use Rattle.repair.specs.Laws.Named.{routers-same}
 
--- by the counts of a file, rows 10 to 13 return what they return of the file
-same-rows : (b : Bytes) (cells : ℕ) (a : Asked) → SameOn (sizedReturned (routersOf b) (linksOf b) (prefixesOf b) (questionOf cells a)) (returned (questionAbout b cells a)) earlyRows
-unfolding earlyRows sizedReturned returned questionOf questionAbout
-same-rows b cells a = same-also refl (same-also refl (same-also refl (same-also refl nowhere)))
-
-module _ (b : Bytes) (cells : ℕ) (a : Asked) (r : Loaded) (answered : (answerOf (r .verdict) ≡ answerTo (loading b)) × (r .network ≡ structOf (networkLoaded b))) where
+module _ (q : Question) (r : Loaded) (answered : (answerOf (r .verdict) ≡ answerTo (loading (q .file))) × (r .network ≡ structOf (networkLoaded (q .file)))) where
   -- a refusal of the file
-  pub fault-early : (f : Fault) → r .verdict ≡ verdict.Refused f → some (faultOf f) ≡ earlyAnswer (questionAbout b cells a)
-  unfolding answerOf faultOf questionAbout
-  fault-early f v = load-early (questionAbout b cells a) (faultRow f) (sym (answered .0) ∙ ap answerOf v)
+  pub fault-early : (f : Fault) → r .verdict ≡ verdict.Refused f → turnedAnswer (Refused (File f)) ≡ earlyAnswer q
+  unfolding answerOf faultOf turnedAnswer turnedRow rowOf
+  fault-early f v = load-early q (faultRow f) (sym (answered .0) ∙ ap answerOf v)
 
-  module _ (v : r .verdict ≡ verdict.Accepted) where
-    accepted-answer : answerOf verdict.Accepted ≡ answerTo (loading b)
-    accepted-answer = ap answerOf (sym v) ∙ answered .0
+  -- The rows of the question, by the counts of the network: the file part has accepted the file, so that these counts are those in its
+  -- head, by which the rows of the question are defined.
+  pub row-early : r .verdict ≡ verdict.Accepted → Taken (q .file) (r .network) → (n : ℕ) → n ≡ r .network .routers → (row : enum.Row) →
+      rowDecided row ≡ firstRow (sizedReturned n (r .network .links) (r .network .prefixes) q) (select (triesEarly (q .call)) earlyRows) →
+      (turned : Turned) → turnedRow turned ≡ inEarly (rowDecided row) → turnedAnswer turned ≡ earlyAnswer q
+  unfolding turnedAnswer earlyAnswer answerOf
+  row-early v t n e row decides turned by = ap told (by ∙ ap inEarly same ∙ sym (loaded-early q (sym (answered .0) ∙ ap answerOf v)))
+    where
+      told : Option (Decided Row) → Option Answer
+      told o = elim o [ some d ↦ some (refusal d) | none ↦ none ]
 
-    -- the rows of the question, by the counts of the network
-    pub row-early : Taken b (r .network) → (n : ℕ) → n ≡ r .network .routers → (row : enum.Row) →
-        rowDecided row ≡ firstRow (sizedReturned n (r .network .links) (r .network .prefixes) (questionOf cells a)) (select (tries (callOf (a .call))) earlyRows) →
-        rowAnswer row ≡ earlyAnswer (questionAbout b cells a)
-    unfolding rowAnswer earlyAnswer questionAbout answerOf
-    row-early t n e row decides = ap told (same ∙ sym (loaded-early (questionAbout b cells a) (sym accepted-answer)))
-      where
-        told : Option (Decided Row) → Option Answer
-        told o = elim o [ some d ↦ some (refusal d) | none ↦ none ]
-
-        same : rowDecided row ≡ firstRow (returned (questionAbout b cells a)) (select (tries (callOf (a .call))) earlyRows)
-        same =
-            rw (e, routers-are t, links-are t, prefixes-are t) at decides
-            ∙ same-decides _ _ (tries (callOf (a .call))) (same-rows b cells a)
+      same : rowDecided row ≡ firstRow (sizedReturned (routersOf (q .file)) (linksOf (q .file)) (prefixesOf (q .file)) q) (select (triesEarly (q .call)) earlyRows)
+      same = rw (e, routers-are t, links-are t, prefixes-are t) at decides
 
 -- ---- the work area
-
--- every call has one
-has-area : (c : Call) → hasInput (callOf c) (lent workArea) ≡ true
-unfolding callOf hasInput inputsOf inputNumber memberOf anyOf
-has-area Distances = refl
-has-area Link = refl
-has-area Prefix = refl
-has-area Route = refl
 
 -- where the question is turned away, it stays as it was
 pub lent-posed : {turned : Turned} {x : Refusal} (net : lfa.Network) (area : List ℕ) → turned ≡ Refused x → area ≡ areaPosed turned net area
@@ -85,17 +63,17 @@ unfolding areaPosed
 lent-posed net area e = sym (ap (λ (t : Turned). areaPosed t net area) e)
 
 -- and else it holds the distances of the network: no row applies, so that it is long enough
-pub filled-posed : {turned : Turned} (b : Bytes) (area : List ℕ) (a : Asked) {network : Network} {after : List ℕ} → turned ≡ Ready → turnedAnswer turned ≡ earlyAnswer (questionAbout b (length area) a) →
-    ((i : ℕ) → byteAt b i < 256) → Taken b network → after ≡ areaFilled (network .routers) (network .links) (network .from) (network .to) (network .out) (network .back) area →
-    after ≡ areaPosed turned (networkLoaded b) area
-unfolding areaPosed turnedAnswer questionAbout
-filled-posed b area a {network} {after} e told bytes t full =
-    let p = answer-posed (questionAbout b (length area) a) bytes (sym told ∙ ap turnedAnswer e) in
-    let net = networkOf b in
-    let done : after ≡ filled net area = filled-columns (columns-within t) (network .out) (network .back) area (enough p) net (network-columns t) full in
-    done ∙ sym (ap (λ (n : lfa.Network). filled n area) (accepted-loaded b (t .is-accepted))) ∙ sym (ap (λ (s : Turned). areaPosed s (networkLoaded b) area) e)
+pub filled-posed : {turned : Turned} (q : Question) (area : List ℕ) {network : Network} {after : List ℕ} → HasInput q (lent workArea) → q .area ≡ length area → turned ≡ Ready → turnedAnswer turned ≡ earlyAnswer q →
+    ((i : ℕ) → byteAt (q .file) i < 256) → Taken (q .file) network → after ≡ areaFilled (network .routers) (network .links) (network .from) (network .to) (network .out) (network .back) area →
+    after ≡ areaPosed turned (networkLoaded (q .file)) area
+unfolding areaPosed turnedAnswer turnedRow networkAsked
+filled-posed q area {network} {after} has cells e told bytes t full =
+    let net = networkOf (q .file) in
+    let done : after ≡ filled net area = filled-columns (columns-within t) (network .out) (network .back) area enough net (network-columns t) full in
+    done ∙ sym (ap (λ (n : lfa.Network). filled n area) (accepted-loaded (q .file) (t .is-accepted))) ∙ sym (ap (λ (s : Turned). areaPosed s (networkLoaded (q .file)) area) e)
   where
-    enough : Posed (questionAbout b (length area) a) → network .routers * network .routers ≤ length area
-    enough p =
-        let k : networkOf b .routers * networkOf b .routers ≤ length area = unfold networkAsked in p .area (has-area (a .call)) in
+    enough : network .routers * network .routers ≤ length area
+    enough =
+        let p = answer-posed q bytes (sym told ∙ ap turnedAnswer e) in
+        let k : networkOf (q .file) .routers * networkOf (q .file) .routers ≤ length area = omega (arith, cells, p .area has) in
         subst (λ (n : ℕ). n * n ≤ length area) (sym (routers-same t)) k

@@ -123,7 +123,7 @@ fn ask_space(file: &[u8], work: &mut [u32], link: usize, end: usize, which: Whic
     ensures { λ r. ⌜ Answered (askSpace (spaceNamed which) (now (file .entry)) (length (now (work .entry))) link end) (spaceAnswer r) (now (work .entry)) (now (work .exit)) ⌝ }
 {
     let asked = Asked {
-        call: Call::Link,
+        call: Call::Space,
         buffer: 0,
         link,
         end,
@@ -146,7 +146,7 @@ pub fn p_space(file: &[u8], work: &mut [u32], link: usize, end: usize) -> SpaceA
     ask_space(file, work, link, end, Which::P)
 }
 
-// Extended P space: the routers that some neighbour of S other than E avoids the link on the way to.
+// Extended P space: the routers that some first hop of S avoids the link on the way to.
 pub fn extended_p_space(file: &[u8], work: &mut [u32], link: usize, end: usize) -> SpaceAnswer
     ensures { λ r. ⌜ Answered (askSpace extendedP (now (file .entry)) (length (now (work .entry))) link end) (spaceAnswer r) (now (work .entry)) (now (work .exit)) ⌝ }
 {

@@ -7,11 +7,14 @@ use network_file::network::Network;
 use rows::Asked;
 use rows::Row;
 use rows::first_row;
-ghost use Prim.Native.Nat.{_≤_};
+ghost use Prim.Native.Nat.{ℕ, _≤_};
 ghost use mathlib.Core.Path.{_≡_};
+ghost use mathlib.Core.List.{List};
 ghost use lib.ListN.{length};
-ghost use Rattle.rows.specs.Rows.{questionAbout};
-ghost use Rattle.repair.specs.Answer.{turnedAnswer, rowAnswer, Judges};
+ghost use Rattle.lfa.specs.Space.{Space};
+ghost use Rattle.lfa.specs.Refusal.{inEarly};
+ghost use Rattle.rows.specs.Rows.{questionAbout, rowDecided};
+ghost use Rattle.repair.specs.Answer.{turnedRow, Judges};
 
 // What turns a question away, if anything does.
 pub enum Turned {
@@ -35,7 +38,7 @@ fn narrow(routers: usize) -> u8
 
 // A row as a refusal.
 fn turned_by(row: Row) -> Turned
-    ensures { λ r. ⌜ turnedAnswer r ≡ rowAnswer row ⌝ }
+    ensures { λ r. ⌜ turnedRow r ≡ inEarly (rowDecided row) ⌝ }
 {
     match row {
         Row::ShortArea(cells) => Turned::Refused(Refusal::ShortArea(cells)),
@@ -46,10 +49,11 @@ fn turned_by(row: Row) -> Turned
     }
 }
 
-// Rows 1 to 13 for a question about a file, as far as its call tries them, and the network that the file holds. Where none of them applies,
-// the work area holds the distances of the network.
+// Rows 1 to 13 for a question about a file, as far as its call tries them, and the network that the file holds; whichever space is asked
+// for, and whatever the choice bytes are. Where none of the rows applies, the work area holds the distances of the network.
 pub fn pose(file: &[u8], asked: Asked, work: &mut [u32]) -> Judged
-    ensures { λ r. ⌜ Judges (questionAbout (now (file .entry)) (length (now (work .entry))) asked) (r .turned) (r .network) (now (work .entry)) (now (work .exit)) ⌝ }
+    ensures { λ r. ⌜ ((s : Space) (choices : List ℕ) →
+        Judges (questionAbout (now (file .entry)) (length (now (work .entry))) asked s choices) (r .turned) (r .network) (now (work .entry)) (now (work .exit))) ⌝ }
 {
     let loaded = load(file);
     let verdict = loaded.verdict;

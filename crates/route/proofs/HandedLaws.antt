@@ -2,16 +2,15 @@
 -- Assumes nothing.
 use Prim.Native.Nat.{ℕ, _*_, _≤_, _<_}
 use mathlib.Core.Path.{_≡_, refl, sym, ap, _∙_, subst}
-use mathlib.Core.List.{List, [], _++_}
+use mathlib.Core.List.{List, _++_}
 use native.Mathlib.Omega.{arith}
 use lib.ListN.{length, getD, drop}
 use Rattle.lfa.specs.Lists.{memberOf, anyOf}
 use Rattle.lfa.specs.File.{byteAt, networkOf}
-use Rattle.lfa.specs.Distance.{filled}
 use Rattle.lfa.specs.Space.{Protected, protected}
 use Rattle.lfa.specs.Repair.{Told, Outcome, serving}
 use Rattle.lfa.specs.Route.{NamedRoute}
-use Rattle.lfa.specs.Question.{Question, route, workArea, routeBuffer, aLink, aPrefix, lent, inputsOf, inputNumber, hasInput, HasInput, networkAsked, linkAsked, prefixAsked, prefixFound}
+use Rattle.lfa.specs.Question.{Question, route, workArea, routeBuffer, aLink, aPrefix, lent, inputsOf, inputNumber, hasInput, networkAsked, linkAsked, prefixAsked, prefixFound}
 use Rattle.lfa.specs.Refusal.{Posed}
 use Rattle.lfa.specs.Answer.{played, answerTo, routeAfter}
 use Rattle.lfa.specs.Laws.Accepted.{accepted-descend, accepted-sound, accepted-named, prefix-count}
@@ -61,7 +60,7 @@ module _ {q : Question} {turned : Turned} {network : Network} {area after : List
   -- what the search finds is what the prefix repair finds
   pub route-searched : {o : Outcome} → o ≡ prefixBy network (q .link) (q .end) (q .prefix) after → o ≡ prefixFound q
   unfolding hasInput inputsOf inputNumber memberOf anyOf
-  route-searched e = e ∙ prefix-searched p t area (j .cells-are) (area-filled j bytes ready) (has q p aLink c refl) (has q p (lent workArea) c refl) (has q p aPrefix c refl)
+  route-searched e = e ∙ prefix-searched p t area (j .cells-are) (j .limit-is) (area-filled j bytes ready) (has q p aLink c refl) (has q p (lent workArea) c refl) (has q p aPrefix c refl)
 
   -- the pair that was found
   module _ {told : Told} (found : prefixFound q ≡ serving told) where
@@ -77,8 +76,10 @@ module _ {q : Question} {turned : Turned} {network : Network} {area after : List
 
     -- what the play asks, where the repairing router and the number of attachments were read from the columns
     module _ {near count : ℕ} (near-is : near ≡ protectedOf network (q .link) (q .end) .near) (count-is : count ≡ getD (network .attached) (q .prefix) 0) where
-      near-same : near ≡ protected (networkOf (q .file)) (q .link) (q .end) .near
-      near-same = near-is ∙ ap (λ (r : Protected). r .near) (protected-is t (q .link) (q .end) link-there)
+      near-same : near ≡ protected (q .maintenance) (networkOf (q .file)) (q .link) (q .end) .near
+      near-same =
+          near-is ∙ ap (λ (r : Protected). r .near) (protected-is t (q .link) (q .end) link-there)
+          ∙ ap (λ (m : ℕ). protected m (networkOf (q .file)) (q .link) (q .end) .near) (sym (j .limit-is))
 
       abbrev InColumns : List ℕ → Type 0
       InColumns r =
@@ -114,7 +115,7 @@ module _ {q : Question} {turned : Turned} {network : Network} {area after : List
           let few = played-named q p c found .fits in
           let n = routers-same t in
           let sound = accepted-sound (q .file) (t .is-accepted) in
-          let outward = accepted-named (q .file) (t .is-accepted) (q .link) (q .end) link-there .outward in (
+          let outward = accepted-named (q .file) (t .is-accepted) (q .maintenance) (q .link) (q .end) link-there .outward in (
             playable,
             omega (arith, near-same, sound .within .from outward),
             omega (arith, told-first-in q p c found),

@@ -8,46 +8,28 @@ use native.Mathlib.Omega.{arith}
 use lib.ListN.{length, drop}
 use types.Run.{OneOf, miss}
 use denote.Enum.Declared.{tagOf}
-use Rattle.lfa.specs.Lists.{select, memberOf, anyOf}
-use Rattle.lfa.specs.File.{Bytes}
 use Rattle.lfa.specs.Repair.{Told, Outcome, prefixUnreachable, prefixUntouched, noneServes, serving}
-use Rattle.lfa.specs.Question.{Question, Call, route, inputsOf, inputNumber, hasInput, askRoute, prefixFound}
-use Rattle.lfa.specs.Refusal.{FileRow, Decided, decided, inFile, Posed, entryOf, earlyRows, tries, returned, firstRow, earlyRefusal, sizedReturned}
-use Rattle.lfa.specs.Answer.{Answer, refused, repair, played, refusal, repairAnswer, routeAnswer, routeFor, routePlayed, computed, answerTo, routeAfter, earlyAnswer}
+use Rattle.lfa.specs.Question.{Question, route, prefixFound}
+use Rattle.lfa.specs.Refusal.{Row, Decided, decided, Posed}
+use Rattle.lfa.specs.Answer.{Answer, repair, refusal, repairAnswer, routeAnswer, routeFor, routePlayed, computed, answerTo, routeAfter}
 use Rattle.lfa.specs.Laws.Asked.{posed-route}
 use Rattle.lfa.specs.Laws.Replies.{computes}
-use Rattle.network_file.specs.declared.network.Network.{Network}
-use Rattle.network_file.specs.Load.{faultRow, faultOf}
 use Rattle.repair.proofs.Repair.{the-type}
-use Rattle.repair.specs.Answer.{refusalAnswer, repairOf, Judges}
-use Rattle.repair.specs.declared.Refusal.{Refusal}
-use Rattle.repair.specs.declared.Refusal.the-variants.{File, ShortArea, ShortBuffer, NoSuchLink, NoSuchPrefix, NoPair}
-use Rattle.repair.specs.declared.question.Turned.{Turned}
+use Rattle.repair.specs.Answer.{rowOf, refusalAnswer, repairOf}
 use Rattle.repair.specs.declared.Repair.{Repair}
 use Rattle.repair.specs.declared.Repair.the-variants as answer
 use Rattle.route.specs.Answer.{passedOn}
 
 -- ---- answers
 
-never-repair : {A : Type 0} {k v : ℕ} {t : Told} → refused k v ≡ repair t → A
-never-repair e = absurd (let z : _≡_ {A = ℕ} 0 1 = cc in omega arith)
-
 -- an answer that is passed on has no pair
-refusal-refused : (x : Refusal) → (k : ℕ) × (v : ℕ) × (refusalAnswer x ≡ refused k v)
-unfolding refusalAnswer refusal faultOf inFile
-refusal-refused (File f) = go (faultRow f)
-  where
-    go : (d : Decided FileRow) → (k : ℕ) × (v : ℕ) × (refusal (inFile d) ≡ refused k v)
-    go (decided row v) = (_, _, refl)
-refusal-refused (ShortArea v) = (_, _, refl)
-refusal-refused (ShortBuffer v) = (_, _, refl)
-refusal-refused (NoSuchLink v) = (_, _, refl)
-refusal-refused (NoSuchPrefix v) = (_, _, refl)
-refusal-refused NoPair = (_, _, refl)
+never-refusal : {A : Type 0} {t : Told} (d : Decided Row) → refusal d ≡ repair t → A
+unfolding refusal
+never-refusal (decided r v) e = absurd (let z : _≡_ {A = ℕ} 0 1 = cc in omega arith)
 
 never-passed : {A : Type 0} {t : Told} (r : Repair) → passedOn r ≡ repair t → A
-unfolding passedOn
-never-passed (answer.Refused x) e = never-repair (sym (refusal-refused x .2) ∙ e)
+unfolding passedOn refusalAnswer
+never-passed (answer.Refused x) e = never-refusal (rowOf x) e
 never-passed answer.Unreachable e = absurd (let z : _≡_ {A = ℕ} 0 1 = cc in omega arith)
 never-passed answer.Untouched e = absurd (let z : _≡_ {A = ℕ} 0 1 = cc in omega arith)
 never-passed (answer.Pair p) e = absurd (let z : _≡_ {A = ℕ} 0 1 = cc in omega arith)
@@ -62,16 +44,6 @@ not-pair (answer.Pair p) k = absurd (third k)
   where
     third : OneOf (0 ∷ 1 ∷ 2 ∷ []) 3 → ⊥
     third k = miss (0 ∷ 1 ∷ 2 ∷ []) 3 tt k
-
--- ---- what is tried before the search does not look at the choice bytes
-
-pub choices-apart : {turned : Turned} {network : Network} {area after : List ℕ} (b : Bytes) (cells buffer l e p : ℕ) (choices : List ℕ) →
-    Judges (askRoute b cells buffer l e p []) turned network area after → Judges (askRoute b cells buffer l e p choices) turned network area after
-unfolding askRoute
-choices-apart b cells buffer l e p choices j = record { cells-are = j .cells-are; turned-is = j .turned-is ∙ same; network-is = j .network-is; area-is = j .area-is }
-  where
-    same : earlyAnswer (askRoute b cells buffer l e p []) ≡ earlyAnswer (askRoute b cells buffer l e p choices)
-    same = unfold earlyAnswer earlyRefusal earlyRows select tries entryOf hasInput inputsOf inputNumber memberOf anyOf firstRow returned sizedReturned askRoute in refl
 
 -- ---- a route question that no row before 14 turns away: what the search finds for the prefix repair
 

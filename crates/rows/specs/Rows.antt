@@ -1,32 +1,58 @@
--- The question that the numbers of a call make, and the rows that look at numbers alone, by the counts of any file.
+-- The question that the numbers of a call make, the inputs that its call has, and the row that decides.
 -- Assumes nothing.
 use Prim.Native.Nat.{ℕ}
+use mathlib.Core.Bool.{Bool, true, false}
 use mathlib.Core.Option.{Option, none, some}
-use mathlib.Core.List.{[]}
+use mathlib.Core.List.{List}
 use Rattle.lfa.specs.File.{Bytes}
+use Rattle.lfa.specs.Space as space
 use Rattle.lfa.specs.Question as question
 use Rattle.lfa.specs.Refusal as table
 use Rattle.rows.specs.declared.Call.{Call}
-use Rattle.rows.specs.declared.Call.the-variants.{Distances, Link, Prefix, Route}
+use Rattle.rows.specs.declared.Call.the-variants.{Distances, Space, Link, Prefix, Route}
 use Rattle.rows.specs.declared.Asked.{Asked}
+use Rattle.rows.specs.declared.Inputs.{Inputs}
 use Rattle.rows.specs.declared.Row.{Row}
 use Rattle.rows.specs.declared.Row.the-variants.{ShortArea, ShortBuffer, NoSuchLink, NoSuchPrefix, Passed}
 
-unfoldable pub callOf : Call → question.Call
-callOf Distances = question.fill
-callOf Link = question.linkRepair
-callOf Prefix = question.prefixRepair
-callOf Route = question.route
+-- the call, and the space that it asks for where it asks for one
+unfoldable pub callOf : Call → space.Space → question.Call
+callOf Distances s = question.fill
+callOf Space s = question.space s
+callOf Link s = question.linkRepair
+callOf Prefix s = question.prefixRepair
+callOf Route s = question.route
 
--- the question about a file, with a work area of so many cells, and the same about no file in particular
-unfoldable pub questionAbout : Bytes → (area : ℕ) → Asked → question.Question
-questionAbout b area a = record { call = callOf (a .call); file = b; area = area; buffer = a .buffer; link = a .link; end = a .end; prefix = a .prefix; choices = [] }
+-- the question about a file, with a work area of so many cells; the rows look at neither the space nor the choice bytes
+unfoldable pub questionAbout : Bytes → (area : ℕ) → Asked → space.Space → (choices : List ℕ) → question.Question
+questionAbout b area a s choices = record {
+  call = callOf (a .call) s;
+  file = b;
+  area = area;
+  buffer = a .buffer;
+  link = a .link;
+  end = a .end;
+  prefix = a .prefix;
+  choices = choices;
+  maintenance = space.underMaintenance;
+}
 
-unfoldable pub questionOf : (area : ℕ) → Asked → question.Question
-questionOf area a = questionAbout [] area a
+-- the inputs that a call has, beside the file and the work area
+unfoldable pub inputsIn : question.Call → Inputs
+inputsIn c = record {
+  buffer = question.hasInput c (question.lent question.routeBuffer);
+  link = question.hasInput c question.aLink;
+  prefix = question.hasInput c question.aPrefix;
+}
+
+-- a row, where it is tried and its test does not pass, and else the later one
+unfoldable pub orRow : (tried passes : Bool) → (row later : Row) → Row
+orRow tried true row later = later
+orRow true false row later = row
+orRow false false row later = later
 
 -- the row that decides, with the value that it returns, for each case of the enum
-unfoldable pub rowDecided : Row → Option (table.Decided table.Row)
+unfoldable pub rowDecided : Row → Option (table.Decided table.EarlyRow)
 rowDecided (ShortArea v) = some (table.decided table.shortArea v)
 rowDecided (ShortBuffer v) = some (table.decided table.shortBuffer v)
 rowDecided (NoSuchLink v) = some (table.decided table.noSuchLink v)

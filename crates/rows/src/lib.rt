@@ -1,18 +1,21 @@
 // Rows 10 to 13 of the table of refusals, for every call that tries one of them. They look at numbers alone: the counts of a file's head
 // and those of the question.
 use metric::read::wide;
-ghost use Prim.Native.Nat.{_*_, _<_};
+ghost use Prim.Native.Nat.{ℕ};
 ghost use mathlib.Core.Path.{_≡_};
-ghost use mathlib.Core.Bool.{not, _&&_};
+ghost use mathlib.Core.Bool.{_&&_};
+ghost use mathlib.Core.List.{List};
 ghost use lib.Dec.{ltb, leb};
 ghost use Rattle.lfa.specs.Lists.{select};
-ghost use Rattle.lfa.specs.Question.{routeBuffer, aLink, aPrefix, lent, hasInput};
-ghost use Rattle.lfa.specs.Refusal.{earlyRows, tries, firstRow, sizedReturned};
-ghost use Rattle.rows.specs.Rows.{callOf, questionOf, rowDecided};
+ghost use Rattle.lfa.specs.File.{Bytes};
+ghost use Rattle.lfa.specs.Space.{Space};
+ghost use Rattle.lfa.specs.Refusal.{earlyRows, triesEarly, firstRow, sizedReturned};
+ghost use Rattle.rows.specs.Rows.{callOf, questionAbout, inputsIn, orRow, rowDecided};
 
-// The calls, by the inputs that these rows look at. A space is asked for with the inputs of a link repair.
+// The calls, by the inputs that these rows look at. They do not look at which space is asked for.
 pub enum Call {
     Distances,
+    Space,
     Link,
     Prefix,
     Route,
@@ -44,12 +47,17 @@ struct Inputs {
 }
 
 fn inputs_of(call: Call) -> Inputs
-    ensures { λ r. ⌜ (r .buffer ≡ hasInput (callOf call) (lent routeBuffer)) × (r .link ≡ hasInput (callOf call) aLink) × (r .prefix ≡ hasInput (callOf call) aPrefix) ⌝ }
+    ensures { λ r. ⌜ ((s : Space) → r ≡ inputsIn (callOf call s)) ⌝ }
 {
     match call {
         Call::Distances => Inputs {
             buffer: false,
             link: false,
+            prefix: false,
+        },
+        Call::Space => Inputs {
+            buffer: false,
+            link: true,
             prefix: false,
         },
         Call::Link => Inputs {
@@ -77,33 +85,43 @@ fn named(links: usize, link: usize, end: usize) -> bool
     link < links && end <= 1
 }
 
-// Whether a row applies: the call tries it, and its test does not pass.
-fn applies(tried: bool, passes: bool) -> bool
-    ensures { λ r. ⌜ r ≡ (tried && not passes) ⌝ }
+// A row, where the call tries it and its test does not pass, and else what the later rows say.
+fn or_row(tried: bool, passes: bool, row: Row, later: Row) -> Row
+    ensures { λ r. ⌜ r ≡ orRow tried passes row later ⌝ }
 {
-    tried && !passes
+    if passes {
+        return later;
+    }
+    if tried {
+        return row;
+    }
+    later
 }
 
-// The first of rows 10 to 13 that applies to a question about a file with these counts, `area` being the cells of the work area.
+// The first of rows 10 to 13 that applies to a question about a file with these counts, `area` being the cells of the work area, which
+// every call has. It is found from the last row to the first, so that a further row is one more step.
 pub fn first_row(routers: u8, links: usize, prefixes: usize, area: usize, asked: Asked) -> Row
-    ensures { λ r. ⌜ rowDecided r ≡ firstRow (sizedReturned routers links prefixes (questionOf area asked)) (select (tries (callOf (asked .call))) earlyRows) ⌝ }
+    ensures { λ r. ⌜ ((b : Bytes) (s : Space) (choices : List ℕ) → rowDecided r
+        ≡ firstRow (sizedReturned routers links prefixes (questionAbout b area asked s choices)) (select (triesEarly (callOf (asked .call) s)) earlyRows)) ⌝ }
 {
     let call = asked.call;
     let has = inputs_of(call);
     let n = wide(routers);
     let cells = n * n;
     let bytes = 2 * n;
-    if area < cells {
-        return Row::ShortArea(cells);
-    }
-    if applies(has.buffer, bytes <= asked.buffer) {
-        return Row::ShortBuffer(bytes);
-    }
-    if applies(has.link, named(links, asked.link, asked.end)) {
-        return Row::NoSuchLink(links);
-    }
-    if applies(has.prefix, asked.prefix < prefixes) {
-        return Row::NoSuchPrefix(prefixes);
-    }
-    Row::Passed
+    let there = named(links, asked.link, asked.end);
+    let from13 = or_row(
+        has.prefix,
+        asked.prefix < prefixes,
+        Row::NoSuchPrefix(prefixes),
+        Row::Passed,
+    );
+    let from12 = or_row(has.link, there, Row::NoSuchLink(links), from13);
+    let from11 = or_row(
+        has.buffer,
+        bytes <= asked.buffer,
+        Row::ShortBuffer(bytes),
+        from12,
+    );
+    or_row(true, cells <= area, Row::ShortArea(cells), from11)
 }

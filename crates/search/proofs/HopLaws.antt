@@ -6,7 +6,7 @@ use mathlib.Core.Bool.{Bool, true, false, not}
 use mathlib.Core.List.{List, [], _∷_, _++_, map, map-map, append-nil, append-assoc}
 use native.Mathlib.Numerals.{add-one}
 use native.Mathlib.Omega.{arith}
-use lib.Dec.{eqb}
+use lib.Dec.{eqb, ltb}
 use lib.ListN.{length, getD, set, length-set}
 use lib.Seq.{getD-set-same, getD-set-other}
 use borrow.Author.Tests.{eq-eqb, ne-eqb}
@@ -61,28 +61,34 @@ module _ (from to out back : List ℕ) where
 
 -- ---- first hops
 
-pub leaves-tried : {w v : ℕ} (near far : ℕ) (from to : List ℕ) (a : ℕ) → w ≡ sideOf a from to → w ≡ near → v ≡ sideOf a to from → not (eqb v far) ≡ leavesNear near far from to a
-unfolding leavesNear
-leaves-tried {w} {v} near far from to a e h f = rw (← e, ← f, eq-eqb w near h)
+-- the three tests of an arc, one after the other
+module _ (q : Protected) (from to out back : List ℕ) (a : ℕ) where
+  pub other-start : {w : ℕ} → w ≡ sideOf a from to → (w ≡ q .near → ⊥) → leavesNear q from to out back a ≡ false
+  unfolding leavesNear
+  other-start {w} e h = rw (← e, ne-eqb w (q .near) h)
 
-pub other-start : {w : ℕ} (near far : ℕ) (from to : List ℕ) (a : ℕ) → w ≡ sideOf a from to → (w ≡ near → ⊥) → eqb w near ≡ leavesNear near far from to a
-unfolding leavesNear
-other-start {w} near far from to a e h = rw (← e, ne-eqb w near h)
+  pub leads-far : {w v : ℕ} → w ≡ sideOf a from to → w ≡ q .near → v ≡ sideOf a to from → v ≡ q .far → leavesNear q from to out back a ≡ false
+  unfolding leavesNear
+  leads-far {w} {v} e h f k = rw (← e, ← f, eq-eqb w (q .near) h, eq-eqb v (q .far) k)
+
+  pub in-service : {w v c : ℕ} → w ≡ sideOf a from to → w ≡ q .near → v ≡ sideOf a to from → (v ≡ q .far → ⊥) → c ≡ sideOf a out back → leavesNear q from to out back a ≡ ltb c (q .maintenance)
+  unfolding leavesNear
+  in-service {w} {v} e h f k g = rw (← e, ← f, ← g, eq-eqb w (q .near) h, ne-eqb v (q .far) k)
 
 -- the first hops found among the arcs before a, in a column of 256 cells
-pub record FirstsFound (near far : ℕ) (from to : List ℕ) (a count : ℕ) (arcs : List ℕ) : Type 0 where
+pub record FirstsFound (q : Protected) (from to out back : List ℕ) (a count : ℕ) (arcs : List ℕ) : Type 0 where
   pub few : count ≤ a
   pub long : length arcs ≡ 256
-  pub all : arcsListed count arcs ≡ select (leavesNear near far from to) (below a)
+  pub all : arcsListed count arcs ≡ select (leavesNear q from to out back) (below a)
 
-pub firsts-none : (near far : ℕ) (from to arcs : List ℕ) → length arcs ≡ 256 → FirstsFound near far from to 0 0 arcs
+pub firsts-none : (q : Protected) (from to out back arcs : List ℕ) → length arcs ≡ 256 → FirstsFound q from to out back 0 0 arcs
 unfolding arcsListed below countUp select
-firsts-none near far from to arcs l = record { few = omega arith; long = l; all = refl }
+firsts-none q from to out back arcs l = record { few = omega arith; long = l; all = refl }
 
 -- one arc more is put after those found where it is a first hop, and else left out
-module _ (near far : ℕ) (from to : List ℕ) (a count : ℕ) (arcs : List ℕ) (f : FirstsFound near far from to a count arcs) where
+module _ (q : Protected) (from to out back : List ℕ) (a count : ℕ) (arcs : List ℕ) (f : FirstsFound q from to out back a count arcs) where
   abbrev test : ℕ → Bool
-  test = leavesNear near far from to
+  test = leavesNear q from to out back
 
   arc-more : (b : Bool) → test a ≡ b → select test (below (a + 1)) ≡ select test (below a) ++ keepIf b a []
   unfolding select
@@ -96,30 +102,29 @@ module _ (near far : ℕ) (from to : List ℕ) (a count : ℕ) (arcs : List ℕ)
       (map-below-same _ _ count (λ i k. getD-set-other arcs count i a 0 (λ e. absurd (omega arith))))
       (getD-set-same arcs count a 0 (omega (arith, f .few, f .long)))
 
-  pub first-put : a < 256 → test a ≡ true → FirstsFound near far from to (a + 1) (count + 1) (set arcs count a)
+  pub first-put : a < 256 → test a ≡ true → FirstsFound q from to out back (a + 1) (count + 1) (set arcs count a)
   first-put h e = record {
     few = omega (arith, f .few);
     long = simp length-set (f .long);
     all = put h ∙ ap (λ (l : List ℕ). l ++ (a ∷ [])) (f .all) ∙ sym (arc-more true e);
   }
 
-  pub other-left : test a ≡ false → FirstsFound near far from to (a + 1) count arcs
+  pub other-left : test a ≡ false → FirstsFound q from to out back (a + 1) count arcs
   other-left e = record {
     few = omega (arith, f .few);
     long = f .long;
     all = f .all ∙ sym (arc-more false e ∙ append-nil (select test (below a)));
   }
 
-module _ (q : Protected) (from to : List ℕ) (links count : ℕ) (arcs : List ℕ) (l : Listed q from to links count arcs) where
-  -- the column holds the first hops of the network, whatever the costs are
-  pub listed-hops : (out back : List ℕ) → hopsIn from to out back count arcs ≡ firstHops q (arcsIn from to out back links)
-  unfolding hopsIn arcsListed firstHops hopOver isFirst leavesNear
-  listed-hops out back =
-      sym (map-map (hopBy from to out back) (λ i. getD arcs i 0) (below count))
-      ∙ ap (map (hopBy from to out back)) (l .all)
-      ∙ sym (ap (λ (h : List Arc). map hopOver (select (isFirst q) h)) (arcs-by from to out back links)
-      ∙ ap (map hopOver) (select-map (isFirst q) (arcBy from to out back) (below (2 * links)))
-      ∙ map-map hopOver (arcBy from to out back) (select (leavesNear (q .near) (q .far) from to) (below (2 * links))))
+-- the column holds the first hops of the network
+pub listed-hops : (q : Protected) (from to out back : List ℕ) (links count : ℕ) (arcs : List ℕ) → Listed q from to out back links count arcs → hopsIn from to out back count arcs ≡ firstHops q (arcsIn from to out back links)
+unfolding hopsIn arcsListed firstHops hopOver isFirst leavesNear
+listed-hops q from to out back links count arcs l =
+    sym (map-map (hopBy from to out back) (λ i. getD arcs i 0) (below count))
+    ∙ ap (map (hopBy from to out back)) (l .all)
+    ∙ sym (ap (λ (h : List Arc). map hopOver (select (isFirst q) h)) (arcs-by from to out back links)
+    ∙ ap (map hopOver) (select-map (isFirst q) (arcBy from to out back) (below (2 * links)))
+    ∙ map-map hopOver (arcBy from to out back) (select (leavesNear q from to out back) (below (2 * links))))
 
 -- one first hop more of a column
 pub hops-more : (from to out back : List ℕ) (i : ℕ) (arcs : List ℕ) → hopsIn from to out back (i + 1) arcs ≡ hopsIn from to out back i arcs ++ (hopBy from to out back (getD arcs i 0) ∷ [])

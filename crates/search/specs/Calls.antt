@@ -1,5 +1,5 @@
--- What the public functions answer for any numbers, by those that the area holds. Where the columns have no cell for a link, or no
--- distances can be read for the ends of the protected one, a space is empty, and nothing is found.
+-- What the public functions answer for any numbers, by those that the area and the columns hold. Where the columns have no cell for a link
+-- or for the prefix, or no distances can be read for the ends of the protected link, a space is empty, and nothing is found.
 -- Assumes nothing.
 use Prim.Native.Nat.{ℕ, _*_}
 use mathlib.Core.Bool.{Bool, true, false, _&&_}

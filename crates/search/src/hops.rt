@@ -54,11 +54,27 @@ pub(crate) fn hop_of(
     }
 }
 
-// Whether an arc is a first hop: it leaves S and does not lead to E.
-fn leaves(arc: u8, from: &[u8; 128], to: &[u8; 128], near: usize, far: usize) -> bool
-    ensures { λ r. ⌜ r ≡ leavesNear near far (now (from .entry)) (now (to .entry)) arc ⌝ }
+// The cost at which a link is under maintenance.
+const UNDER_MAINTENANCE: u32 = 65535;
+
+// Whether an arc is a first hop: it leaves S, does not lead to E, and is not under maintenance.
+fn leaves(
+    arc: u8,
+    from: &[u8; 128],
+    to: &[u8; 128],
+    out: &[u16; 128],
+    back: &[u16; 128],
+    protected: Protected,
+) -> bool
+    ensures { λ r. ⌜ r ≡ leavesNear (asked protected) (now (from .entry)) (now (to .entry)) (now (out .entry)) (now (back .entry)) arc ⌝ }
 {
-    head_of(arc, to, from) == near && head_of(arc, from, to) != far
+    if head_of(arc, to, from) != protected.near {
+        return false;
+    }
+    if head_of(arc, from, to) == protected.far {
+        return false;
+    }
+    price_of(arc, out, back) < UNDER_MAINTENANCE
 }
 
 // The first hops of a repair: the numbers of `count` arcs.
@@ -73,19 +89,19 @@ pub(crate) fn first_hops(
     links: usize,
     from: &[u8; 128],
     to: &[u8; 128],
+    out: &[u16; 128],
+    back: &[u16; 128],
     protected: Protected,
 ) -> FirstHops
     requires { ⌜ links ≤ 128 ⌝ }
-    ensures { λ r. ⌜ Listed (asked protected) (now (from .entry)) (now (to .entry)) links (r .count) (r .arcs) ⌝ }
+    ensures { λ r. ⌜ Listed (asked protected) (now (from .entry)) (now (to .entry)) (now (out .entry)) (now (back .entry)) links (r .count) (r .arcs) ⌝ }
 {
-    let near = protected.near;
-    let far = protected.far;
     let mut arcs = [0u8; 256];
     let mut count = 0;
     let mut arc = 0;
     while arc < 2 * links {
         let number = arc as u8;
-        if leaves(number, from, to, near, far) {
+        if leaves(number, from, to, out, back, protected) {
             arcs[count] = number;
             count += 1;
         }

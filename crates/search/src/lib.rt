@@ -1,7 +1,7 @@
 // The search part: the three spaces, and the pair that serves a repair, over a network by value and a table of distances that is only read.
 //
-// Each function takes any numbers, and answers by the numbers that the table holds. Where the columns have no cell for the link, or no
-// distances can be read for its ends, a space is empty, and nothing is found.
+// Each function takes any numbers, and answers by the numbers that the table and the columns hold. Where the columns have no cell for the
+// link or the prefix, or no distances can be read for the link's ends, a space is empty, and nothing is found.
 use column::towards_prefix;
 use metric::read::wide;
 use network_file::network::Network;
@@ -52,7 +52,17 @@ pub fn space_in(which: Which, network: Network, link: usize, end: usize, dist: &
         link,
         end,
     );
-    space_of(which, dist, n, links, &network.from, &network.to, protected)
+    space_of(
+        which,
+        dist,
+        n,
+        links,
+        &network.from,
+        &network.to,
+        &network.out,
+        &network.back,
+        protected,
+    )
 }
 
 // The pair that repairs a link: around it, to its far router.

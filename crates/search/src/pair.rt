@@ -138,7 +138,7 @@ fn first_pair(
     requires { ⌜ (n ≤ 64) × (protected .near < 64) × (links ≤ 128) ⌝ }
     ensures { λ r. ⌜ earliestIn r ≡ firstServing n (arcsIn (now (from .entry)) (now (to .entry)) (now (out .entry)) (now (back .entry)) links) (asked protected) (now (dist .entry)) (now (target .entry)) onward ⌝ }
 {
-    let hops = first_hops(links, from, to, protected);
+    let hops = first_hops(links, from, to, out, back, protected);
     let mask = extended_p(dist, n, from, to, protected, hops) & onward;
     search(dist, n, from, to, out, back, protected, target, hops, mask)
 }

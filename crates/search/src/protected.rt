@@ -5,13 +5,13 @@ use metric::read::wide;
 ghost use mathlib.Core.Path.{_≡_};
 ghost use Prim.Native.Nat.{_<_};
 ghost use Rattle.lfa.specs.Network.{link};
-ghost use Rattle.lfa.specs.Space.{protectedBy};
+ghost use Rattle.lfa.specs.Space.{underMaintenance, protectedBy};
 ghost use Rattle.avoid.specs.Avoiding.{asked};
 ghost use Rattle.search.specs.Hops.{protectedIn};
 
 // Link number l from a to b, seen from its end.
 fn seen(l: usize, end: usize, a: u8, b: u8, ab: u16, ba: u16) -> Protected
-    ensures { λ r. ⌜ asked r ≡ protectedBy l end (link a b ab ba) ⌝ }
+    ensures { λ r. ⌜ asked r ≡ protectedBy underMaintenance l end (link a b ab ba) ⌝ }
 {
     if end == 0 {
         return Protected {

@@ -28,7 +28,8 @@ pub(crate) fn can_search(n: usize, links: usize, protected: Protected, cells: us
     links <= 128 && can_read(n, protected, cells)
 }
 
-// The routers that one of the first hops avoids the link on the way to: extended P. The costs of the links have no part in it.
+// The routers that one of the first hops avoids the link on the way to: extended P. Beyond which arcs are first hops, costs have no part
+// in it.
 pub(crate) fn extended_p(
     dist: &[u32],
     n: usize,
@@ -67,10 +68,12 @@ pub(crate) fn space_of<'a>(
     links: usize,
     from: &'a [u8; 128],
     to: &'a [u8; 128],
+    out: &'a [u16; 128],
+    back: &'a [u16; 128],
     protected: Protected,
 ) -> u64
-    ensures { λ s. ⌜ ((out back : List ℕ) → s ≡ spaceIf (searchable n links (asked protected) (length (now (dist .entry)))) (spaceNamed which) n
-        (arcsIn (now (from .entry)) (now (to .entry)) out back links) (asked protected) (now (dist .entry))) ⌝ }
+    ensures { λ s. ⌜ s ≡ spaceIf (searchable n links (asked protected) (length (now (dist .entry)))) (spaceNamed which) n
+        (arcsIn (now (from .entry)) (now (to .entry)) (now (out .entry)) (now (back .entry)) links) (asked protected) (now (dist .entry)) ⌝ }
 {
     if !can_search(n, links, protected, dist.len()) {
         return 0;
@@ -85,7 +88,7 @@ pub(crate) fn space_of<'a>(
                 from,
                 to,
                 protected,
-                first_hops(links, from, to, protected),
+                first_hops(links, from, to, out, back, protected),
             )
         }
         Which::Q => q_space(dist, n, protected),

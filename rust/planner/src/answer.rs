@@ -9,7 +9,8 @@ use std::fmt::{self, Display, Formatter};
 /// in a tunnel that ends at the endpoint.
 #[derive(Clone, Copy, Debug, PartialEq, Eq, Hash)]
 pub struct Pair {
-    /// The first hop n, a neighbour of S.
+    /// The first hop n, a neighbour of S other than E. The link from S to it is not under
+    /// maintenance: it costs less than [`MAINTENANCE`](crate::MAINTENANCE).
     pub first: u8,
     /// The endpoint y. Where it is the first hop itself no tunnel is needed.
     pub endpoint: u8,

@@ -70,8 +70,9 @@ pub fn p_space(file: &[u8], work: &mut [u32], link: usize, end: usize) -> Result
     answer::set(answer)
 }
 
-/// Extended P-space of a link seen from one end: the routers that some neighbour of S other than E
-/// reaches by no walk that crosses the link. Refuses and leaves as [`p_space`] does.
+/// Extended P-space of a link seen from one end: the routers that some first hop reaches by no walk
+/// that crosses the link. A first hop is a neighbour of S other than E to which the cost from S is
+/// below 65,535. Refuses and leaves as [`p_space`] does.
 pub fn extended_p_space(
     file: &[u8],
     work: &mut [u32],

@@ -57,7 +57,7 @@ pub use call::{
 };
 pub use file::LARGEST_FILE;
 pub use network::{
-    Attachment, LimitError, Link, Network, Prefix, MOST_ATTACHMENTS, MOST_LINKS, MOST_PREFIXES,
-    MOST_ROUTERS,
+    Attachment, LimitError, Link, Network, Prefix, MAINTENANCE, MOST_ATTACHMENTS, MOST_LINKS,
+    MOST_PREFIXES, MOST_ROUTERS,
 };
 pub use refusal::Refusal;

@@ -11,6 +11,9 @@ pub const MOST_LINKS: usize = 128;
 pub const MOST_PREFIXES: usize = 128;
 /// The most attachments of a prefix.
 pub const MOST_ATTACHMENTS: usize = 8;
+/// The cost that says that a link is under maintenance in one direction. Packets may go over it as
+/// over any other, but no repair starts over it.
+pub const MAINTENANCE: u16 = 65_535;
 
 /// A link joins two routers. Its two costs may differ.
 #[derive(Clone, Copy, Debug, PartialEq, Eq, Hash)]
@@ -81,6 +84,18 @@ impl Network {
     /// The prefixes.
     pub fn prefixes(&self) -> &[Prefix] {
         &self.prefixes
+    }
+
+    /// The neighbours of a router, in the order of the links, to which the link is under
+    /// maintenance in the direction from that router.
+    pub fn under_maintenance(&self, router: u8) -> impl Iterator<Item = u8> + '_ {
+        let directions = self.links.iter().flat_map(|link| {
+            let Link { a, b, out, back } = *link;
+            [(a, b, out), (b, a, back)]
+        });
+        let maintained =
+            directions.filter(move |(from, _, cost)| *from == router && *cost == MAINTENANCE);
+        maintained.map(|(_, to, _)| to)
     }
 
     /// Adds a link. A network with which that would break a limit stays as it is.

@@ -7,9 +7,10 @@
 //! ```
 //!
 //! The line `routers` stands there once, anywhere. Links and prefixes count from 0 in the order of
-//! their lines.
+//! their lines. A cost of 65535 says that the link is under maintenance in that direction; [`print()`]
+//! says so in a comment.
 
-use crate::network::{Attachment, LimitError, Link, Network, MOST_ROUTERS};
+use crate::network::{Attachment, LimitError, Link, Network, MAINTENANCE, MOST_ROUTERS};
 use std::error::Error;
 use std::fmt::{self, Display, Formatter, Write};
 
@@ -174,8 +175,9 @@ fn attachment(word: &str) -> Option<Attachment> {
 /// The text of a network. [`parse`] makes the same network of it.
 pub fn print(network: &Network) -> String {
     let mut text = format!("routers {}\n", network.routers());
-    for Link { a, b, out, back } in network.links() {
-        let _ = writeln!(text, "link {a} {b} {out} {back}");
+    for link in network.links() {
+        let Link { a, b, out, back } = link;
+        let _ = writeln!(text, "link {a} {b} {out} {back}{}", maintenance(link));
     }
     for prefix in network.prefixes() {
         text.push_str("prefix");
@@ -185,4 +187,16 @@ pub fn print(network: &Network) -> String {
         text.push('\n');
     }
     text
+}
+
+/// The comment of a link that is under maintenance, in one direction or both ways.
+fn maintenance(link: &Link) -> String {
+    let Link { a, b, out, back } = *link;
+    let direction = match (out == MAINTENANCE, back == MAINTENANCE) {
+        (true, true) => "both ways".to_string(),
+        (true, false) => format!("from {a} to {b}"),
+        (false, true) => format!("from {b} to {a}"),
+        (false, false) => return String::new(),
+    };
+    format!("  # under maintenance {direction}")
 }

@@ -9,7 +9,7 @@ use crate::questions;
 use crate::routes::{Asking, Rules, follow_heard};
 use crate::threads::each;
 use oracle::answer::{Opened, Question, load};
-use oracle::fault::Context;
+use oracle::fault::{Context, Fault};
 use oracle::file::write;
 use oracle::network::Network;
 use oracle::random::Random;
@@ -131,8 +131,9 @@ pub fn run(planner: &dyn Planner, cases: &[Case]) -> Report {
 }
 
 fn run_case(planner: &dyn Planner, case: &Case) -> Report {
-    let ctx = Context::sound();
+    let (ctx, ctx_before) = (Context::sound(), Context::with(&[Fault::NOTHING_LEFT_OUT]));
     let opened = Opened::new(&ctx, &case.file);
+    let before = Opened::new(&ctx_before, &case.file);
     let network = case.network().unwrap_or_default();
     let rules = Rules::of(&network);
     let mut report = Report { files: 1, ..Report::default() };
@@ -141,6 +142,7 @@ fn run_case(planner: &dyn Planner, case: &Case) -> Report {
         let compared = compare(planner, &opened, &case.file, &asked);
         report.calls += 1;
         report.coverage.call(&opened, &asked, &compared.expected);
+        report.coverage.maintenance(&opened, &before, &asked, &compared.expected);
         pairs.remember(&asked.question, &compared.heard.told);
         let wrong = match &compared.difference {
             Some(difference) => Some(difference.clone()),

@@ -2,6 +2,7 @@
 //! assert that each thing that can happen did happen.
 
 use crate::compare::Asked;
+use crate::maintenance;
 use crate::routes::Met;
 use oracle::answer::{Answer, Opened, Outcome, Question, inputs};
 use oracle::network::{LinkEnd, Network};
@@ -85,7 +86,7 @@ impl Coverage {
         }
     }
 
-    fn met(&mut self, thing: &str, count: u64) {
+    pub(crate) fn met(&mut self, thing: &str, count: u64) {
         if count > 0 {
             *self.counts.entry(thing.to_string()).or_default() += count;
         }
@@ -173,6 +174,7 @@ impl Coverage {
         self.met(thing::CHOICE, met.choices as u64);
         self.met(thing::DELIVERED, met.delivered_by_choice as u64);
         self.met(thing::STEPPED, met.stepped_by_choice as u64);
+        self.met(maintenance::thing::PLAYED, met.maintained as u64);
     }
 
     /// Which of these things were not met.
@@ -194,6 +196,7 @@ impl Display for Coverage {
 pub fn everything() -> Vec<String> {
     let mut things: Vec<String> = thing::ALL.map(str::to_string).into();
     things.extend(of_repairs());
+    things.extend(maintenance::thing::ALL.map(str::to_string));
     things.extend(Cause::ALL.iter().map(|cause| of_cause(*cause)));
     things
 }
@@ -245,7 +248,7 @@ fn of_answer(question: &Question, answer: &Answer) -> &'static str {
 }
 
 /// The link and end of a question that has them.
-fn ends(opened: &Opened, question: &Question) -> Option<LinkEnd> {
+pub(crate) fn ends(opened: &Opened, question: &Question) -> Option<LinkEnd> {
     let workings = opened.workings();
     match question {
         Question::Space { link, end, .. }

@@ -14,6 +14,7 @@ pub mod coverage;
 pub mod files;
 pub mod lent;
 pub mod library;
+pub mod maintenance;
 pub mod networks;
 pub mod plan;
 pub mod questions;

@@ -9,6 +9,10 @@ use oracle::network::{Network, Prefix};
 /// A distance that no path has. It is far above every real sum.
 const FAR: u64 = u64::MAX / 4;
 
+/// The cost of a link under maintenance. Walks go over it; no repair starts
+/// over it.
+const MAINTENANCE: u64 = 65_535;
+
 /// A network with the costs and distances that the rules speak of.
 pub struct Rules<'a> {
     network: &'a Network,
@@ -39,6 +43,8 @@ pub struct Met {
     pub delivered_by_choice: usize,
     /// Routers that might have delivered, and stepped on.
     pub stepped_by_choice: usize,
+    /// Hops over a link under maintenance.
+    pub maintained: usize,
 }
 
 impl<'a> Rules<'a> {
@@ -92,10 +98,19 @@ impl<'a> Rules<'a> {
         if route.len() < 2 || route[0] != s || route[1] != n || n == e {
             return Err(format!("the route does not start with S {s} and the first hop {n}"));
         }
+        if self.maintained(s, n) {
+            return Err(format!("the first hop {n} is under maintenance"));
+        }
         let mut walk = Walk { rules: self, route: &route, at: 1, used: 0, met: Met::default() };
         walk.tunnel(y, asking.choices)?;
         walk.deliver(&self.network.prefixes[asking.prefix], asking.choices)?;
-        Ok(Met { hops: route.len() - 1, ..walk.met })
+        let maintained = route.windows(2).filter(|hop| self.maintained(hop[0], hop[1])).count();
+        Ok(Met { hops: route.len() - 1, maintained, ..walk.met })
+    }
+
+    /// Whether the hop from x to z is under maintenance.
+    fn maintained(&self, x: usize, z: usize) -> bool {
+        self.cost[x][z] == Some(MAINTENANCE)
     }
 
     /// Every hop is over a link, and none over the link that dropped; a route

@@ -7,6 +7,7 @@ use differential::library::Library;
 use differential::networks::{Size, of_family};
 use differential::routes::{Asking, Rules};
 use oracle::generate::Family;
+use oracle::network::Network;
 use oracle::worked::{grid, ring};
 
 /// Routers and prefixes enough for choices on most routes.
@@ -68,6 +69,27 @@ fn a_tunnel_that_misses_its_endpoint_is_noticed() {
     assert!(rules.follow(&asking((5, 3), &[]), &[0, 5, 4]).is_err());
     assert!(rules.follow(&asking((5, 3), &[]), &[0, 5, 4, 3, 3, 2, 1]).is_err());
     assert!(rules.follow(&asking((5, 2), &[]), &[0, 5, 4, 3]).is_err());
+}
+
+#[test]
+fn a_first_hop_under_maintenance_is_noticed() {
+    // Ring 4 with its prefix at 1: from 0 by 3 to the endpoint 2, and on to 1.
+    let with_costs = |to_3: u16, from_2: u16| {
+        let mut network = ring(4).prefix(&[(1, 0)]);
+        network.links[3].back = to_3;
+        network.links[1].back = from_2;
+        network
+    };
+    let followed = |network: &Network| {
+        Rules::of(network).follow(&asking((3, 2), &[]), &[0, 3, 2, 1]).map(|met| met.maintained)
+    };
+    assert_eq!(followed(&with_costs(65_534, 1)), Ok(0));
+    let wrong = followed(&with_costs(65_535, 1)).expect_err("it starts over link 3");
+    assert_eq!(wrong, "the first hop 3 is under maintenance");
+    // A later hop may be at that cost, here from 2 to 1: the way round costs more.
+    let mut network = with_costs(1, 65_535);
+    network.links[3].forth = 65_535;
+    assert_eq!(followed(&network), Ok(1));
 }
 
 #[test]

@@ -26,6 +26,7 @@ listed! {
         PrefixNumber: "a question's prefix is below their count",
         LinkEntry: "the number of a link entry is below L",
         PrefixEntry: "the number of a prefix entry is below the count of prefixes",
+        FirstHopCost: "the cost from S to a first hop is below 65,535",
     }
 }
 
@@ -123,6 +124,14 @@ faults! {
     SizeOfComplement: "the size counts the zeros of a set",
     SizeOf32Bits: "the size counts the lower 32 bits only",
 
+    // Links under maintenance. A limit one too generous leaves nothing out, as
+    // it was before; one too strict leaves out 65,534 too.
+    MaintenanceTowardsS: "a first hop is left out by the cost from it to S",
+    MaintenanceNotWalked: "no walk steps over a link at a cost of 65,535",
+    MaintenanceNotThere: "a hop of cost 65,535 is in no path and in no walk",
+    ExtendedPOfEveryNeighbour: "extended P takes in what a neighbour at 65,535 avoids to",
+    PairsOfEveryNeighbour: "pairs have neighbours at 65,535 as first hops; extended P has not",
+
     // Repairs.
     ClassNotStrict: "the class test is D(y,t) <= D(S,t)",
     ClassWithoutTunnel: "the class does not add 2 for a tunnel",
@@ -158,6 +167,20 @@ faults! {
 }
 
 impl Fault {
+    /// No first hop is left out, as it was before there was maintenance.
+    pub const NOTHING_LEFT_OUT: Fault = Fault::LimitLoose(Limit::FirstHopCost);
+
+    /// The ways to take links under maintenance wrongly.
+    pub const OF_MAINTENANCE: [Fault; 7] = [
+        Fault::NOTHING_LEFT_OUT,
+        Fault::LimitTight(Limit::FirstHopCost),
+        Fault::MaintenanceTowardsS,
+        Fault::MaintenanceNotWalked,
+        Fault::MaintenanceNotThere,
+        Fault::ExtendedPOfEveryNeighbour,
+        Fault::PairsOfEveryNeighbour,
+    ];
+
     /// Every fault.
     pub fn all() -> Vec<Fault> {
         let mut all = Fault::PLAIN.to_vec();

@@ -21,6 +21,7 @@ listed! {
         Asymmetric: "costs that differ by direction",
         HighCost: "costs at or just below 65,535",
         Anything: "any number of links up to the most, any costs",
+        Maintenance: "many costs of 65,535 and 65,534, in one direction and in both",
     }
 }
 
@@ -31,6 +32,9 @@ enum Costs {
     Same(usize, usize),
     /// Each direction drawn by itself.
     Apart(usize, usize),
+    /// The same, and then about every other link at 65,535 or 65,534 in one
+    /// direction or in both.
+    Maintenance(usize, usize),
 }
 
 /// A random network of a family with at most so many routers and with 0 to 4
@@ -58,8 +62,32 @@ fn linked(family: Family, routers: usize, random: &mut Random) -> Network {
     let costs = costs(family, random);
     let mut network = Network::of_routers(small(routers));
     network.links = pairs.iter().map(|pair| link(*pair, costs, random)).collect();
+    if family == Family::Maintenance {
+        for _ in 0..random.between(1, 2) {
+            maintain(&mut network, random);
+        }
+    }
     random.shuffle(&mut network.links);
     network
+}
+
+/// Puts most links of one router under maintenance: from it, to it, or both.
+fn maintain(network: &mut Network, random: &mut Random) {
+    let router = random.below(usize::from(network.routers)) as u8;
+    let (leaving, arriving) =
+        random.pick(&[(true, false), (true, false), (false, true), (true, true)]);
+    for link in network.links.iter_mut().filter(|link| router == link.a || router == link.b) {
+        let (forth, back) =
+            if router == link.a { (leaving, arriving) } else { (arriving, leaving) };
+        let cost = random.pick(&[65_535, 65_535, 65_535, 65_534]);
+        let most = !random.one_in(4);
+        if forth && most {
+            link.forth = cost;
+        }
+        if back && most {
+            link.back = cost;
+        }
+    }
 }
 
 /// Adds the prefixes, then gives the routers other numbers.
@@ -119,6 +147,10 @@ fn pairs(family: Family, routers: usize, random: &mut Random) -> Vec<(usize, usi
             without_repeats(pairs.into_iter())
         }
         Family::Anything => some_pairs(routers, random.between(0, MOST_LINKS), random),
+        Family::Maintenance => {
+            let shapes = [Family::Sparse, Family::Dense, Family::RingWithChords, Family::Grid];
+            pairs(random.pick(&shapes), routers, random)
+        }
     }
 }
 
@@ -150,8 +182,13 @@ fn costs(family: Family, random: &mut Random) -> Costs {
     match family {
         Family::Ties => Costs::Same(1, 1),
         Family::Asymmetric => random.pick(&[Costs::Apart(1, 4), Costs::Apart(1, 65_535)]),
-        Family::HighCost => {
-            random.pick(&[Costs::Same(65_535, 65_535), Costs::Apart(65_533, 65_535)])
+        Family::HighCost => random.pick(&[
+            Costs::Same(65_535, 65_535),
+            Costs::Same(65_534, 65_534),
+            Costs::Apart(65_533, 65_535),
+        ]),
+        Family::Maintenance => {
+            random.pick(&[Costs::Maintenance(1, 3), Costs::Maintenance(65_533, 65_535)])
         }
         _ => random.pick(&[
             Costs::Same(1, 1),
@@ -174,6 +211,17 @@ fn link((mut a, mut b): (usize, usize), costs: Costs, random: &mut Random) -> Li
             (cost, cost)
         }
         Costs::Apart(least, most) => (random.between(least, most), random.between(least, most)),
+        Costs::Maintenance(least, most) => {
+            let (forth, back) = (random.between(least, most), random.between(least, most));
+            let high = random.pick(&[65_535, 65_534]);
+            match random.below(8) {
+                0 => (high, back),
+                1 => (forth, high),
+                2 => (high, high),
+                3 => (65_535, 65_534),
+                _ => (forth, back),
+            }
+        }
     };
     Link { a: small(a), b: small(b), forth: small(forth), back: small(back) }
 }

@@ -90,6 +90,10 @@ impl LinkEnd {
     }
 }
 
+/// The cost that says that a link is under maintenance in one direction. Walks
+/// may use the link as before, but no repair starts over it.
+pub const MAINTENANCE: u32 = 65_535;
+
 /// A hop: over one link, in one direction.
 #[derive(Clone, Copy, Debug, PartialEq, Eq)]
 pub struct Hop {
@@ -140,6 +144,9 @@ impl Hops {
             }
             leaving[a].push(Hop { from: a, to: b, cost: forth, number: hop_number(link, true) });
             leaving[b].push(Hop { from: b, to: a, cost: back, number: hop_number(link, false) });
+        }
+        if ctx.has(Fault::MaintenanceNotThere) {
+            leaving.iter_mut().for_each(|hops| hops.retain(|hop| hop.cost != MAINTENANCE));
         }
         for hops in &mut leaving {
             hops.sort_by_key(|hop| hop.to);

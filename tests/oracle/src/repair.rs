@@ -4,14 +4,14 @@
 use crate::distance::plus;
 use crate::fault::Fault;
 use crate::network::LinkEnd;
-use crate::space::{first_hops, q_target};
+use crate::space::{first_hops_unless, q_target};
 use crate::walk::Walks;
 use crate::workings::Workings;
 
 /// A pair with what its answer holds.
 #[derive(Clone, Copy, Debug, PartialEq, Eq)]
 pub struct Pair {
-    /// n, a neighbour of S, not E.
+    /// n, a neighbour of S, not E, to which the cost from S is below 65,535.
     pub first_hop: usize,
     /// y, a router, neither S nor E.
     pub endpoint: usize,
@@ -91,8 +91,8 @@ fn pairs(workings: &Workings, link_end: &LinkEnd) -> Vec<(usize, usize)> {
         s_allowed && e_allowed
     };
     let endpoints: Vec<usize> = workings.routers().filter(endpoint).collect();
-    let first_hops = first_hops(workings, link_end).into_iter();
-    first_hops.flat_map(|n| endpoints.iter().map(move |y| (n, *y))).collect()
+    let first_hops = first_hops_unless(Fault::PairsOfEveryNeighbour, workings, link_end);
+    first_hops.into_iter().flat_map(|n| endpoints.iter().map(move |y| (n, *y))).collect()
 }
 
 /// A pair serves a target when n avoids to y and y avoids to the target.

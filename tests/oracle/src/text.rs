@@ -16,7 +16,7 @@
 //! Nothing else is judged here: a network that breaks a limit can be written.
 
 use crate::file::Draft;
-use crate::network::{Attachment, Link, Network, Prefix};
+use crate::network::{Attachment, Link, MAINTENANCE, Network, Prefix};
 use std::fmt::Write;
 use std::str::FromStr;
 
@@ -137,11 +137,12 @@ fn fits<Field: TryFrom<usize>>(number: usize) -> Result<Field, String> {
     Field::try_from(number).map_err(|_| format!("{number} does not fit into {bits} bits"))
 }
 
-/// The text of a network.
+/// The text of a network. A comment says which links are under maintenance.
 pub fn of_network(network: &Network) -> String {
     let mut text = format!("routers {}\n", network.routers);
     for link in &network.links {
-        let _ = writeln!(text, "link {} {} {} {}", link.a, link.b, link.forth, link.back);
+        let Link { a, b, forth, back } = link;
+        let _ = writeln!(text, "link {a} {b} {forth} {back}{}", maintenance(link));
     }
     for prefix in &network.prefixes {
         text.push_str("prefix");
@@ -151,4 +152,15 @@ pub fn of_network(network: &Network) -> String {
         text.push('\n');
     }
     text
+}
+
+/// The comment after a link, if one of its directions is under maintenance.
+fn maintenance(Link { a, b, forth, back }: &Link) -> String {
+    let words = match [forth, back].map(|cost| u32::from(*cost) == MAINTENANCE) {
+        [true, true] => "both ways".to_string(),
+        [true, false] => format!("from {a} to {b}"),
+        [false, true] => format!("from {b} to {a}"),
+        [false, false] => return String::new(),
+    };
+    format!("  # under maintenance {words}")
 }

@@ -7,7 +7,7 @@
 
 use crate::distance::{Distances, UNREACHABLE, plus};
 use crate::fault::{Context, Fault};
-use crate::network::{Hop, Hops, LinkEnd, Prefix};
+use crate::network::{Hop, Hops, LinkEnd, MAINTENANCE, Prefix};
 
 /// What a walk goes towards.
 #[derive(Clone, Copy, Debug)]
@@ -57,10 +57,13 @@ impl Walks {
         // Towards a router a walk ends there; towards a prefix it may step on.
         let steps_on = to_prefix && !ctx.has(Fault::AttachedNeverStepsOn);
         let may_step = |x: usize| !may_end[x] || steps_on;
-        let steps: Vec<Vec<Hop>> = routers
+        let mut steps: Vec<Vec<Hop>> = routers
             .clone()
             .map(|x| if may_step(x) { steps_at(hops, &remaining, x) } else { Vec::new() })
             .collect();
+        if ctx.has(Fault::MaintenanceNotWalked) {
+            steps.iter_mut().for_each(|steps| steps.retain(|hop| hop.cost != MAINTENANCE));
+        }
         let mut walks = Walks { to_prefix, remaining, may_end, steps, taken: Vec::new() };
         walks.taken = routers.map(|x| walks.search(ctx, x, hops.numbers())).collect();
         walks

@@ -1,5 +1,5 @@
-//! The hand-worked networks of document 01, and networks of the source
-//! documents that their text determines.
+//! The hand-worked networks of document 01, networks of the source documents
+//! that their text determines, and networks with links under maintenance.
 
 use crate::network::Network;
 
@@ -94,9 +94,100 @@ pub fn grid(columns: u8, rows: u8) -> Network {
     network
 }
 
+/// Every first hop of router 0 is under maintenance, but no direction to it: for
+/// link 0 and its end 0 there is no pair, for its end 1 there is.
+pub fn maintenance_first_hops() -> Network {
+    Network::of_routers(5)
+        .link(0, 1, 1, 1)
+        .link(0, 2, 65_535, 1)
+        .link(3, 0, 1, 65_535)
+        .link(2, 4, 1, 1)
+        .link(3, 4, 1, 1)
+        .link(4, 1, 1, 1)
+        .prefix(&[(1, 0)])
+}
+
+/// For link 0, end 0, the tunnel from 5 to 3 goes over link 3, which is under
+/// maintenance both ways.
+pub fn maintenance_tunnel() -> Network {
+    Network::of_routers(6)
+        .link(0, 1, 65_534, 65_534)
+        .link(1, 2, 1, 1)
+        .link(2, 3, 1, 1)
+        .link(3, 4, 65_535, 65_535)
+        .link(4, 5, 1, 1)
+        .link(5, 0, 1, 1)
+        .prefix(&[(1, 0)])
+}
+
+/// Link 0 is under maintenance both ways. It is repaired as any other link;
+/// for the other links of its two routers it is no first hop.
+pub fn maintenance_protected_link() -> Network {
+    Network::of_routers(4)
+        .link(0, 1, 65_535, 65_535)
+        .link(1, 2, 30_000, 30_000)
+        .link(2, 3, 30_000, 30_000)
+        .link(3, 0, 30_000, 30_000)
+        .prefix(&[(1, 0)])
+}
+
+/// For link 0, end 0, routers 3 and 4 are in extended P by way of 3 alone, to
+/// which the direction from 0 is under maintenance. P and Q do not ask for it.
+pub fn maintenance_extended_p() -> Network {
+    Network::of_routers(6)
+        .link(0, 1, 1, 1)
+        .link(0, 2, 1, 1)
+        .link(0, 3, 65_535, 1)
+        .link(3, 4, 1, 1)
+        .link(4, 1, 1, 1)
+        .link(2, 5, 2, 2)
+        .link(5, 1, 2, 2)
+        .prefix(&[(4, 0)])
+}
+
+/// Costs of 65,535 and 65,534 in every mixture of the two directions.
+pub fn maintenance_costs() -> Network {
+    Network::of_routers(7)
+        .link(0, 1, 65_535, 65_534)
+        .link(1, 2, 65_534, 65_535)
+        .link(2, 3, 65_535, 65_535)
+        .link(3, 4, 65_534, 65_534)
+        .link(4, 5, 65_535, 1)
+        .link(5, 0, 65_534, 1)
+        .link(1, 4, 1, 65_535)
+        .link(2, 5, 1, 65_534)
+        .link(6, 0, 65_534, 65_535)
+        .link(6, 2, 65_535, 65_534)
+        .link(6, 4, 1, 1)
+        .prefix(&[(3, 0)])
+        .prefix(&[(1, 65_535), (4, 65_534)])
+}
+
+/// Ring 6 with another cost, that of every link and of all attachments but one.
+pub fn ring_6_of_cost(cost: u16) -> Network {
+    let mut network = ring(6).prefix(&[(1, cost)]).prefix(&[(2, cost), (3, cost), (4, 0)]);
+    for link in &mut network.links {
+        (link.forth, link.back) = (cost, cost);
+    }
+    network
+}
+
+/// The networks with links under maintenance, with their names.
+pub fn maintenance() -> Vec<(&'static str, Network)> {
+    vec![
+        ("maintenance, first hops", maintenance_first_hops()),
+        ("maintenance, tunnel", maintenance_tunnel()),
+        ("maintenance, protected link", maintenance_protected_link()),
+        ("maintenance, extended P", maintenance_extended_p()),
+        ("maintenance, costs", maintenance_costs()),
+        ("ring 6 of costs 65,534", ring_6_of_cost(65_534)),
+        ("ring 6 of costs 65,535", ring_6_of_cost(65_535)),
+    ]
+}
+
 /// All of them with their names.
 pub fn all() -> Vec<(&'static str, Network)> {
-    vec![
+    let mut all = vec![
         ("lone router", lone_router()),
         ("two routers", two_routers()),
         ("ring 3", ring(3)),
@@ -111,5 +202,7 @@ pub fn all() -> Vec<(&'static str, Network)> {
         ("topology 1", topology_1()),
         ("topology 2", topology_2()),
         ("grid 3 by 3 with prefix", grid(3, 3).prefix(&[(8, 0)]).prefix(&[(2, 2), (5, 1), (8, 0)])),
-    ]
+    ];
+    all.extend(maintenance());
+    all
 }

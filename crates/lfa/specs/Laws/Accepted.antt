@@ -65,8 +65,8 @@ module _ (b : Bytes) (a : Accepted b) where
   pub accepted-distances : LeastCosts (arcs (networkOf b)) (distanceIn (distances (networkOf b)))
   accepted-distances = limits-distances (networkOf b) (limits-links accepted-limits)
 
-  pub accepted-named : (l e : ℕ) → l < length (networkOf b .links) → Named (arcs (networkOf b)) (protected (networkOf b) l e)
-  accepted-named l e h = limits-named (networkOf b) (limits-links accepted-limits) l e h
+  pub accepted-named : (m l e : ℕ) → l < length (networkOf b .links) → Named (arcs (networkOf b)) (protected m (networkOf b) l e)
+  accepted-named m l e h = limits-named (networkOf b) (limits-links accepted-limits) m l e h
 
   pub accepted-capped : (p : ℕ) → p < length (networkOf b .prefixes) → Capped (getD (networkOf b .prefixes) p [])
   accepted-capped p h = record { own = λ m. accepted-limits .prefix-within (getD-in (networkOf b .prefixes) p [] h) .cost-most m }

@@ -8,33 +8,25 @@ use mathlib.Core.List.{List, [], _∷_, _++_}
 use native.Mathlib.Omega.{arith}
 use lib.ListN.{length, drop}
 use Rattle.lfa.specs.Lists.{select}
-use Rattle.lfa.specs.File.{networkOf}
 use Rattle.lfa.specs.Distance.{filled}
 use Rattle.lfa.specs.Repair.{Told, Outcome, prefixUnreachable, prefixUntouched, noneServes, serving}
 use Rattle.lfa.specs.Question.{Question, Call, load, fill, space, linkRepair, prefixRepair, route, networkAsked, linkFound, prefixFound, searched, ifNone}
-use Rattle.lfa.specs.Refusal.{shortArea, shortBuffer, noSuchLink, noSuchPrefix, noPair, leavesRoute, entryOf, earlyRows, questionRows, tries, decided, firstRow, returned, refusalOf, Posed}
+use Rattle.lfa.specs.Refusal.{early, noPair, leavesRoute, entryOf, earlyRows, questionRows, tries, decided, firstRow, returned, refusalOf, Posed}
 use Rattle.lfa.specs.Answer.{refused, repair, refusal, repairAnswer, routeAnswer, routeFor, routePlayed, computed, answerTo, writtenTo, leave, exitBy, exitOf, workAfter, routeAfter}
-use Rattle.lfa.specs.Laws.Rows.{NoneApply, nothing, also, passed-over}
+use Rattle.lfa.specs.Laws.Rows.{nothing, also, none-apply, passed-over}
 use Rattle.lfa.specs.Laws.FileRows.{loaded-rows, accepted-passes-rows}
 use Rattle.lfa.specs.Laws.Answers.{searches}
-use Rattle.lfa.specs.Laws.Passed.{area-passes, buffer-passes, link-passes, prefix-passes}
-use Rattle.lfa.specs.Laws.Accepted.{link-count, prefix-count}
+use Rattle.lfa.specs.Laws.Causes.{returns-none}
+use Rattle.lfa.specs.Laws.PosedWhen.{posed-passes}
 
 -- ---- the rows
 
-module _ (q : Question) (p : Posed q) where
-  none-before : NoneApply (returned q) (tries (q .call)) (shortArea ∷ shortBuffer ∷ noSuchLink ∷ noSuchPrefix ∷ [])
-  unfolding networkAsked networkOf
-  none-before =
-      also (area-passes q (λ h. p .area h))
-      (also (buffer-passes q (λ h. p .buffer h))
-      (also (link-passes q (λ h. (rw (link-count (q .file) (p .file)) at (p .link h), p .end h)))
-      (also (prefix-passes q (λ h. rw (prefix-count (q .file) (p .file)) at (p .prefix h))) nothing)))
-
-  -- only row 14 is left
-  only-last : refusalOf q ≡ firstRow (returned q) (select (tries (q .call)) (noPair ∷ []))
-  unfolding questionRows earlyRows
-  only-last = loaded-rows q (accepted-passes-rows (q .file) (p .file)) ∙ passed-over (returned q) (tries (q .call)) (noPair ∷ []) none-before
+-- only row 14 is left
+only-last : (q : Question) → Posed q → refusalOf q ≡ firstRow (returned q) (select (tries (q .call)) (noPair ∷ []))
+unfolding questionRows
+only-last q p =
+    loaded-rows q (accepted-passes-rows (q .file) (p .file))
+    ∙ passed-over (returned q) (tries (q .call)) (noPair ∷ []) (none-apply (returned q) (tries (q .call)) early earlyRows (λ r m t. returns-none q (early r) (λ v. posed-passes q p r v t)))
 
 -- the row applies exactly where the search finds no pair
 pub data Searched (q : Question) : Type 0 where

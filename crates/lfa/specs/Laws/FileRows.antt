@@ -11,7 +11,7 @@ use native.Mathlib.Omega.{arith}
 use Rattle.lfa.specs.Lists.{select, anyOf, memberOf}
 use Rattle.lfa.specs.File.{Bytes, byteAt, blocksIn, blocksNeeded, linksOf, prefixesOf, checkGood, blockGood, linkGood, linkNew, prefixGood, routersNew}
 use Rattle.lfa.specs.Question.{Question, Call, load, fill, space, linkRepair, prefixRepair, route, aFile, inputsOf, inputNumber, hasInput, loading}
-use Rattle.lfa.specs.Refusal.{FileApplies, FileRow, badLength, badCheck, badHead, badBlockCount, badBlock, badLink, parallelLink, badPrefix, routerTwice, fileReturned, fileRows, Row, ofFile, shortArea, shortBuffer, noSuchLink, noSuchPrefix, noPair, returned, entryOf, questionRows, allRows, tries, rowsTried, Decided, decided, firstRow, inFile, orLater, earlyRows, fileRefusal, refusalOf, Accepted}
+use Rattle.lfa.specs.Refusal.{FileApplies, FileRow, badLength, badCheck, badHead, badBlockCount, badBlock, badLink, parallelLink, badPrefix, routerTwice, fileReturned, fileRows, EarlyRow, shortArea, shortBuffer, noSuchLink, noSuchPrefix, Row, ofFile, early, noPair, returned, entryOf, questionRows, allRows, tries, rowsTried, Decided, decided, firstRow, inFile, orLater, earlyRows, fileRefusal, refusalOf, Accepted}
 use Rattle.lfa.specs.Laws.List.{select-gives, select-make}
 use Rattle.lfa.specs.Laws.FirstFailing.{none-failing, all-passing, unless-none, unless-good}
 use Rattle.lfa.specs.Laws.File.Passes.{AreBytes, Passes}
@@ -88,26 +88,29 @@ file-row-listed parallelLink = search (first-listed, List·Memᴰ·tail) depth 1
 file-row-listed badPrefix = search (first-listed, List·Memᴰ·tail) depth 12
 file-row-listed routerTwice = search (first-listed, List·Memᴰ·tail) depth 12
 
-of-file-listed : (r : FileRow) (rows : List FileRow) → List·Memᴰ r rows → List·Memᴰ (ofFile r) (map ofFile rows)
-of-file-listed r [] m = absurd (List·Memᴰ·not-nil m)
-of-file-listed r (s ∷ rows) m = go (of-file-listed r rows) (List·Memᴰ·cases-cons m)
+early-row-listed : (r : EarlyRow) → List·Memᴰ r earlyRows
+unfolding earlyRows
+early-row-listed shortArea = search (first-listed, List·Memᴰ·tail) depth 8
+early-row-listed shortBuffer = search (first-listed, List·Memᴰ·tail) depth 8
+early-row-listed noSuchLink = search (first-listed, List·Memᴰ·tail) depth 8
+early-row-listed noSuchPrefix = search (first-listed, List·Memᴰ·tail) depth 8
+
+listed-as : {R S : Type 0} (f : R → S) (r : R) (rows : List R) → List·Memᴰ r rows → List·Memᴰ (f r) (map f rows)
+listed-as f r [] m = absurd (List·Memᴰ·not-nil m)
+listed-as f r (s ∷ rows) m = go (listed-as f r rows) (List·Memᴰ·cases-cons m)
   where
-    go : (List·Memᴰ r rows → List·Memᴰ (ofFile r) (map ofFile rows)) → (r ≡ s) ⊎ List·Memᴰ r rows → List·Memᴰ (ofFile r) (map ofFile (s ∷ rows))
-    go rest (inl e) = List·Memᴰ·head (ap ofFile e)
+    go : (List·Memᴰ r rows → List·Memᴰ (f r) (map f rows)) → (r ≡ s) ⊎ List·Memᴰ r rows → List·Memᴰ (f r) (map f (s ∷ rows))
+    go rest (inl e) = List·Memᴰ·head (ap f e)
     go rest (inr m) = List·Memᴰ·tail (rest m)
 
-in-questions : {r : Row} → List·Memᴰ r questionRows → List·Memᴰ r allRows
-unfolding allRows
-in-questions m = Memᴰ·append-right (map ofFile fileRows) m
+pub early-listed : (r : EarlyRow) → List·Memᴰ (early r) (map early earlyRows)
+early-listed r = listed-as early r earlyRows (early-row-listed r)
 
 row-listed : (r : Row) → List·Memᴰ r allRows
-unfolding allRows questionRows earlyRows
-row-listed (ofFile r) = Memᴰ·append-left questionRows (of-file-listed r fileRows (file-row-listed r))
-row-listed shortArea = in-questions (search (first-listed, List·Memᴰ·tail) depth 8)
-row-listed shortBuffer = in-questions (search (first-listed, List·Memᴰ·tail) depth 8)
-row-listed noSuchLink = in-questions (search (first-listed, List·Memᴰ·tail) depth 8)
-row-listed noSuchPrefix = in-questions (search (first-listed, List·Memᴰ·tail) depth 8)
-row-listed noPair = in-questions (search (first-listed, List·Memᴰ·tail) depth 8)
+unfolding allRows questionRows
+row-listed (ofFile r) = Memᴰ·append-left questionRows (listed-as ofFile r fileRows (file-row-listed r))
+row-listed (early r) = Memᴰ·append-right (map ofFile fileRows) (Memᴰ·append-left (noPair ∷ []) (early-listed r))
+row-listed noPair = Memᴰ·append-right (map ofFile fileRows) (Memᴰ·append-right (map early earlyRows) first-listed)
 
 -- A call tries just the rows that it has inputs for: no row is left out of the list from which they are selected.
 pub tried-rows : (c : Call) (r : Row) → List·Memᴰ r (rowsTried c) ↔ (hasInput c (entryOf r .input) ≡ true)

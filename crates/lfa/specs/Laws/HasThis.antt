@@ -35,11 +35,11 @@ module _ (q : Question) (p : Posed q) where
 
   pub named : HasInput q aLink → Named (Hops q) (linkAsked q)
   unfolding networkAsked linkAsked
-  named h = accepted-named (q .file) (p .file) (q .link) (q .end) (p .link h)
+  named h = accepted-named (q .file) (p .file) (q .maintenance) (q .link) (q .end) (p .link h)
 
   pub number-is : linkAsked q .number ≡ q .link
   unfolding linkAsked
-  number-is = protected-number (networkAsked q) (q .link) (q .end)
+  number-is = protected-number (q .maintenance) (networkAsked q) (q .link) (q .end)
 
 -- ---- to serve is to have this
 

@@ -54,11 +54,11 @@ arcs-have i (link a′ b′ ab′ ba′ ∷ links) (suc j) a b ab ba h e =
     (List·Memᴰ·tail (List·Memᴰ·tail (Memᴰ·cast (ap (arc a b ab) s) (r .0))), List·Memᴰ·tail (List·Memᴰ·tail (Memᴰ·cast (ap (arc b a ba) s) (r .1))))
 
 -- a protected link keeps its number
-pub protected-number : (net : Network) (l e : ℕ) → protected net l e .number ≡ l
+pub protected-number : (m : ℕ) (net : Network) (l e : ℕ) → protected m net l e .number ≡ l
 unfolding protected protectedBy
-protected-number net l e = go e (getD (net .links) l (link 0 0 0 0))
+protected-number m net l e = go e (getD (net .links) l (link 0 0 0 0))
   where
-    go : (e : ℕ) (k : Link) → protectedBy l e k .number ≡ l
+    go : (e : ℕ) (k : Link) → protectedBy m l e k .number ≡ l
     go zero (link a b ab ba) = refl
     go (suc e) (link a b ab ba) = refl
 
@@ -111,9 +111,9 @@ module _ (net : Network) {height : ℕ → ℕ} (sound : LinksSound net height) 
   limits-distances = distances-least (net .routers) (arcs net) (limits-sound .within)
 
   -- a link below L, seen from either end
-  pub limits-named : (l e : ℕ) → l < length (net .links) → Named (arcs net) (protected net l e)
+  pub limits-named : (m l e : ℕ) → l < length (net .links) → Named (arcs net) (protected m net l e)
   unfolding arcs protected protectedBy
-  limits-named l e h = go e (getD (net .links) l (link 0 0 0 0)) refl
+  limits-named m l e h = go e (getD (net .links) l (link 0 0 0 0)) refl
     where
       only : (lk : Link) → getD (net .links) l (link 0 0 0 0) ≡ lk → (u v c : ℕ) → List·Memᴰ (arc u v c l) (arcsFrom 0 (net .links)) → Direction lk u v c
       only lk p u v c m =
@@ -121,7 +121,7 @@ module _ (net : Network) {height : ℕ → ℕ} (sound : LinksSound net height) 
           let j : r .0 ≡ l = omega (arith, r .1) in
           subst (λ k. Direction k u v c) (ap (λ i. getD (net .links) i (link 0 0 0 0)) j ∙ p) (r .4)
 
-      go : (e : ℕ) (lk : Link) → getD (net .links) l (link 0 0 0 0) ≡ lk → Named (arcsFrom 0 (net .links)) (protectedBy l e lk)
+      go : (e : ℕ) (lk : Link) → getD (net .links) l (link 0 0 0 0) ≡ lk → Named (arcsFrom 0 (net .links)) (protectedBy m l e lk)
       go zero (link a b ab ba) p =
           let r = arcs-have 0 (net .links) l a b ab ba h p in
           record { outward = rw zero-add at (r .0); backward = rw zero-add at (r .1); only = λ {u} {v} {c} m. only (link a b ab ba) p u v c m }

@@ -7,7 +7,7 @@ use mathlib.Core.Bool.{true, false}
 use mathlib.Core.Option.{Option, none, some}
 use mathlib.Core.List.{List, List·Memᴰ, Memᴰ·cast}
 use lib.Dec.{eqb}
-use borrow.Author.Tests.{eqb-true, eq-eqb, eqb-false, ne-eqb, not-true}
+use borrow.Author.Tests.{ltb-true, lt-ltb, eqb-true, eq-eqb, eqb-false, ne-eqb, not-true}
 use Rattle.lfa.specs.Lists.{below, select}
 use Rattle.lfa.specs.Network.{Arc, arc, Target, router}
 use Rattle.lfa.specs.Space.{Protected, FirstHop, IsFirstHop, isFirst, hopOver, firstHops}
@@ -20,11 +20,11 @@ use Rattle.lfa.specs.Laws.Order.{Chosen, chosen, key-first}
 
 -- ---- first hops
 
-first-facts : (q : Protected) (x z c l : ℕ) → isFirst q (arc x z c l) ≡ true → (x ≡ q .near) × (eqb z (q .far) ≡ false)
+first-facts : (q : Protected) (x z c l : ℕ) → isFirst q (arc x z c l) ≡ true → (x ≡ q .near) × (eqb z (q .far) ≡ false) × (c < q .maintenance)
 unfolding isFirst
-first-facts q x z c l e = search (eqb-true, not-true, and-left, and-right)
+first-facts q x z c l e = (search (eqb-true, and-left), search (not-true, and-left, and-right), search (ltb-true, and-right))
 
--- the first hops are the neighbours of S other than E, each with the link that leads there and its cost
+-- the first hops are the neighbours of S other than E over links not under maintenance, each with that link and its cost
 pub firsts-give : (q : Protected) (hops : List Arc) (f : FirstHop) → List·Memᴰ f (firstHops q hops) → IsFirstHop hops q f
 unfolding firstHops hopOver
 firsts-give q hops f m =
@@ -36,11 +36,11 @@ firsts-give q hops f m =
     go (arc x z b k) j t =
         let g = first-facts q x z b k t in
         let x-is : x ≡ q .near = g .0 in
-        record { joined = Memᴰ·cast (rw x-is) j; not-far = eqb-false z (q .far) (g .1) }
+        record { joined = Memᴰ·cast (rw x-is) j; not-far = eqb-false z (q .far) (g .1); in-service = g .2 }
 
 pub firsts-make : (q : Protected) (hops : List Arc) (f : FirstHop) → IsFirstHop hops q f → List·Memᴰ f (firstHops q hops)
 unfolding firstHops hopOver isFirst
-firsts-make q hops f is = map-make hopOver (select-make (isFirst q) (is .joined) (rw (eq-eqb (q .near) (q .near) refl, ne-eqb (f .router) (q .far) (is .not-far), isFirst)))
+firsts-make q hops f is = map-make hopOver (select-make (isFirst q) (is .joined) (rw (eq-eqb (q .near) (q .near) refl, ne-eqb (f .router) (q .far) (is .not-far), lt-ltb (f .cost) (q .maintenance) (is .in-service), isFirst)))
 
 -- ---- pairs
 

@@ -9,10 +9,10 @@ use native.Mathlib.Omega.{arith}
 use lib.Dec.{leb}
 use borrow.Author.Tests.{leb-true, leb-false}
 use Rattle.lfa.specs.File.{byteAt, linksOf, networkOf}
-use Rattle.lfa.specs.Question.{Question, HasInput, networkAsked}
-use Rattle.lfa.specs.Refusal.{Row, ofFile, shortArea, shortBuffer, noSuchLink, noSuchPrefix, noPair, Applies, entryOf, rowsTried, Accepted, Posed}
+use Rattle.lfa.specs.Question.{Question, networkAsked}
+use Rattle.lfa.specs.Refusal.{EarlyRow, shortArea, shortBuffer, noSuchLink, noSuchPrefix, EarlyApplies, Row, ofFile, early, noPair, Applies, entryOf, tries, triesEarly, rowsTried, Accepted, Posed}
 use Rattle.lfa.specs.Laws.Test.{decide}
-use Rattle.lfa.specs.Laws.FileRows.{has-file, tried-rows}
+use Rattle.lfa.specs.Laws.FileRows.{tries-file, tried-rows}
 use Rattle.lfa.specs.Laws.Accepted.{link-count, prefix-count}
 
 -- a number is at most another unless it is greater
@@ -23,45 +23,57 @@ at-most a b h = go (decide (leb a b))
     go (inl t) = leb-true a b t
     go (inr t) = absurd (h (leb-false a b t))
 
--- no row before 14 that the call tries applies
-abbrev NoEarlyRow : Question → Type 0
-NoEarlyRow q = (r : Row) (v : ℕ) → List·Memᴰ r (rowsTried (q .call)) → (r ≡ noPair → ⊥) → Applies q r v → ⊥
+-- ---- row by row: the only place where the fields are taken apart or put together
 
-posed-passes : (q : Question) → Posed q → NoEarlyRow q
-unfolding entryOf networkAsked networkOf
-posed-passes q p (ofFile r) v m n a = p .file .none-applies r v a
-posed-passes q p shortArea v m n a = let h = p .area (tried-rows (q .call) shortArea .0 m) in omega (arith, a .0)
-posed-passes q p shortBuffer v m n a = let h = p .buffer (tried-rows (q .call) shortBuffer .0 m) in omega (arith, a .0)
-posed-passes q p noSuchLink v m n a = go (a .0)
+-- no early row that the call tries applies
+abbrev pub NoEarlyRow : Question → Type 0
+NoEarlyRow q = (r : EarlyRow) (v : ℕ) → triesEarly (q .call) r ≡ true → EarlyApplies q r v → ⊥
+
+pub posed-passes : (q : Question) → Posed q → NoEarlyRow q
+unfolding tries entryOf networkAsked networkOf
+posed-passes q p shortArea v t a = let h = p .area t in omega (arith, a .0)
+posed-passes q p shortBuffer v t a = let h = p .buffer t in omega (arith, a .0)
+posed-passes q p noSuchLink v t a = go (a .0)
   where
-    there : HasInput q (entryOf noSuchLink .input)
-    there = tried-rows (q .call) noSuchLink .0 m
-
     go : (linksOf (q .file) ≤ q .link) ⊎ (1 < q .end) → ⊥
-    go (inl h) = omega (arith, p .link there, link-count (q .file) (p .file))
-    go (inr h) = omega (arith, p .end there)
-posed-passes q p noSuchPrefix v m n a = omega (arith, a .0, p .prefix (tried-rows (q .call) noSuchPrefix .0 m), prefix-count (q .file) (p .file))
-posed-passes q p noPair v m n a = n refl
+    go (inl h) = omega (arith, p .link t, link-count (q .file) (p .file))
+    go (inr h) = omega (arith, p .end t)
+posed-passes q p noSuchPrefix v t a = omega (arith, a .0, p .prefix t, prefix-count (q .file) (p .file))
 
-module _ (q : Question) (bytes : (i : ℕ) → byteAt (q .file) i < 256) (h : NoEarlyRow q) where
-  accepted : Accepted (q .file)
-  unfolding entryOf
-  accepted = record { bytes = bytes; none-applies = λ r v a. h (ofFile r) v (tried-rows (q .call) (ofFile r) .1 (has-file (q .call))) (λ e. absurd (let z : _≡_ {A = ℕ} 0 1 = cc in omega arith)) a }
+pub passes-posed : (q : Question) → Accepted (q .file) → NoEarlyRow q → Posed q
+unfolding tries entryOf networkAsked networkOf
+passes-posed q accepted passes = record {
+  file = accepted;
+  area = λ t. at-most _ _ (λ s. passes shortArea _ t (s, refl));
+  buffer = λ t. at-most _ _ (λ s. passes shortBuffer _ t (s, refl));
+  link = λ t. rw (link-count (q .file) accepted) (at-most _ _ (λ s. passes noSuchLink _ t (inl (omega (arith, s)), refl)));
+  end = λ t. at-most _ _ (λ s. passes noSuchLink _ t (inr s, refl));
+  prefix = λ t. rw (prefix-count (q .file) accepted) (at-most _ _ (λ s. passes noSuchPrefix _ t (omega (arith, s), refl)));
+}
 
-  -- a row whose input the call has does not apply
-  passes : (r : Row) (v : ℕ) → (r ≡ noPair → ⊥) → HasInput q (entryOf r .input) → Applies q r v → ⊥
-  passes r v n i a = h r v (tried-rows (q .call) r .1 i) n a
+-- ---- all rows before 14
 
-  passes-posed : Posed q
-  unfolding entryOf networkAsked networkOf
-  passes-posed = record {
-    file = accepted;
-    area = λ i. at-most _ _ (λ s. passes shortArea _ (λ e. absurd (let z : _≡_ {A = ℕ} 0 1 = cc in omega arith)) i (s, refl));
-    buffer = λ i. at-most _ _ (λ s. passes shortBuffer _ (λ e. absurd (let z : _≡_ {A = ℕ} 0 1 = cc in omega arith)) i (s, refl));
-    link = λ i. rw (link-count (q .file) accepted) (at-most _ _ (λ s. passes noSuchLink _ (λ e. absurd (let z : _≡_ {A = ℕ} 0 1 = cc in omega arith)) i (inl (omega (arith, s)), refl)));
-    end = λ i. at-most _ _ (λ s. passes noSuchLink _ (λ e. absurd (let z : _≡_ {A = ℕ} 0 1 = cc in omega arith)) i (inr s, refl));
-    prefix = λ i. rw (prefix-count (q .file) accepted) (at-most _ _ (λ s. passes noSuchPrefix _ (λ e. absurd (let z : _≡_ {A = ℕ} 0 1 = cc in omega arith)) i (omega (arith, s), refl)));
-  }
+-- no row before 14 that the call tries applies
+abbrev NoRowBefore : Question → Type 0
+NoRowBefore q = (r : Row) (v : ℕ) → List·Memᴰ r (rowsTried (q .call)) → (r ≡ noPair → ⊥) → Applies q r v → ⊥
 
-pub posed-when : (q : Question) → ((i : ℕ) → byteAt (q .file) i < 256) → Posed q ↔ NoEarlyRow q
-posed-when q bytes = (posed-passes q, passes-posed q bytes)
+posed-all : (q : Question) → Posed q → NoRowBefore q
+unfolding tries
+posed-all q p (ofFile r) v m n a = p .file .none-applies r v a
+posed-all q p (early r) v m n a = posed-passes q p r v (tried-rows (q .call) (early r) .0 m) a
+posed-all q p noPair v m n a = n refl
+
+module _ (q : Question) (bytes : (i : ℕ) → byteAt (q .file) i < 256) (h : NoRowBefore q) where
+  -- a row that the call tries does not apply
+  passes : (r : Row) (v : ℕ) → (r ≡ noPair → ⊥) → tries (q .call) r ≡ true → Applies q r v → ⊥
+  unfolding tries
+  passes r v n t a = h r v (tried-rows (q .call) r .1 t) n a
+
+  all-posed : Posed q
+  all-posed =
+      passes-posed q
+      (record { bytes = bytes; none-applies = λ r v. passes (ofFile r) v (λ e. absurd (let z : _≡_ {A = ℕ} 0 1 = cc in omega arith)) (tries-file (q .call) r) })
+      (λ r v. passes (early r) v (λ e. absurd (let z : _≡_ {A = ℕ} 0 1 = cc in omega arith)))
+
+pub posed-when : (q : Question) → ((i : ℕ) → byteAt (q .file) i < 256) → Posed q ↔ NoRowBefore q
+posed-when q bytes = (posed-all q, all-posed q bytes)

@@ -11,10 +11,11 @@ use Rattle.lfa.specs.Network.{router}
 use Rattle.lfa.specs.Space.{Space}
 use Rattle.lfa.specs.Repair.{Serves, Told, Outcome, prefixUnreachable, prefixUntouched, noneServes, serving}
 use Rattle.lfa.specs.Route.{routeOf}
-use Rattle.lfa.specs.Question.{Question, Call, load, fill, space, linkRepair, prefixRepair, route, askPrefix, toPrefixRepair, workArea, routeBuffer, aLink, aPrefix, lent, Input, inputsOf, inputNumber, hasInput, HasInput, networkAsked, linkAsked, prefixAsked, withDistances, linkFound, prefixFound}
-use Rattle.lfa.specs.Refusal.{entryOf, Posed}
+use Rattle.lfa.specs.Question.{Question, Call, load, fill, space, linkRepair, prefixRepair, route, askPrefix, toPrefixRepair, routeBuffer, aLink, aPrefix, lent, Input, inputsOf, inputNumber, hasInput, HasInput, networkAsked, linkAsked, prefixAsked, withDistances, linkFound, prefixFound}
+use Rattle.lfa.specs.Refusal.{EarlyRow, shortArea, shortBuffer, noSuchLink, noSuchPrefix, EarlyApplies, entryOf, tries, triesEarly, Posed}
 use Rattle.lfa.specs.Answer.{refused, Answer, untouched, unreached, repair, repairAnswer, routeAnswer, routeFor, routePlayed, computed, answerTo, routeAfter}
 use Rattle.lfa.specs.Demands.{N, Hops, D, RouteNamed}
+use Rattle.lfa.specs.Laws.PosedWhen.{posed-passes, passes-posed}
 use Rattle.lfa.specs.Laws.Asked.{posed-answer, posed-route, answer-chosen}
 use Rattle.lfa.specs.Laws.Repair.{SearchMeans, PrefixMeans, IsFirstPair, link-means, prefix-means, told-routers}
 use Rattle.lfa.specs.Laws.Route.{route-named, route-once, route-walks}
@@ -116,6 +117,14 @@ pub route-has-prefix : (c : Call) → c ≡ route → hasInput c aPrefix ≡ tru
 unfolding hasInput inputsOf inputNumber memberOf anyOf
 route-has-prefix c e = ap (λ c. hasInput c aPrefix) e
 
+-- an early row that the prefix repair tries is one that the route tries, and looks at the same of the question
+prefix-row : (q : Question) (r : EarlyRow) (v : ℕ) → triesEarly prefixRepair r ≡ true → EarlyApplies (toPrefixRepair q) r v → (triesEarly route r ≡ true) × EarlyApplies q r v
+unfolding toPrefixRepair tries entryOf hasInput inputsOf inputNumber memberOf anyOf
+prefix-row q shortArea v t a = (refl, a)
+prefix-row q shortBuffer v t a = absurd (false≢true t)
+prefix-row q noSuchLink v t a = (refl, a)
+prefix-row q noSuchPrefix v t a = (refl, a)
+
 module _ (q : Question) (p : Posed q) (c : q .call ≡ route) where
   -- where no pair is found, nothing is written
   pub nothing-written : (prefixFound q ≡ prefixUnreachable) ⊎ (prefixFound q ≡ prefixUntouched) → (buffer : List ℕ) → routeAfter q buffer ≡ buffer
@@ -123,16 +132,10 @@ module _ (q : Question) (p : Posed q) (c : q .call ≡ route) where
   nothing-written (inl e) buffer = posed-route q p c buffer ∙ rw e
   nothing-written (inr e) buffer = posed-route q p c buffer ∙ rw e
 
+  -- no early row applies to the prefix repair question, since none applies to the route question
   pub prefix-posed : Posed (toPrefixRepair q)
-  unfolding toPrefixRepair askPrefix networkAsked hasInput inputsOf inputNumber memberOf anyOf
-  prefix-posed = record {
-    file = p .file;
-    area = λ h. p .area (has q p (lent workArea) c refl);
-    buffer = λ h. absurd (false≢true h);
-    link = λ h. p .link (has q p aLink c refl);
-    end = λ h. p .end (has q p aLink c refl);
-    prefix = λ h. p .prefix (has q p aPrefix c refl);
-  }
+  unfolding toPrefixRepair
+  prefix-posed = passes-posed (toPrefixRepair q) (p .file) (λ r v t a. let s = prefix-row q r v t a in posed-passes q p r v (ap (λ c. triesEarly c r) c ∙ s .0) (s .1))
 
   -- the prefix repair tells of the same search
   pub prefix-tells-same : Tells (answerTo (toPrefixRepair q)) (prefixFound q)

@@ -5,7 +5,7 @@ use mathlib.Core.Path.{_≡_, refl, sym, ap, _∙_}
 use mathlib.Core.Logic.{_⊎_, inl, inr}
 use mathlib.Core.Bool.{Bool, true, false}
 use mathlib.Core.Option.{Option, none, some}
-use mathlib.Core.List.{List, [], _∷_, _++_, List·Memᴰ, List·Memᴰ·head, List·Memᴰ·tail, List·Memᴰ·cases-cons, List·Memᴰ·not-nil}
+use mathlib.Core.List.{List, [], _∷_, _++_, map, List·Memᴰ, List·Memᴰ·head, List·Memᴰ·tail, List·Memᴰ·cases-cons, List·Memᴰ·not-nil}
 use native.Mathlib.Omega.{arith}
 use Rattle.lfa.specs.Lists.{select, keepIf}
 use Rattle.lfa.specs.Refusal.{Decided, decided, firstRow}
@@ -78,6 +78,11 @@ module _ {R : Type 0} (value : R → Option ℕ) where
 pub data NoneApply {R : Type 0} (value : R → Option ℕ) (tried : R → Bool) : List R → Type 0 where
   nothing : NoneApply value tried []
   also : {r : R} {rows : List R} → (tried r ≡ true → value r ≡ none) → NoneApply value tried rows → NoneApply value tried (r ∷ rows)
+
+-- said once for all rows of a kind, of those that are listed
+pub none-apply : {R S : Type 0} (value : S → Option ℕ) (tried : S → Bool) (f : R → S) (rows : List R) → ((r : R) → List·Memᴰ r rows → tried (f r) ≡ true → value (f r) ≡ none) → NoneApply value tried (map f rows)
+none-apply value tried f [] h = nothing
+none-apply value tried f (r ∷ rows) h = also (h r (List·Memᴰ·head refl)) (none-apply value tried f rows (λ s m. h s (List·Memᴰ·tail m)))
 
 module _ {R : Type 0} (value : R → Option ℕ) (tried : R → Bool) where
   -- such rows are passed over ..

@@ -3,22 +3,20 @@
 -- Assumes nothing.
 use Prim.Native.Nat.{ℕ, _<_}
 use mathlib.Core.Path.{_≡_, refl, sym, ap, _∙_, subst}
+use mathlib.Core.Bool.{Bool, true, false}
 use mathlib.Core.Option.{Option, none, some}
-use mathlib.Core.List.{List, [], _∷_, List·Memᴰ, List·Memᴰ·head, List·Memᴰ·tail, Memᴰ·append-right}
+use mathlib.Core.List.{List, [], _∷_, _++_, map, map-append, List·Memᴰ}
 use native.Mathlib.Omega.{arith}
-use lib.Dec.{ltb, leb}
-use borrow.Author.Tests.{ltb-true, leb-true}
-use Rattle.lfa.specs.Lists.{select}
-use Rattle.lfa.specs.File.{Bytes, byteAt, linksOf, networkOf}
-use Rattle.lfa.specs.Question.{Question, Buffer, workArea, routeBuffer, HasInput, networkAsked, loading}
-use Rattle.lfa.specs.Refusal.{FileRow, Row, ofFile, shortArea, shortBuffer, noSuchLink, noSuchPrefix, noPair, asLent, leavesAll, entryOf, earlyRows, questionRows, tries, returned, Decided, decided, firstRow, inFile, orLater, earlyRefusal, fileRefusal, refusalOf, Accepted, Posed, sizedReturned}
+use Rattle.lfa.specs.Lists.{select, keepIf}
+use Rattle.lfa.specs.File.{Bytes, byteAt, routersOf, linksOf, prefixesOf}
+use Rattle.lfa.specs.Question.{Question, Buffer, workArea, routeBuffer, loading}
+use Rattle.lfa.specs.Refusal.{FileRow, EarlyRow, EarlyApplies, Row, ofFile, early, noPair, asLent, leavesAll, earlyNumber, entryOf, earlyRows, questionRows, tries, triesEarly, returned, Decided, decided, firstRow, inFile, inEarly, orLater, earlyRefusal, fileRefusal, refusalOf, Posed, sizedReturned}
 use Rattle.lfa.specs.Answer.{Answer, refused, accepted, refusal, earlyAnswer, computed, answerTo, leave, exitBy, exitOf, workAfter, routeAfter}
-use Rattle.lfa.specs.Laws.Test.{and-left, and-right}
-use Rattle.lfa.specs.Laws.List.{select-gives, select-make}
-use Rattle.lfa.specs.Laws.FirstFailing.{unless-none}
-use Rattle.lfa.specs.Laws.Rows.{FirstFound, first-found, none-decides, still-decides}
-use Rattle.lfa.specs.Laws.FileRows.{first-listed, loaded-rows, load-passes, refused-file, load-accepted}
-use Rattle.lfa.specs.Laws.Accepted.{link-count, prefix-count}
+use Rattle.lfa.specs.Laws.List.{select-make}
+use Rattle.lfa.specs.Laws.Rows.{none-decides, none-apply, still-decides, decides-after}
+use Rattle.lfa.specs.Laws.FileRows.{early-listed, loaded-rows, load-passes, refused-file, load-accepted}
+use Rattle.lfa.specs.Laws.Causes.{row-applies, returns-none, never-applies}
+use Rattle.lfa.specs.Laws.PosedWhen.{passes-posed}
 
 -- a question that is turned away with this answer, its buffers left as they were
 pub record TurnedAway (q : Question) (answer : Answer) : Type 0 where
@@ -74,59 +72,63 @@ load-accepts b e = go (fileRefusal b) refl (sym (load-answer b) ∙ e)
 
 -- ---- by a row of the question that is tried before anything is searched for
 
--- each of these leaves all lent bytes
-early-leaves : (r : Row) → List·Memᴰ r earlyRows → LeavesAll r
-unfolding earlyRows entryOf
-early-leaves (ofFile r) m = leaves-all
-early-leaves shortArea m = leaves-all
-early-leaves shortBuffer m = leaves-all
-early-leaves noSuchLink m = leaves-all
-early-leaves noSuchPrefix m = leaves-all
-early-leaves noPair m = absurd (not-one m)
+-- what the early rows return of a question
+abbrev EarlyReturned : Question → EarlyRow → Option ℕ
+EarlyReturned q = sizedReturned (routersOf (q .file)) (linksOf (q .file)) (prefixesOf (q .file)) q
+
+-- among the rows of the table the early rows decide as they do among themselves
+early-decides : (q : Question) (rows : List EarlyRow) → firstRow (returned q) (select (tries (q .call)) (map early rows)) ≡ inEarly (firstRow (EarlyReturned q) (select (triesEarly (q .call)) rows))
+unfolding select firstRow returned inEarly
+early-decides q [] = refl
+early-decides q (r ∷ rows) = go (triesEarly (q .call) r) (early-decides q rows)
   where
-    not-one : List·Memᴰ noPair earlyRows → ⊥
-    not-one (List·Memᴰ·head e) = let z : _≡_ {A = ℕ} 0 1 = cc in omega arith
-    not-one (List·Memᴰ·tail (List·Memᴰ·head e)) = let z : _≡_ {A = ℕ} 0 1 = cc in omega arith
-    not-one (List·Memᴰ·tail (List·Memᴰ·tail (List·Memᴰ·head e))) = let z : _≡_ {A = ℕ} 0 1 = cc in omega arith
-    not-one (List·Memᴰ·tail (List·Memᴰ·tail (List·Memᴰ·tail (List·Memᴰ·head e)))) = let z : _≡_ {A = ℕ} 0 1 = cc in omega arith
+    here : (o : Option ℕ) → firstRow (returned q) (select (tries (q .call)) (map early rows)) ≡ inEarly (firstRow (EarlyReturned q) (select (triesEarly (q .call)) rows)) →
+        _≡_ {A = Option (Decided Row)} (elim o as (λ _. Option (Decided Row)) [ some v ↦ some (decided (early r) v) | none ↦ firstRow (returned q) (select (tries (q .call)) (map early rows)) ])
+        (inEarly (elim o as (λ _. Option (Decided EarlyRow)) [ some v ↦ some (decided r v) | none ↦ firstRow (EarlyReturned q) (select (triesEarly (q .call)) rows) ]))
+    here (some v) e = refl
+    here none e = e
+
+    go : (b : Bool) → firstRow (returned q) (select (tries (q .call)) (map early rows)) ≡ inEarly (firstRow (EarlyReturned q) (select (triesEarly (q .call)) rows)) →
+        firstRow (returned q) (keepIf b (early r) (select (tries (q .call)) (map early rows))) ≡ inEarly (firstRow (EarlyReturned q) (keepIf b r (select (triesEarly (q .call)) rows)))
+    go true e = here (EarlyReturned q r) e
+    go false e = e
 
 -- What is refused early is refused: the row decides among all rows too, and leaves all lent bytes.
 pub early-turned-away : (q : Question) (d : Decided Row) → earlyRefusal q ≡ some d → TurnedAway q (refusal d)
-unfolding earlyRefusal orLater refusal questionRows
-early-turned-away q d e = go (fileRefusal (q .file)) refl d e
+unfolding earlyRefusal orLater inEarly refusal questionRows entryOf
+early-turned-away q d e = go (fileRefusal (q .file)) refl e
   where
-    listed : {r : Row} {v : ℕ} → FirstFound (returned q) (select (tries (q .call)) earlyRows) r v → List·Memᴰ r earlyRows
-    listed {r} f =
-        let m : List·Memᴰ r (select (tries (q .call)) earlyRows) = rw (f .tried) (Memᴰ·append-right (f .before) (List·Memᴰ·head refl)) in
-        select-gives (tries (q .call)) earlyRows m .0
+    by : (o : Option (Decided EarlyRow)) → fileRefusal (q .file) ≡ none → firstRow (returned q) (select (tries (q .call)) (map early earlyRows)) ≡ some d → inEarly o ≡ some d → TurnedAway q (refusal d)
+    by none p e f = absurd (let z : _≡_ {A = ℕ} 0 1 = cc in omega arith)
+    by (some (decided r v)) p e f =
+        let same : decided (early r) v ≡ d = cc in
+        subst (λ (d : Decided Row). TurnedAway q (refusal d)) same
+        (turned-away q (early r) v (loaded-rows q p ∙ still-decides (returned q) (tries (q .call)) (map early earlyRows) (noPair ∷ []) (decided (early r) v) (e ∙ ap some (sym same))) leaves-all)
 
-    go : (o : Option (Decided FileRow)) → fileRefusal (q .file) ≡ o → (d : Decided Row) → orLater o (firstRow (returned q) (select (tries (q .call)) earlyRows)) ≡ some d → TurnedAway q (refusal d)
-    go (some f) p d e = let same : inFile f ≡ d = cc in subst (λ (d : Decided Row). TurnedAway q (refusal d)) same (file-turned-away q f p)
-    go none p (decided r v) e =
-        turned-away q r v (loaded-rows q p ∙ still-decides (returned q) (tries (q .call)) earlyRows (noPair ∷ []) (decided r v) e)
-        (early-leaves r (listed (first-found (returned q) (select (tries (q .call)) earlyRows) r v e)))
+    go : (o : Option (Decided FileRow)) → fileRefusal (q .file) ≡ o → orLater o (firstRow (returned q) (select (tries (q .call)) (map early earlyRows))) ≡ some d → TurnedAway q (refusal d)
+    go (some f) p e = let same : inFile f ≡ d = cc in subst (λ (d : Decided Row). TurnedAway q (refusal d)) same (file-turned-away q f p)
+    go none p e = by (firstRow (EarlyReturned q) (select (triesEarly (q .call)) earlyRows)) p e (sym (early-decides q earlyRows) ∙ e)
+
+-- An early row is the answer where it applies, and no row of the file and no earlier one does.
+pub early-given : (q : Question) (before after : List EarlyRow) (r : EarlyRow) (v : ℕ) → earlyRows ≡ before ++ r ∷ after → fileRefusal (q .file) ≡ none →
+    ((s : EarlyRow) (w : ℕ) → List·Memᴰ s before → triesEarly (q .call) s ≡ true → EarlyApplies q s w → ⊥) → triesEarly (q .call) r ≡ true → EarlyApplies q r v → answerTo q ≡ refused (earlyNumber r) v
+unfolding earlyRefusal orLater refusal entryOf
+early-given q before after r v order loaded passed t a =
+    let none-before = none-apply (returned q) (tries (q .call)) early before (λ s m u. returns-none q (early s) (λ w. passed s w m u)) in
+    let decides : earlyRefusal q ≡ some (decided (early r) v) =
+    rw (loaded, order, map-append early before (r ∷ after)) (decides-after (returned q) (tries (q .call)) (map early after) (early r) v none-before t (row-applies q (early r) v .1 a)) in
+    early-turned-away q (decided (early r) v) decides .answered
 
 -- Where nothing is refused early, no row before 14 applies.
 pub early-posed : (q : Question) → ((i : ℕ) → byteAt (q .file) i < 256) → earlyRefusal q ≡ none → Posed q
-unfolding earlyRefusal orLater tries entryOf returned sizedReturned networkAsked networkOf earlyRows
+unfolding earlyRefusal orLater
 early-posed q bytes e = go (fileRefusal (q .file)) refl e
   where
-    posed : Accepted (q .file) → firstRow (returned q) (select (tries (q .call)) earlyRows) ≡ none → Posed q
-    posed a e = record {
-      file = a;
-      area = λ h. leb-true _ _ (unless-none _ _ (passes shortArea (search (first-listed, List·Memᴰ·tail) depth 8) h));
-      buffer = λ h. leb-true _ _ (unless-none _ _ (passes shortBuffer (search (first-listed, List·Memᴰ·tail) depth 8) h));
-      link = λ h. rw (link-count (q .file) a) (ltb-true _ _ (and-left _ (leb (q .end) 1) (unless-none _ _ (passes noSuchLink (search (first-listed, List·Memᴰ·tail) depth 8) h))));
-      end = λ h. leb-true _ _ (and-right (ltb (q .link) (linksOf (q .file))) _ (unless-none _ _ (passes noSuchLink (search (first-listed, List·Memᴰ·tail) depth 8) h)));
-      prefix = λ h. rw (prefix-count (q .file) a) (ltb-true _ _ (unless-none _ _ (passes noSuchPrefix (search (first-listed, List·Memᴰ·tail) depth 8) h)));
-    }
-      where
-        passes : (r : Row) → List·Memᴰ r earlyRows → HasInput q (entryOf r .input) → returned q r ≡ none
-        passes r m h = none-decides (returned q) (select (tries (q .call)) earlyRows) e r (select-make (tries (q .call)) m h)
-
-    go : (o : Option (Decided FileRow)) → fileRefusal (q .file) ≡ o → orLater o (firstRow (returned q) (select (tries (q .call)) earlyRows)) ≡ none → Posed q
+    go : (o : Option (Decided FileRow)) → fileRefusal (q .file) ≡ o → orLater o (firstRow (returned q) (select (tries (q .call)) (map early earlyRows))) ≡ none → Posed q
     go (some f) p e = absurd (let z : _≡_ {A = ℕ} 0 1 = cc in omega arith)
-    go none p e = posed (load-accepted (q .file) bytes p) e
+    go none p e =
+        passes-posed q (load-accepted (q .file) bytes p)
+        (λ r v t. never-applies q (early r) v (none-decides (returned q) (select (tries (q .call)) (map early earlyRows)) e (early r) (select-make (tries (q .call)) (early-listed r) t)))
 
 -- ---- the same of the early answer
 
@@ -156,6 +158,6 @@ module _ (q : Question) where
       go none p e = absurd (let z : _≡_ {A = ℕ} 0 1 = cc in omega arith)
       go (some d) p e = rw (p, earlyAnswer) (ap some (sym e))
 
-  pub loaded-early : answerTo (loading (q .file)) ≡ accepted → earlyRefusal q ≡ firstRow (returned q) (select (tries (q .call)) earlyRows)
+  pub loaded-early : answerTo (loading (q .file)) ≡ accepted → earlyRefusal q ≡ inEarly (firstRow (EarlyReturned q) (select (triesEarly (q .call)) earlyRows))
   unfolding earlyRefusal orLater
-  loaded-early e = rw (load-accepts (q .file) e)
+  loaded-early e = rw (load-accepts (q .file) e) (early-decides q earlyRows)

@@ -2,7 +2,8 @@
 -- Assumes nothing.
 use Rattle.lfa.specs.Refusal.{entryOf}
 use Rattle.lfa.specs.Answer.{refusal}
-use Rattle.repair.specs.Answer.{refusalAnswer}
+use Rattle.network_file.specs.Load.{faultOf}
+use Rattle.repair.specs.Answer.{rowOf, refusalAnswer}
 use borrow.Author.Needs.{needs}
 use Rattle.refusal.proofs.question_row.Statement.{statement}
 use Rattle.refusal.proofs.question_row.Tie as tie
@@ -44,27 +45,27 @@ numbered-requires-5 : tie.Need-numbered-requires-5
 numbered-requires-5 c κs = search needs
 
 returns : tie.Need-returns
-unfolding refusalAnswer refusal entryOf
+unfolding refusalAnswer rowOf faultOf
 returns c = rw (c .before .before .refusal .given .1) (c .file-row .ensures)
 
 returns-2 : tie.Need-returns-2
-unfolding refusalAnswer refusal entryOf
+unfolding refusalAnswer rowOf refusal entryOf
 returns-2 c = rw (c .before .before .refusal2 .given .1) (c .numbered .ensures)
 
 returns-3 : tie.Need-returns-3
-unfolding refusalAnswer refusal entryOf
+unfolding refusalAnswer rowOf refusal entryOf
 returns-3 c = rw (c .before .before .refusal3 .given .1) (c .numbered2 .ensures)
 
 returns-4 : tie.Need-returns-4
-unfolding refusalAnswer refusal entryOf
+unfolding refusalAnswer rowOf refusal entryOf
 returns-4 c = rw (c .before .before .refusal4 .given .1) (c .numbered3 .ensures)
 
 returns-5 : tie.Need-returns-5
-unfolding refusalAnswer refusal entryOf
+unfolding refusalAnswer rowOf refusal entryOf
 returns-5 c = rw (c .before .before .refusal5 .given .1) (c .numbered4 .ensures)
 
 returns-6 : tie.Need-returns-6
-unfolding refusalAnswer refusal entryOf
+unfolding refusalAnswer rowOf refusal entryOf
 returns-6 c = rw (c .before .enum-told .given .1) (c .numbered5 .ensures)
 
 pub question-row-spec : {M : Type 1} → statement M

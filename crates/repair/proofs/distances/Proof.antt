@@ -1,11 +1,15 @@
 -- `repair::distances` meets its contract. The rows decide in their order, and the area is filled with them.
 -- Assumes nothing.
+use Prim.Native.Nat.{ℕ, _<_}
 use mathlib.Core.Path.{refl}
+use mathlib.Core.List.{[]}
 use native.Mathlib.Omega.{arith}
+use lib.ListN.{length}
 use Rattle.lfa.specs.File.{byteAt}
-use Rattle.lfa.specs.Question.{filling}
+use Rattle.lfa.specs.Space.{pSpace}
+use Rattle.lfa.specs.Question.{Question, filling}
 use Rattle.rows.specs.Rows.{callOf, questionAbout}
-use Rattle.repair.specs.Answer.{filledAnswer}
+use Rattle.repair.specs.Answer.{filledAnswer, Judges}
 use Rattle.repair.specs.Laws.Posed.{refused-answered}
 use Rattle.repair.specs.Laws.Answered.{done-answered}
 use borrow.Author.Needs.{needs}
@@ -15,6 +19,18 @@ use Rattle.repair.proofs.distances.Tie as tie
 pose-requires : tie.Need-pose-requires
 pose-requires c κs = search needs
 
+-- the question, what `pose` tells of it, and its bytes
+abbrev asked : tie.After-pose → Question
+asked l = let a = l .before .before .before .before .args in filling (a .file .now) (length (a .work .now))
+
+judged : (l : tie.After-pose) → Judges (asked l) (l .pose .result .turned) (l .pose .result .network) (l .before .before .before .before .args .work .now) (l .pose .last .1 .1 .0)
+unfolding filling questionAbout callOf
+judged l = l .pose .ensures pSpace []
+
+bytes : (l : tie.After-pose) (i : ℕ) → byteAt (asked l .file) i < 256
+unfolding filling byteAt
+bytes l i = omega (arith, l .before .before .before .shared-slice-known .given i)
+
 enum-known-turned : tie.Need-enum-known-turned
 enum-known-turned c = search needs
 
@@ -22,8 +38,8 @@ same-length : tie.Need-same-length
 same-length c = search needs
 
 returns : tie.Need-returns
-unfolding filledAnswer filling questionAbout callOf
-returns c = refused-answered {q = filling _ _} (c .before .before .before .before .before .pose .ensures) (c .before .turned .given .1)
+unfolding filledAnswer
+returns c = refused-answered (judged (c .before .before .before .before .before)) (c .before .turned .given .1)
 
 enum-told : tie.Need-enum-told
 enum-told c = search needs
@@ -32,8 +48,8 @@ same-length-2 : tie.Need-same-length-2
 same-length-2 c = search needs
 
 returns-2 : tie.Need-returns-2
-unfolding filledAnswer filling questionAbout callOf byteAt
-returns-2 c = done-answered {q = filling _ _} (c .before .before .before .before .pose .ensures) (λ i. omega (arith, c .before .before .before .before .before .before .before .shared-slice-known .given i)) (c .enum-told .given .1) refl
+unfolding filledAnswer filling
+returns-2 c = let l = c .before .before .before .before in done-answered (judged l) (bytes l) (c .enum-told .given .1) refl
 
 pub distances-spec : {M : Type 1} → statement M
 distances-spec =

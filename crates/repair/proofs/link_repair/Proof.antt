@@ -1,11 +1,15 @@
 -- `repair::link_repair` meets its contract. The rows decide in their order, then the search part answers.
 -- Assumes nothing.
+use Prim.Native.Nat.{ℕ, _<_}
 use mathlib.Core.Path.{refl, _∙_}
+use mathlib.Core.List.{[]}
 use native.Mathlib.Omega.{arith}
+use lib.ListN.{length}
 use Rattle.lfa.specs.File.{byteAt}
-use Rattle.lfa.specs.Question.{askLink}
+use Rattle.lfa.specs.Space.{pSpace}
+use Rattle.lfa.specs.Question.{Question, askLink}
 use Rattle.rows.specs.Rows.{callOf, questionAbout}
-use Rattle.repair.specs.Answer.{repairOf}
+use Rattle.repair.specs.Answer.{repairOf, Judges}
 use Rattle.repair.specs.Laws.Posed.{refused-answered}
 use Rattle.repair.specs.Laws.Answered.{link-answered}
 use borrow.Author.Needs.{needs}
@@ -15,6 +19,18 @@ use Rattle.repair.proofs.link_repair.Tie as tie
 pose-requires : tie.Need-pose-requires
 pose-requires c κs = search needs
 
+-- the question, what `pose` tells of it, and its bytes
+abbrev asked : tie.After-pose → Question
+asked l = let a = l .before .before .before .before .args in askLink (a .file .now) (length (a .work .now)) (a .link) (a .end)
+
+judged : (l : tie.After-pose) → Judges (asked l) (l .pose .result .turned) (l .pose .result .network) (l .before .before .before .before .args .work .now) (l .pose .last .1 .1 .0)
+unfolding askLink questionAbout callOf
+judged l = l .pose .ensures pSpace []
+
+bytes : (l : tie.After-pose) (i : ℕ) → byteAt (asked l .file) i < 256
+unfolding askLink byteAt
+bytes l i = omega (arith, l .before .before .before .shared-slice-known .given i)
+
 enum-known-turned : tie.Need-enum-known-turned
 enum-known-turned c = search needs
 
@@ -22,8 +38,8 @@ same-length : tie.Need-same-length
 same-length c = search needs
 
 returns : tie.Need-returns
-unfolding repairOf askLink questionAbout callOf
-returns c = refused-answered {q = askLink _ _ _ _} (c .before .before .before .before .before .pose .ensures) (c .before .turned .given .1)
+unfolding repairOf
+returns c = refused-answered (judged (c .before .before .before .before .before)) (c .before .turned .given .1)
 
 enum-told : tie.Need-enum-told
 enum-told c = search needs
@@ -38,11 +54,11 @@ same-length-2 : tie.Need-same-length-2
 same-length-2 c = search needs
 
 returns-2 : tie.Need-returns-2
-unfolding askLink questionAbout callOf byteAt
+unfolding askLink
 returns-2 c =
     let told = c .before .before .before .before in
     let l = told .before .before .before .before in
-    let a = link-answered {q = askLink _ _ _ _} (l .pose .ensures) (λ i. omega (arith, l .before .before .before .shared-slice-known .given i)) (told .enum-told .given .1) refl (c .before .link-pair .ensures) in
+    let a = link-answered (judged l) (bytes l) (told .enum-told .given .1) refl (c .before .link-pair .ensures) in
     record { answer-is = c .repair-answer .ensures ∙ a .answer-is; area-is = a .area-is }
 
 pub link-repair-spec : {M : Type 1} → statement M

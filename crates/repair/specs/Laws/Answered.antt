@@ -38,17 +38,17 @@ module _ {q : Question} {turned : Turned} {network : Network} {area after : List
   unfolding computed hasInput inputsOf inputNumber memberOf anyOf
   space-answered s c e =
       let p = ready-posed j bytes ready in
-      by-call c (ap set (e ∙ space-searched p (ready-taken j bytes ready) area (j .cells-are) (area-filled j bytes ready) (space-has-link (q .call) s c) (has q p (lent workArea) c refl) s))
+      by-call c (ap set (e ∙ space-searched p (ready-taken j bytes ready) area (j .cells-are) (j .limit-is) (area-filled j bytes ready) (space-has-link (q .call) s c) (has q p (lent workArea) c refl) s))
 
   pub link-answered : q .call ≡ linkRepair → {o : Outcome} → o ≡ linkBy network (q .link) (q .end) after → Answered q (repairAnswer o) area after
   unfolding computed hasInput inputsOf inputNumber memberOf anyOf
   link-answered c e =
       let p = ready-posed j bytes ready in
-      by-call c (ap repairAnswer (e ∙ link-searched p (ready-taken j bytes ready) area (j .cells-are) (area-filled j bytes ready) (link-has-link q p c) (has q p (lent workArea) c refl)))
+      by-call c (ap repairAnswer (e ∙ link-searched p (ready-taken j bytes ready) area (j .cells-are) (j .limit-is) (area-filled j bytes ready) (link-has-link q p c) (has q p (lent workArea) c refl)))
 
   pub prefix-answered : q .call ≡ prefixRepair → {o : Outcome} → o ≡ prefixBy network (q .link) (q .end) (q .prefix) after → Answered q (repairAnswer o) area after
   unfolding computed hasInput inputsOf inputNumber memberOf anyOf
   prefix-answered c e =
       let p = ready-posed j bytes ready in
       let h = prefix-has-prefix (q .call) c in
-      by-call c (ap repairAnswer (e ∙ prefix-searched p (ready-taken j bytes ready) area (j .cells-are) (area-filled j bytes ready) (prefix-has-link q p h) (has q p (lent workArea) c refl) h))
+      by-call c (ap repairAnswer (e ∙ prefix-searched p (ready-taken j bytes ready) area (j .cells-are) (j .limit-is) (area-filled j bytes ready) (prefix-has-link q p h) (has q p (lent workArea) c refl) h))

@@ -9,7 +9,7 @@ use lib.ListN.{length, getD}
 use Rattle.lfa.specs.Network.{Link, link, arcs}
 use Rattle.lfa.specs.File.{Bytes, networkOf}
 use Rattle.lfa.specs.Distance.{distances, distanceIn, filled}
-use Rattle.lfa.specs.Space.{protectedBy, protected}
+use Rattle.lfa.specs.Space.{underMaintenance, protectedBy, protected}
 use Rattle.network_file.specs.declared.network.Network.{Network}
 use Rattle.network_file.specs.Struct.{structOf}
 use Rattle.metric.specs.Columns.{arcsIn}
@@ -59,8 +59,8 @@ module _ {b : Bytes} {network : Network} (t : Taken b network) (x : ℕ) (x-in :
 
 -- the columns hold the protected link
 pub protected-is : {b : Bytes} {network : Network} (t : Taken b network) (l e : ℕ) → l < length (networkOf b .links) →
-    protectedIn (network .from) (network .to) (network .out) (network .back) l e ≡ protected (networkOf b) l e
+    protectedIn (network .from) (network .to) (network .out) (network .back) l e ≡ protected underMaintenance (networkOf b) l e
 unfolding protectedIn protected structOf
 protected-is {b} t l e link-in =
     let s : Network → Link = λ n. link (getD (n .from) l 0) (getD (n .to) l 0) (getD (n .out) l 0) (getD (n .back) l 0) in
-    ap (protectedBy l e) (ap s (t .network-is) ∙ struct-link (networkOf b) l link-in)
+    ap (protectedBy underMaintenance l e) (ap s (t .network-is) ∙ struct-link (networkOf b) l link-in)

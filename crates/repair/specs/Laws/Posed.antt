@@ -2,15 +2,13 @@
 -- holds the distances.
 -- Assumes nothing.
 use Prim.Native.Nat.{ℕ, _<_}
-use mathlib.Core.Path.{_≡_, refl, sym, ap, _∙_}
+use mathlib.Core.Path.{_≡_, sym, ap, _∙_}
 use mathlib.Core.List.{List}
-use Rattle.lfa.specs.Lists.{select, memberOf, anyOf}
-use Rattle.lfa.specs.File.{Bytes, byteAt, networkOf}
+use Rattle.lfa.specs.File.{byteAt, networkOf}
 use Rattle.lfa.specs.Distance.{filled}
-use Rattle.lfa.specs.Space.{Space}
-use Rattle.lfa.specs.Question.{Question, inputsOf, inputNumber, hasInput, askSpace, askLink}
-use Rattle.lfa.specs.Refusal.{entryOf, earlyRows, tries, returned, firstRow, earlyRefusal, Posed, sizedReturned}
-use Rattle.lfa.specs.Answer.{earlyAnswer, networkLoaded}
+use Rattle.lfa.specs.Question.{Question}
+use Rattle.lfa.specs.Refusal.{Posed}
+use Rattle.lfa.specs.Answer.{networkLoaded}
 use Rattle.lfa.specs.Contract.{Answered}
 use Rattle.lfa.specs.Laws.Accepted.{accepted-loaded}
 use Rattle.lfa.specs.Laws.Turned.{TurnedAway, answer-turned-away, answer-posed}
@@ -18,7 +16,7 @@ use Rattle.network_file.specs.declared.network.Network.{Network}
 use Rattle.repair.specs.declared.Refusal.{Refusal}
 use Rattle.repair.specs.declared.question.Turned.{Turned}
 use Rattle.repair.specs.declared.question.Turned.the-variants.{Refused, Ready}
-use Rattle.repair.specs.Answer.{refusalAnswer, turnedAnswer, areaPosed, Judges}
+use Rattle.repair.specs.Answer.{refusalAnswer, turnedRow, turnedAnswer, areaPosed, Judges}
 use Rattle.repair.specs.Taken.{Taken}
 use Rattle.repair.specs.Laws.Loaded.{taken-posed}
 
@@ -26,7 +24,7 @@ module _ {q : Question} {turned : Turned} {network : Network} {area after : List
   -- where it is turned away
   module _ {x : Refusal} (e : turned ≡ Refused x) where
     pub refused-away : TurnedAway q (refusalAnswer x)
-    unfolding turnedAnswer
+    unfolding turnedAnswer turnedRow refusalAnswer
     refused-away = answer-turned-away q (refusalAnswer x) (sym (j .turned-is) ∙ ap turnedAnswer e)
 
     pub area-lent : after ≡ area
@@ -39,7 +37,7 @@ module _ {q : Question} {turned : Turned} {network : Network} {area after : List
   -- where it is not
   module _ (bytes : (i : ℕ) → byteAt (q .file) i < 256) (e : turned ≡ Ready) where
     pub ready-posed : Posed q
-    unfolding turnedAnswer
+    unfolding turnedAnswer turnedRow
     ready-posed = answer-posed q bytes (sym (j .turned-is) ∙ ap turnedAnswer e)
 
     pub ready-taken : Taken (q .file) network
@@ -48,12 +46,3 @@ module _ {q : Question} {turned : Turned} {network : Network} {area after : List
     pub area-filled : after ≡ filled (networkOf (q .file)) area
     unfolding areaPosed
     area-filled = j .area-is ∙ ap (λ (t : Turned). areaPosed t (networkLoaded (q .file)) area) e ∙ ap (λ (net : _). filled net area) (accepted-loaded (q .file) (ready-posed .file))
-
--- a space is turned away as the link repair is: what is tried before the search is the same
-pub space-as-link : {turned : Turned} {network : Network} {area after : List ℕ} (s : Space) (b : Bytes) (cells l e : ℕ) →
-    Judges (askLink b cells l e) turned network area after → Judges (askSpace s b cells l e) turned network area after
-unfolding askLink askSpace
-space-as-link s b cells l e j = record { cells-are = j .cells-are; turned-is = j .turned-is ∙ same; network-is = j .network-is; area-is = j .area-is }
-  where
-    same : earlyAnswer (askLink b cells l e) ≡ earlyAnswer (askSpace s b cells l e)
-    same = unfold earlyAnswer earlyRefusal earlyRows select tries entryOf hasInput inputsOf inputNumber memberOf anyOf firstRow returned sizedReturned askLink askSpace in refl

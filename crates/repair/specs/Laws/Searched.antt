@@ -2,7 +2,7 @@
 -- document 01 defines over the network of the file.
 -- Assumes nothing.
 use Prim.Native.Nat.{ℕ, _*_, _≤_, _<_}
-use mathlib.Core.Path.{_≡_, refl, ap, _∙_}
+use mathlib.Core.Path.{_≡_, refl, sym, ap, _∙_}
 use mathlib.Core.List.{List}
 use native.Mathlib.Omega.{arith}
 use lib.ListN.{length, getD}
@@ -10,7 +10,7 @@ use Rattle.lfa.specs.Network as lfa
 use Rattle.lfa.specs.Network.{Arc, arcs}
 use Rattle.lfa.specs.File.{networkOf}
 use Rattle.lfa.specs.Distance.{distances, distanceIn, filled}
-use Rattle.lfa.specs.Space.{Protected, protected, Space, spaceOf}
+use Rattle.lfa.specs.Space.{underMaintenance, Protected, protected, Space, spaceOf}
 use Rattle.lfa.specs.Repair.{linkOutcome, prefixOutcome}
 use Rattle.lfa.specs.Question.{Question, workArea, aLink, aPrefix, lent, HasInput, networkAsked, linkAsked, prefixAsked, withDistances, linkFound, prefixFound}
 use Rattle.lfa.specs.Refusal.{Posed}
@@ -30,19 +30,19 @@ use Rattle.repair.specs.Laws.Named.{routers-same, hops-are, held-is, pre
 
 -- Of a network with sound links and of one of them, all is known that spaces and repairs need, once the area is filled.
 known-filled : (net : lfa.Network) {height : ℕ → ℕ} → LinksSound net height → (area : List ℕ) → net .routers * net .routers ≤ length area → (l e : ℕ) → l < length (net .links) →
-    Known (net .routers) (arcs net) (protected net l e) (filled net area)
+    Known (net .routers) (arcs net) (protected underMaintenance net l e) (filled net area)
 known-filled net links-sound area long l e h = record {
   long = omega (arith, work-length net area long);
   sound = limits-sound net links-sound;
   costs = rw (held-filled net area) (limits-distances net links-sound);
-  named = limits-named net links-sound l e h;
+  named = limits-named net links-sound underMaintenance l e h;
 }
 
 -- what is known of the same numbers under other names
 same-known : {n n′ : ℕ} {hops hops′ : List Arc} {q q′ : Protected} {area area′ : List ℕ} → n ≡ n′ → hops ≡ hops′ → q ≡ q′ → area ≡ area′ → Known n′ hops′ q′ area′ → Known n hops q area
 same-known e₁ e₂ e₃ e₄ known = rw (e₁, e₂, e₃, e₄) known
 
-module _ {q : Question} (p : Posed q) {network : Network} (t : Taken (q .file) network) (area : List ℕ) (cells-are : q .area ≡ length area) {after : List ℕ} (full : after ≡ filled (networkOf (q .file)) area) (h : HasInput q aLink) where
+module _ {q : Question} (p : Posed q) {network : Network} (t : Taken (q .file) network) (area : List ℕ) (cells-are : q .area ≡ length area) (limit-is : q .maintenance ≡ underMaintenance) {after : List ℕ} (full : after ≡ filled (networkOf (q .file)) area) (h : HasInput q aLink) where
   link-there : q .link < length (networkOf (q .file) .links)
   unfolding networkAsked
   link-there = p .link h
@@ -65,7 +65,9 @@ module _ {q : Question} (p : Posed q) {network : Network} (t : Taken (q .file) n
       F (network .routers) (hopsOf network) (held (network .routers) after) (protectedOf network (q .link) (q .end))
       ≡ F (networkAsked q .routers) (arcs (networkAsked q)) (distanceIn (distances (networkAsked q))) (linkAsked q)
   unfolding networkAsked linkAsked
-  of-network F = same F (routers-same t) (hops-are t) (held-is t area full) (protected-is t (q .link) (q .end) link-there)
+  of-network F =
+      same F (routers-same t) (hops-are t) (held-is t area full)
+      (protected-is t (q .link) (q .end) link-there ∙ ap (λ (m : ℕ). protected m (networkOf (q .file)) (q .link) (q .end)) (sym limit-is))
     where
       same : {X : Type 0} (F : ℕ → List Arc → (ℕ → ℕ → ℕ) → Protected → X) {n n′ : ℕ} {hops hops′ : List Arc} {d d′ : ℕ → ℕ → ℕ} {r r′ : Protected} →
           n ≡ n′ → hops ≡ hops′ → d ≡ d′ → r ≡ r′ → F n hops d r ≡ F n′ hops′ d′ r′

@@ -1,7 +1,7 @@
 -- `route::passed_on` meets its contract, case by case.
 -- Assumes nothing.
+use mathlib.Core.Path.{sym, ap}
 use borrow.Author.Needs.{needs}
-use Rattle.repair.specs.Answer.{refusalAnswer}
 use Rattle.route.specs.Answer.{playedOf, passedOn}
 use Rattle.route.proofs.passed_on.Statement.{statement}
 use Rattle.route.proofs.passed_on.Tie as tie
@@ -19,8 +19,8 @@ enum-told-3 : tie.Need-enum-told-3
 enum-told-3 c = search needs
 
 returns : tie.Need-returns
-unfolding playedOf passedOn refusalAnswer
-returns c = search needs
+unfolding playedOf passedOn
+returns c = sym (ap passedOn (c .before .answer .given .1))
 
 returns-2 : tie.Need-returns-2
 unfolding playedOf passedOn

@@ -4,7 +4,7 @@ use Prim.Native.Nat.{ℕ, zero, suc}
 use mathlib.Core.Path.{_≡_, refl, _∙_}
 use borrow.Author.Needs.{needs}
 use Rattle.lfa.specs.Network.{link}
-use Rattle.lfa.specs.Space.{protectedBy}
+use Rattle.lfa.specs.Space.{underMaintenance, protectedBy}
 use Rattle.search.specs.Hops.{protectedIn}
 use Rattle.route.proofs.repairing.Statement.{statement}
 use Rattle.route.proofs.repairing.Tie as tie
@@ -26,7 +26,7 @@ wide-requires-2 : tie.Need-wide-requires-2
 wide-requires-2 c κs = search needs
 
 -- an end that is not 0
-other-end : (l e a b ab ba : ℕ) → (e ≡ 0 → ⊥) → b ≡ protectedBy l e (link a b ab ba) .near
+other-end : (l e a b ab ba : ℕ) → (e ≡ 0 → ⊥) → b ≡ protectedBy underMaintenance l e (link a b ab ba) .near
 unfolding protectedBy
 other-end l zero a b ab ba h = absurd (h refl)
 other-end l (suc e) a b ab ba h = refl

@@ -23,9 +23,9 @@ space-of-requires c κs = search needs
 returns-2 : tie.Need-returns-2
 unfolding spaceBy
 returns-2 c =
-    let e = c .before .before .before .before .before .before .before .before .before .before in
+    let e = c .before .before .before .before .before .before .before .before .before .before .before .before in
     let a = e .before .before .args in
-    let found = c .space-of .ensures (a .t2 .out) (a .t2 .back) ∙ ap (λ (q : Protected). spaceIf (searchable (a .t2 .routers) (a .t2 .links) q (length (a .dist .now))) (spaceNamed (a .which)) (a .t2 .routers) (hopsOf (a .t2)) q (a .dist .now)) (c .before .before .before .before .protect .ensures) in
+    let found = c .space-of .ensures ∙ ap (λ (q : Protected). spaceIf (searchable (a .t2 .routers) (a .t2 .links) q (length (a .dist .now))) (spaceNamed (a .which)) (a .t2 .routers) (hopsOf (a .t2)) q (a .dist .now)) (c .before .before .before .before .before .before .protect .ensures) in
     rw (lt-ltb _ _ (e .if1 .left)) found
 
 pub space-in-spec : {M : Type 1} → statement M

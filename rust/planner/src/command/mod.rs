@@ -57,7 +57,7 @@ fn link(asked: &Asked) -> Result<String, Failure> {
     let (link, end) = (asked.number(1)?, asked.number(2)?);
     let file = file(asked)?;
     let pair = planner::link_repair(&file.bytes, &mut [0; WORK_CELLS], link, end);
-    or_no_pair(&file, pair.map(line::<Pair>))
+    or_no_pair(&file, (link, end), pair.map(line::<Pair>))
 }
 
 fn prefix(asked: &Asked) -> Result<String, Failure> {
@@ -69,7 +69,7 @@ fn prefix(asked: &Asked) -> Result<String, Failure> {
         Repair::Untouched => UNTOUCHED.to_string(),
         Repair::Pair(pair) => line(pair),
     });
-    or_no_pair(&file, repair)
+    or_no_pair(&file, (link, end), repair)
 }
 
 fn route(asked: &Asked) -> Result<String, Failure> {
@@ -84,7 +84,7 @@ fn route(asked: &Asked) -> Result<String, Failure> {
         Played::Untouched => UNTOUCHED.to_string(),
         Played::Written(count) => format!("route {}\n", spaced(&route[..count])),
     });
-    or_no_pair(&file, played)
+    or_no_pair(&file, (link, end), played)
 }
 
 fn spaces(asked: &Asked) -> Result<String, Failure> {
@@ -136,10 +136,35 @@ fn write(word: &OsStr, bytes: &[u8]) -> Result<(), Failure> {
 }
 
 /// That no pair serves is an answer too; any other refusal is none.
-fn or_no_pair(file: &Input, answer: Result<String, Refusal>) -> Result<String, Failure> {
+fn or_no_pair(
+    file: &Input,
+    asked: (usize, usize),
+    answer: Result<String, Refusal>,
+) -> Result<String, Failure> {
     match answer {
-        Err(refusal) if refusal.number == Refusal::NO_PAIR => Ok(line(refusal)),
+        Err(refusal) if refusal.number == Refusal::NO_PAIR => {
+            Ok(format!("{refusal}{}\n", left_out(&file.bytes, asked)))
+        }
         other => other.map_err(|refusal| file.refused_by(refusal)),
+    }
+}
+
+/// The directions from S over which no repair starts, since they are under maintenance. Who reads
+/// that there is no repair learns what may have left none.
+fn left_out(file: &[u8], (link, end): (usize, usize)) -> String {
+    let Ok(network) = planner::load(file) else {
+        return String::new();
+    };
+    let directions = network.links().get(link).map(|link| {
+        let (s, e) = if end == 0 { (link.a, link.b) } else { (link.b, link.a) };
+        let others = network.under_maintenance(s).filter(|n| *n != e);
+        others.map(|n| format!("{s} to {n}")).collect::<Vec<String>>()
+    });
+    match directions {
+        Some(directions) if !directions.is_empty() => {
+            format!("; under maintenance: {}", directions.join(", "))
+        }
+        _ => String::new(),
     }
 }
 

@@ -35,6 +35,9 @@ A text has one thing in a line, and # starts a comment:
   link 0 1 1 1        # router a, router b, cost a to b, cost b to a
   prefix 1:0 2:0      # attachments, each ROUTER:COST
 
+A link cost of 65535 says that the link is under maintenance in that direction:
+packets may go over it, but no repair starts over it.
+
 Exit status: 0 for an answer, which may be that there is no repair; 1 where the
 file, the text or the question is refused; 2 for wrong words, and for a file
 that cannot be read or written.

@@ -1,7 +1,7 @@
 //! The command as a child process: what it prints, and its exit status.
 
 use crate::common::{
-    answers, fails, ring, ring_4_with_prefix, run, scratch, sound_texts, text_of, texts,
+    answers, fails, ring, ring_4_with_prefix, root, run, scratch, sound_texts, text_of, texts,
     with_prefix_at, RING_4,
 };
 use planner::{text, Link, Network};
@@ -24,10 +24,56 @@ fn no_repair_is_an_answer() {
     let mut network = Network::new(2).unwrap();
     network.add_link(Link { a: 0, b: 1, out: 1, back: 1 }).unwrap();
     let file = with_prefix_at(network, &[1]).to_bytes();
-    let no_repair = "refused 14 0: there is no repair: no pair of first hop and endpoint serves\n";
-    assert_eq!(answers(&["link", "-", "0", "0"], &file), no_repair);
-    assert_eq!(answers(&["prefix", "-", "0", "0", "0"], &file), no_repair);
-    assert_eq!(answers(&["route", "-", "0", "0", "0"], &file), no_repair);
+    assert_eq!(answers(&["link", "-", "0", "0"], &file), no_repair(""));
+    assert_eq!(answers(&["prefix", "-", "0", "0", "0"], &file), no_repair(""));
+    assert_eq!(answers(&["route", "-", "0", "0", "0"], &file), no_repair(""));
+}
+
+/// The line of refusal 14, with what it says after it.
+fn no_repair(after: &str) -> String {
+    format!("refused 14 0: there is no repair: no pair of first hop and endpoint serves{after}\n")
+}
+
+#[test]
+fn no_repair_names_what_is_under_maintenance() {
+    // Router 2 leads nowhere else, so there is no repair for link 0 whatever it costs.
+    let with_cost = |cost: u16| {
+        let text = format!("routers 3\nlink 0 1 1 1\nlink 2 0 65535 {cost}\nprefix 1:0\n");
+        text::parse(&text).unwrap().to_bytes()
+    };
+    let (below, maintained) = (with_cost(65_534), with_cost(65_535));
+    for words in [&["link", "-", "0", "0"][..], &["prefix", "-", "0", "0", "0"]] {
+        assert_eq!(answers(words, &below), no_repair(""));
+        assert_eq!(answers(words, &maintained), no_repair("; under maintenance: 0 to 2"));
+    }
+    // S is 1, and no other link leaves it. S is 2, and E is left out in any case.
+    assert_eq!(answers(&["link", "-", "0", "1"], &maintained), no_repair(""));
+    assert_eq!(answers(&["link", "-", "1", "0"], &maintained), no_repair(""));
+}
+
+#[test]
+fn a_repair_that_maintenance_leaves_out() {
+    let file = |name: &str| {
+        let path = root().join(format!("tests/cases/{name}.txt"));
+        text::parse(&fs::read_to_string(path).unwrap()).unwrap().to_bytes()
+    };
+    let left_out = no_repair("; under maintenance: 0 to 2, 0 to 3");
+    let first_hops = file("maintenance_first_hops");
+    for words in [
+        &["link", "-", "0", "0"][..],
+        &["prefix", "-", "0", "0", "0"],
+        &["route", "-", "0", "0", "0"],
+    ] {
+        assert_eq!(answers(words, &first_hops), left_out);
+    }
+    let other = "first hop 4, endpoint 2, class 3, tunnel cost 2\n";
+    assert_eq!(answers(&["link", "-", "0", "1"], &first_hops), other);
+    let tunnel = file("maintenance_tunnel");
+    assert_eq!(answers(&["route", "-", "0", "0", "0"], &tunnel), "route 0 5 4 3 2 1\n");
+    let extended_p = "P-space: size 2, routers 0 2\n\
+                      extended P-space: size 3, routers 0 2 5\n\
+                      Q-space: size 3, routers 1 4 5\n";
+    assert_eq!(answers(&["spaces", "-", "0", "0"], &file("maintenance_extended_p")), extended_p);
 }
 
 #[test]
@@ -87,6 +133,21 @@ fn make_and_text() {
     let made = run(&["make", "-", "-"], RING_4.as_bytes());
     assert_eq!(made.stdout, ring_4_with_prefix().to_bytes());
     assert_eq!(answers(&["text", "-"], &made.stdout), RING_4);
+}
+
+#[test]
+fn text_says_what_is_under_maintenance() {
+    let text = "\
+routers 3
+link 1 0 65535 65534  # under maintenance from 1 to 0
+link 1 2 1 65535  # under maintenance from 2 to 1
+link 2 0 65535 65535  # under maintenance both ways
+prefix 1:65535
+";
+    let file = run(&["make", "-", "-"], text.as_bytes()).stdout;
+    let without = text.lines().map(|line| line.split("  #").next().unwrap().to_string() + "\n");
+    assert_eq!(run(&["make", "-", "-"], without.collect::<String>().as_bytes()).stdout, file);
+    assert_eq!(answers(&["text", "-"], &file), text);
 }
 
 #[test]

@@ -14,6 +14,18 @@ fn every_text_round_trip() {
 }
 
 #[test]
+fn maintenance_is_a_comment() {
+    let text = "routers 4\nlink 0 1 65535 1  # under maintenance from 0 to 1\n\
+                link 2 1 65534 65535  # under maintenance from 1 to 2\n\
+                link 3 2 65535 65535  # under maintenance both ways\nlink 0 3 65534 65534\n\
+                prefix 0:65535\n";
+    let network = parse(text).unwrap();
+    assert_eq!(print(&network), text);
+    let neighbours = |router| network.under_maintenance(router).collect::<Vec<u8>>();
+    assert_eq!([0, 1, 2, 3, 9].map(neighbours), [vec![1], vec![2], vec![3], vec![2], vec![]]);
+}
+
+#[test]
 fn layout_of_a_text_is_free() {
     let text = "# a comment\n\n  prefix 1:0\t2:0 # another\nlink 0 1 1 1\r\nlink 1 2 1 1\n\
                 link 2 3 1 1\nlink 3 0 1 1\nrouters 4";

@@ -132,8 +132,9 @@ impl Brute {
         walks.iter().any(|walk| walk.windows(2).any(|hop| hop == [s, e]))
     }
 
-    /// S's neighbours other than E.
+    /// S's neighbours other than E to which the cost from S is below 65,535.
     pub fn first_hops(&self, s: usize, e: usize) -> Vec<usize> {
-        (0..self.routers).filter(|n| self.cost[s][*n].is_some() && *n != e).collect()
+        let in_use = |n: &usize| self.cost[s][*n].is_some_and(|cost| cost < 65_535);
+        (0..self.routers).filter(|n| in_use(n) && *n != e).collect()
     }
 }

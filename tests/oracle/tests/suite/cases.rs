@@ -58,7 +58,7 @@ fn every_cause_of_the_rows_1_to_9_has_a_reader_text() {
 }
 
 #[test]
-fn the_networks_of_the_documents_are_stored() {
+fn the_networks_worked_by_hand_are_stored() {
     let destinations =
         |network: Network| network.prefix(&[(3, 0)]).prefix(&[(4, 0)]).prefix(&[(5, 0)]);
     let stored = [
@@ -75,6 +75,13 @@ fn the_networks_of_the_documents_are_stored() {
         ("source_000_figure_1_dear", destinations(figure_1(4))),
         ("source_001_figure_1", topology_1()),
         ("source_001_figure_2", topology_2()),
+        ("maintenance_first_hops", maintenance_first_hops()),
+        ("maintenance_tunnel", maintenance_tunnel()),
+        ("maintenance_protected_link", maintenance_protected_link()),
+        ("maintenance_extended_p", maintenance_extended_p()),
+        ("maintenance_costs", maintenance_costs()),
+        ("ring_6_costs_65534", ring_6_of_cost(65_534)),
+        ("ring_6_costs_65535", ring_6_of_cost(65_535)),
     ];
     let cases = stored_cases();
     for (name, network) in stored {

@@ -8,6 +8,7 @@ mod common;
 mod coverage;
 mod distances;
 mod faults;
+mod maintenance;
 mod outputs;
 mod pages;
 mod papers;

@@ -285,7 +285,35 @@ fn lines_known_by_hand() {
         ("there_and_back", "repairs", "prefix-repair 0 0 0 pair 2 4 3 15"),
         ("there_and_back", "routes", "route 0 0 0 4 count 5 route 0 2 3 4 3 kept"),
         // Three hops away from S along the ring, two from E.
-        ("ring_6_costs_65535", "repairs", "link-repair 0 0 pair 5 3 3 196605"),
+        ("ring_6_costs_65534", "repairs", "link-repair 0 0 pair 5 3 3 196602"),
+        // Every link is under maintenance: no first hop. P and Q are the same.
+        ("ring_6_costs_65535", "repairs", "p 0 0 set 49"),
+        ("ring_6_costs_65535", "repairs", "extended-p 0 0 set 0"),
+        ("ring_6_costs_65535", "repairs", "q 0 0 set 14"),
+        ("ring_6_costs_65535", "repairs", "link-repair 0 0 refused 14 0"),
+        ("ring_6_costs_65535", "repairs", "prefix-repair 0 0 0 refused 14 0"),
+        ("ring_6_costs_65535", "repairs", "prefix-repair 0 1 0 untouched"),
+        ("ring_6_costs_65535", "routes", "route 0 0 0 0 refused 14 0 kept"),
+        // Both first hops of 0 are left out, none of 1.
+        ("maintenance_first_hops", "repairs", "extended-p 0 0 set 0"),
+        ("maintenance_first_hops", "repairs", "link-repair 0 0 refused 14 0"),
+        ("maintenance_first_hops", "repairs", "prefix-repair 0 0 0 refused 14 0"),
+        ("maintenance_first_hops", "repairs", "link-repair 0 1 pair 4 2 3 2"),
+        // The tunnel goes over link 3.
+        ("maintenance_tunnel", "repairs", "link-repair 0 0 pair 5 3 2 65537"),
+        ("maintenance_tunnel", "repairs", "link-repair 4 0 refused 14 0"),
+        ("maintenance_tunnel", "routes", "route 0 0 0 0 count 6 route 0 5 4 3 2 1 kept"),
+        // Link 0 is repaired, but starts no repair.
+        ("maintenance_protected_link", "repairs", "link-repair 0 0 pair 3 3 0 30000"),
+        ("maintenance_protected_link", "repairs", "prefix-repair 0 0 0 pair 3 3 0 30000"),
+        ("maintenance_protected_link", "repairs", "link-repair 3 0 pair 2 1 3 60000"),
+        ("maintenance_protected_link", "repairs", "link-repair 3 1 refused 14 0"),
+        // P {0, 2}, extended P {0, 2, 5}, Q {1, 4, 5}.
+        ("maintenance_extended_p", "repairs", "p 0 0 set 5"),
+        ("maintenance_extended_p", "repairs", "extended-p 0 0 set 37"),
+        ("maintenance_extended_p", "repairs", "q 0 0 set 50"),
+        ("maintenance_extended_p", "repairs", "link-repair 0 0 pair 2 5 3 3"),
+        ("maintenance_extended_p", "repairs", "prefix-repair 0 0 0 pair 2 5 3 3"),
         // From 4 on every step leads right or down, the lower number first.
         ("grid", "routes", "route 0 0 0 0 count 7 route 0 4 5 6 7 11 15 kept"),
         ("grid", "routes", "route 0 0 0 1 count 7 route 0 4 8 9 10 11 15 kept"),

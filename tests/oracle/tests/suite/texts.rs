@@ -86,3 +86,21 @@ fn a_network_has_one_text() {
     let network = Network::of_routers(2).link(1, 0, 3, 4).prefix(&[(1, 2), (0, 65_535)]);
     assert_eq!(of_network(&network), "routers 2\nlink 1 0 3 4\nprefix 1:2 0:65535\n");
 }
+
+#[test]
+fn a_text_says_which_links_are_under_maintenance() {
+    let network = Network::of_routers(3)
+        .link(1, 0, 65_535, 65_534)
+        .link(1, 2, 1, 65_535)
+        .link(2, 0, 65_535, 65_535)
+        .prefix(&[(1, 65_535)]);
+    let text = "\
+routers 3
+link 1 0 65535 65534  # under maintenance from 1 to 0
+link 1 2 1 65535  # under maintenance from 2 to 1
+link 2 0 65535 65535  # under maintenance both ways
+prefix 1:65535
+";
+    assert_eq!(of_network(&network), text);
+    assert_eq!(parse(text).expect("a good text").network, network);
+}

@@ -2,7 +2,7 @@
 -- Assumes nothing.
 use Rattle.lfa.specs.Answer.{refusal, repairAnswer}
 use borrow.Author.Needs.{needs}
-use Rattle.repair.specs.Answer.{refusalAnswer, repairOf}
+use Rattle.repair.specs.Answer.{rowOf, refusalAnswer, repairOf}
 use Rattle.repair.proofs.answer.repair_answer.Statement.{statement}
 use Rattle.repair.proofs.answer.repair_answer.Tie as tie
 
@@ -27,7 +27,7 @@ unfolding repairOf repairAnswer
 returns-2 c = rw (c .enum-told2 .given .1)
 
 returns-3 : tie.Need-returns-3
-unfolding repairOf refusalAnswer refusal repairAnswer
+unfolding repairOf refusalAnswer rowOf refusal repairAnswer
 returns-3 c = rw (c .enum-told3 .given .1)
 
 returns-4 : tie.Need-returns-4

@@ -1,13 +1,18 @@
 -- `repair::question::pose` meets its contract. The file part's answer decides rows 1 to 9, and the counts of its network rows 10 to 13; where
 -- none applies, the area is filled.
 -- Assumes nothing.
-use mathlib.Core.Path.{_≡_, refl, _∙_}
+use Prim.Native.Nat.{ℕ, _<_}
+use mathlib.Core.Path.{_≡_, refl}
+use mathlib.Core.List.{List}
 use native.Mathlib.Omega.{arith}
 use lib.ListN.{length}
-use Rattle.lfa.specs.File.{byteAt}
+use Rattle.lfa.specs.File.{Bytes, byteAt}
+use Rattle.lfa.specs.Space.{Space}
+use Rattle.lfa.specs.Question.{Question}
 use Rattle.lfa.specs.Answer.{earlyAnswer}
 use Rattle.rows.specs.Rows.{questionAbout}
-use Rattle.repair.specs.Answer.{refusalAnswer, turnedAnswer, areaPosed}
+use Rattle.rows.specs.Laws.{has-area}
+use Rattle.repair.specs.Answer.{turnedAnswer, areaPosed}
 use Rattle.repair.specs.Taken.{Taken}
 use Rattle.repair.specs.Laws.Loaded.{taken, columns-within}
 use Rattle.repair.proofs.QuestionLaws.{fault-early, row-early, lent-posed, filled-posed}
@@ -18,23 +23,36 @@ use Rattle.repair.proofs.question.pose.Tie as tie
 load-requires : tie.Need-load-requires
 load-requires c κs = search needs
 
+-- the file, the area that is lent, and the question
+abbrev file : tie.After-load → Bytes
+file l = l .before .before .before .args .file .now
+
+abbrev area : tie.After-load → List ℕ
+area l = l .before .before .before .args .work .now
+
+abbrev asked : tie.After-load → Space → List ℕ → Question
+asked l = questionAbout (file l) (length (area l)) (l .before .before .before .args .asked)
+
+bytes : (l : tie.After-load) (i : ℕ) → byteAt (file l) i < 256
+unfolding byteAt
+bytes l i = omega (arith, l .before .before .shared-slice-known .given i)
+
 enum-known-verdict : tie.Need-enum-known-verdict
 enum-known-verdict c = search needs
 
 returns : tie.Need-returns
-unfolding turnedAnswer refusalAnswer areaPosed questionAbout
-returns c =
+unfolding areaPosed questionAbout
+returns c = λ s choices.
     let l = c .before .before .before .before in
-    record { cells-are = refl; turned-is = fault-early _ _ _ _ (l .load .ensures) _ (c .before .verdict .given .1); network-is = l .load .ensures .1; area-is = refl }
+    record { cells-are = refl; limit-is = refl; turned-is = fault-early (asked l s choices) _ (l .load .ensures) _ (c .before .verdict .given .1); network-is = l .load .ensures .1; area-is = refl }
 
 enum-told : tie.Need-enum-told
 enum-told c = search needs
 
 -- the file is accepted
-took : (c : tie.After-enum-told) → let l = c .before .before .before in Taken (l .before .before .before .args .file .now) (l .load .result .network)
-took c =
-    let l = c .before .before .before in
-    taken _ _ (l .load .ensures) (λ i. omega (arith, l .before .before .shared-slice-known .given i)) (c .enum-told .given .1)
+took : (c : tie.After-enum-told) → let l = c .before .before .before in Taken (file l) (l .load .result .network)
+unfolding byteAt
+took c = let l = c .before .before .before in taken _ _ (l .load .ensures) (bytes l) (c .enum-told .given .1)
 
 narrow-requires : tie.Need-narrow-requires
 narrow-requires c κs = omega (arith, columns-within (took c) .few-routers)
@@ -46,11 +64,12 @@ turned-by-requires : tie.Need-turned-by-requires
 turned-by-requires c κs = search needs
 
 -- what turns the question away
-turned-is : (c : tie.After-turned-by) → let a = c .before .before .before .before .before .before .before .before .before .args in turnedAnswer (c .turned-by .result) ≡ earlyAnswer (questionAbout (a .file .now) (length (a .work .now)) (a .asked))
-turned-is c =
+turned-is : (c : tie.After-turned-by) (s : Space) (choices : List ℕ) → turnedAnswer (c .turned-by .result) ≡ earlyAnswer (asked (c .before .before .before .before .before .before) s choices)
+unfolding questionAbout
+turned-is c s choices =
     let told = c .before .before .before in
     let l = told .before .before .before in
-    c .turned-by .ensures ∙ row-early _ _ (l .before .before .before .args .asked) _ (l .load .ensures) (told .enum-told .given .1) (took told) _ (c .before .before .narrow .ensures) _ (c .before .first-row .ensures)
+    row-early (asked l s choices) _ (l .load .ensures) (told .enum-told .given .1) (took told) _ (c .before .before .narrow .ensures) _ (c .before .first-row .ensures _ s choices) _ (c .turned-by .ensures)
 
 enum-told-2 : tie.Need-enum-told-2
 enum-told-2 c = search needs
@@ -65,25 +84,25 @@ same-length : tie.Need-same-length
 same-length c = search needs
 
 returns-2 : tie.Need-returns-2
-unfolding questionAbout byteAt
-returns-2 c =
+unfolding questionAbout
+returns-2 c = λ s choices.
     let t = c .before .before .before .before .before .before .before .before .before .before .before in
     let told = t .before .before .before in
     let l = told .before .before .before in
-    let a = l .before .before .before .args in
     record {
       cells-are = refl;
-      turned-is = turned-is t;
+      limit-is = refl;
+      turned-is = turned-is t s choices;
       network-is = l .load .ensures .1;
-      area-is = filled-posed (a .file .now) (a .work .now) (a .asked) (c .before .before .before .before .before .before .before .before .before .enum-told2 .given .1) (turned-is t) (λ i. omega (arith, l .before .before .shared-slice-known .given i)) (took told) (c .before .before .fill .ensures);
+      area-is = filled-posed (asked l s choices) (area l) (has-area (l .before .before .before .args .asked .call) s) refl (c .before .before .before .before .before .before .before .before .before .enum-told2 .given .1) (turned-is t s choices) (bytes l) (took told) (c .before .before .fill .ensures);
     }
 
 returns-3 : tie.Need-returns-3
 unfolding questionAbout
-returns-3 c =
+returns-3 c = λ s choices.
     let t = c .before .before in
     let l = t .before .before .before .before .before .before in
-    record { cells-are = refl; turned-is = turned-is t; network-is = l .load .ensures .1; area-is = lent-posed _ _ (c .enum-told3 .given .1) }
+    record { cells-are = refl; limit-is = refl; turned-is = turned-is t s choices; network-is = l .load .ensures .1; area-is = lent-posed _ _ (c .enum-told3 .given .1) }
 
 pub pose-spec : {M : Type 1} → statement M
 pose-spec =

@@ -1,13 +1,13 @@
 -- `repair::question::turned_by` meets its contract.
 -- Assumes nothing.
 use mathlib.Core.Path.{sym, ap}
+use Rattle.lfa.specs.Refusal.{inEarly}
+use Rattle.rows.specs.declared.Row.{Row}
 use Rattle.rows.specs.Rows.{rowDecided}
-use Rattle.repair.specs.Answer.{refusalAnswer, rowAnswer, turnedAnswer}
+use Rattle.repair.specs.Answer.{rowOf, turnedRow}
 use borrow.Author.Needs.{needs}
 use Rattle.repair.proofs.question.turned_by.Statement.{statement}
 use Rattle.repair.proofs.question.turned_by.Tie as tie
-use Rattle.repair.proofs.question.turned_by.Reads as reads
-use Rattle.repair.proofs.question.turned_by.Lts as lts
 
 enum-known-row : tie.Need-enum-known-row
 enum-known-row c = search needs
@@ -25,24 +25,24 @@ enum-told : tie.Need-enum-told
 enum-told c = search needs
 
 returns : tie.Need-returns
-unfolding rowDecided rowAnswer refusalAnswer turnedAnswer
-returns c = sym (ap rowAnswer (c .before .row .given .1))
+unfolding rowDecided inEarly rowOf turnedRow
+returns c = sym (ap (λ (r : Row). inEarly (rowDecided r)) (c .before .row .given .1))
 
 returns-2 : tie.Need-returns-2
-unfolding rowDecided rowAnswer refusalAnswer turnedAnswer
-returns-2 c = sym (ap rowAnswer (c .before .row2 .given .1))
+unfolding rowDecided inEarly rowOf turnedRow
+returns-2 c = sym (ap (λ (r : Row). inEarly (rowDecided r)) (c .before .row2 .given .1))
 
 returns-3 : tie.Need-returns-3
-unfolding rowDecided rowAnswer refusalAnswer turnedAnswer
-returns-3 c = sym (ap rowAnswer (c .before .row3 .given .1))
+unfolding rowDecided inEarly rowOf turnedRow
+returns-3 c = sym (ap (λ (r : Row). inEarly (rowDecided r)) (c .before .row3 .given .1))
 
 returns-4 : tie.Need-returns-4
-unfolding rowDecided rowAnswer refusalAnswer turnedAnswer
-returns-4 c = sym (ap rowAnswer (c .before .row4 .given .1))
+unfolding rowDecided inEarly rowOf turnedRow
+returns-4 c = sym (ap (λ (r : Row). inEarly (rowDecided r)) (c .before .row4 .given .1))
 
 returns-5 : tie.Need-returns-5
-unfolding rowDecided rowAnswer refusalAnswer turnedAnswer
-returns-5 c = sym (ap rowAnswer (c .enum-told .given .1))
+unfolding rowDecided inEarly rowOf turnedRow
+returns-5 c = sym (ap (λ (r : Row). inEarly (rowDecided r)) (c .enum-told .given .1))
 
 pub turned-by-spec : {M : Type 1} → statement M
 turned-by-spec =

@@ -5,18 +5,19 @@ use mathlib.Core.Path.{_≡_, refl, sym, _∙_}
 use mathlib.Core.Logic.{⊎-elim}
 use native.Mathlib.Omega.{arith}
 use borrow.Author.Needs.{needs}
+use Rattle.avoid.specs.Avoiding.{asked}
 use Rattle.search.proofs.HopLaws.{FirstsFound, firsts-none, first-put, other-left}
 use Rattle.search.proofs.hops.first_hops.Statement.{statement}
 use Rattle.search.proofs.hops.first_hops.Tie as tie
 
 abbrev Inv-loop : tie.InvT-loop
-Inv-loop links from to near far arcs₀ count₀ arc₀ arcs count arc = (arc ≤ 2 * links) × FirstsFound near far from to arc count arcs
+Inv-loop links from to out back protected arcs₀ count₀ arc₀ arcs count arc = (arc ≤ 2 * links) × FirstsFound (asked protected) from to out back arc count arcs
 
 abbrev μ-loop : tie.MeasureT-loop
-μ-loop links from to near far arcs₀ count₀ arc₀ arcs count arc = 2 * links - arc
+μ-loop links from to out back protected arcs₀ count₀ arc₀ arcs count arc = 2 * links - arc
 
 loop-holds : tie.Need-loop-holds Inv-loop μ-loop
-loop-holds c = (omega arith, firsts-none _ _ _ _ _ refl)
+loop-holds c = (omega arith, firsts-none _ _ _ _ _ _ refl)
 
 mul-loop : tie.Need-mul-loop Inv-loop μ-loop
 mul-loop c = search needs
@@ -46,8 +47,8 @@ loop-again c =
     let l = at-loop .loop in
     let e = c .before .leaves .ensures in (
       omega arith,
-      ⊎-elim (λ w. rw (w .1, w .2) (first-put (a .protected .near) (a .protected .far) (a .from .now) (a .to .now) (l .arc) (l .count) (l .arcs) (l .inv .1) (omega arith) (sym e ∙ w .0 .taken)))
-          (λ w. rw (w .1, w .2) (other-left (a .protected .near) (a .protected .far) (a .from .now) (a .to .now) (l .arc) (l .count) (l .arcs) (l .inv .1) (sym e ∙ w .0 .left))) (c .if1 .came),
+      ⊎-elim (λ w. rw (w .1, w .2) (first-put (asked (a .protected)) (a .from .now) (a .to .now) (a .out .now) (a .back .now) (l .arc) (l .count) (l .arcs) (l .inv .1) (omega arith) (sym e ∙ w .0 .taken)))
+          (λ w. rw (w .1, w .2) (other-left (asked (a .protected)) (a .from .now) (a .to .now) (a .out .now) (a .back .now) (l .arc) (l .count) (l .arcs) (l .inv .1) (sym e ∙ w .0 .left))) (c .if1 .came),
     )
 
 returns : tie.Need-returns Inv-loop μ-loop

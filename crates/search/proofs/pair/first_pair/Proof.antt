@@ -20,7 +20,7 @@ returns : tie.Need-returns
 unfolding firstServing spaceFor
 returns c =
     let a = c .before .before .before .before .args in
-    let firsts = listed-hops _ _ _ _ _ _ (c .before .before .first-hops .ensures) (a .out .now) (a .back .now) in
+    let firsts = listed-hops _ _ _ _ _ _ _ _ (c .before .before .first-hops .ensures) in
     let extended = rw firsts at (c .before .extended-p .ensures (a .out .now) (a .back .now)) in
     rw (extended, firsts) at (c .search .ensures)
 

@@ -4,12 +4,12 @@ use Prim.Native.Nat.{ℕ, zero, suc}
 use mathlib.Core.Path.{_≡_, refl}
 use borrow.Author.Needs.{needs}
 use Rattle.lfa.specs.Network.{link}
-use Rattle.lfa.specs.Space.{protectedBy}
+use Rattle.lfa.specs.Space.{underMaintenance, protectedBy}
 use Rattle.search.proofs.protected.seen.Statement.{statement}
 use Rattle.search.proofs.protected.seen.Tie as tie
 
 -- an end that is not 0
-other-end : (l e a b ab ba : ℕ) → (e ≡ 0 → ⊥) → record { number = l; near = b; far = a; out = ba; back = ab } ≡ protectedBy l e (link a b ab ba)
+other-end : (l e a b ab ba : ℕ) → (e ≡ 0 → ⊥) → record { number = l; near = b; far = a; out = ba; back = ab; maintenance = underMaintenance } ≡ protectedBy underMaintenance l e (link a b ab ba)
 unfolding protectedBy
 other-end l zero a b ab ba h = absurd (h refl)
 other-end l (suc e) a b ab ba h = refl

@@ -31,7 +31,7 @@ passes c = sym (c .before .can-search .ensures) ∙ not-false _ (c .if1 .left)
 
 returns : tie.Need-returns
 unfolding spaceIf
-returns c = λ out back. rw (sym (c .before .can-search .ensures) ∙ not-true _ (c .if1 .taken))
+returns c = rw (sym (c .before .can-search .ensures) ∙ not-true _ (c .if1 .taken))
 
 enum-told : tie.Need-enum-told
 enum-told c = search needs
@@ -57,17 +57,17 @@ q-space-requires c κs = search needs
 
 returns-2 : tie.Need-returns-2
 unfolding spaceFor
-returns-2 c = λ out back. rw (c .before .enum-told .given .1) (searched pSpace _ _ _ _ (passes (c .before .before .before)) (c .avoiding-from .ensures))
+returns-2 c = rw (c .before .enum-told .given .1) (searched pSpace _ _ _ _ (passes (c .before .before .before)) (c .avoiding-from .ensures))
 
 returns-3 : tie.Need-returns-3
 unfolding spaceFor
-returns-3 c = λ out back.
-    let firsts = listed-hops _ _ _ _ _ _ (c .before .first-hops .ensures) out back in
-    rw (c .before .before .enum-told2 .given .1) (searched extendedP _ _ _ _ (passes (c .before .before .before .before)) (rw (← firsts) (c .extended-p .ensures out back)))
+returns-3 c =
+    let firsts = listed-hops _ _ _ _ _ _ _ _ (c .before .first-hops .ensures) in
+    rw (c .before .before .enum-told2 .given .1) (searched extendedP _ _ _ _ (passes (c .before .before .before .before)) (rw (← firsts) (c .extended-p .ensures _ _)))
 
 returns-4 : tie.Need-returns-4
 unfolding spaceFor
-returns-4 c = λ out back. rw (c .before .enum-told3 .given .1) (searched qSpace _ _ _ _ (passes (c .before .before .before)) (c .q-space .ensures))
+returns-4 c = rw (c .before .enum-told3 .given .1) (searched qSpace _ _ _ _ (passes (c .before .before .before)) (c .q-space .ensures))
 
 pub space-of-spec : {M : Type 1} → statement M
 space-of-spec =

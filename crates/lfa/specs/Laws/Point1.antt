@@ -1,0 +1,67 @@
+-- Point 1 holds: what a first hop is now and was before, and that nothing else changes. A question that a row before 14 turns away is turned
+-- away alike; of the others, `Laws/Maintenance.antt` compares what is searched for.
+-- Assumes nothing.
+use Prim.Native.Nat.{ℕ, _<_}
+use mathlib.Core.Path.{_≡_, refl, sym, ap, _∙_, subst}
+use mathlib.Core.Logic.{_↔_}
+use mathlib.Core.Option.{Option, none, some}
+use mathlib.Core.List.{List, [], _∷_, map}
+use native.Mathlib.Omega.{arith}
+use Rattle.lfa.specs.File.{byteAt}
+use Rattle.lfa.specs.Space.{underMaintenance, Protected, FirstHop, IsFirstHop}
+use Rattle.lfa.specs.Question.{Question, withoutMaintenance, LooksAtFirstHops, Buffer, workArea, routeBuffer, lent, HasInput, networkAsked, linkAsked}
+use Rattle.lfa.specs.Refusal.{Row, EarlyRow, early, Decided, earlyRows, tries, returned, fileRefusal, orLater, earlyRefusal, Posed}
+use Rattle.lfa.specs.Answer.{exitOf}
+use Rattle.lfa.specs.Demands.{Hops, IsNeighbour, SameReply, Point1}
+use Rattle.lfa.specs.Laws.Rows.{SameOn, nowhere, same-also, same-decides}
+use Rattle.lfa.specs.Laws.Causes.{early-numbers}
+use Rattle.lfa.specs.Laws.Asked.{posed-work}
+use Rattle.lfa.specs.Laws.HasThis.{sound}
+use Rattle.lfa.specs.Laws.Turned.{early-turned-away, early-posed}
+use Rattle.lfa.specs.Laws.Maintenance.{unlimited, asked-unlimited, limit-asked, reply-same, InService}
+
+module _ (q : Question) (at : q .maintenance ≡ underMaintenance) (bytes : (i : ℕ) → byteAt (q .file) i < 256) where
+  first-hop : (f : FirstHop) → IsFirstHop (Hops q) (linkAsked q) f ↔ (IsNeighbour q f × (f .cost < 65535))
+  first-hop f = (
+    λ is. ((is .joined, is .not-far), omega (arith, is .in-service, limit-asked q at)),
+    λ n. record { joined = n .0 .0; not-far = n .0 .1; in-service = omega (arith, n .1, limit-asked q at) },
+  )
+
+  -- no cost is above 65,535
+  before : Posed q → (f : FirstHop) → IsFirstHop (Hops q) (linkAsked (withoutMaintenance q)) f ↔ IsNeighbour q f
+  before p f = subst (λ (r : Protected). IsFirstHop (Hops q) r f ↔ IsNeighbour q f) (sym (asked-unlimited q at)) (unfold unlimited in
+      (λ is. (is .joined, is .not-far), λ n. record { joined = n .0; not-far = n .1; in-service = omega (arith, sound q p .capped (n .0)) }))
+
+  -- rows 1 to 13 do not look at first hops
+  same-on : (rows : List EarlyRow) → SameOn (returned (withoutMaintenance q)) (returned q) (map early rows)
+  unfolding returned withoutMaintenance
+  same-on [] = nowhere
+  same-on (r ∷ rows) = same-also (early-numbers _ _ _ q (q .call) (q .file) (q .choices) 65536 r) (same-on rows)
+
+  early-same : earlyRefusal (withoutMaintenance q) ≡ earlyRefusal q
+  unfolding earlyRefusal withoutMaintenance
+  early-same = ap (orLater (fileRefusal (q .file))) (same-decides (returned (withoutMaintenance q)) (returned q) (tries (q .call)) (same-on earlyRows))
+
+  -- turned away before the search, or posed
+  decided-early : (o : Option (Decided Row)) → earlyRefusal q ≡ o → (LooksAtFirstHops (q .call) → Posed q → InService q at) → SameReply q (withoutMaintenance q)
+  decided-early (some d) e small =
+      let t = early-turned-away q d e in
+      let u = early-turned-away (withoutMaintenance q) d (early-same ∙ e) in
+      record { answer = t .answered ∙ sym (u .answered); exit = λ x h lent. left x lent }
+    where
+      left : (x : Buffer) (held : List ℕ) → exitOf q x held ≡ exitOf (withoutMaintenance q) x held
+      left workArea held = early-turned-away q d e .area-left held ∙ sym (early-turned-away (withoutMaintenance q) d (early-same ∙ e) .area-left held)
+      left routeBuffer held = early-turned-away q d e .buffer-left held ∙ sym (early-turned-away (withoutMaintenance q) d (early-same ∙ e) .buffer-left held)
+  decided-early none e small = reply-same q at (λ looks. small looks (early-posed q bytes e))
+
+  -- the work area holds the distances of the same network, whatever is found
+  same-distances : HasInput q (lent workArea) → (area : List ℕ) → exitOf q workArea area ≡ exitOf (withoutMaintenance q) workArea area
+  unfolding networkAsked withoutMaintenance
+  same-distances h area = go (earlyRefusal q) refl
+    where
+      go : (o : Option (Decided Row)) → earlyRefusal q ≡ o → exitOf q workArea area ≡ exitOf (withoutMaintenance q) workArea area
+      go (some d) e = early-turned-away q d e .area-left area ∙ sym (early-turned-away (withoutMaintenance q) d (early-same ∙ e) .area-left area)
+      go none e = posed-work q (early-posed q bytes e) area ∙ sym (posed-work (withoutMaintenance q) (early-posed (withoutMaintenance q) bytes (early-same ∙ e)) area)
+
+  pub point-1 : Point1 q
+  point-1 = record { first-hop = first-hop; before = before; nothing-changes = λ small. decided-early (earlyRefusal q) refl small; same-distances = same-distances }
