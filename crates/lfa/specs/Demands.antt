@@ -17,7 +17,7 @@ use Rattle.lfa.specs.Walk.{Crosses, Arrives}
 use Rattle.lfa.specs.Space.{underMaintenance, FirstHop, IsFirstHop, Space, has, sizeOf, Member}
 use Rattle.lfa.specs.Repair.{Pair, IsPair, Told, Tells, Keys, First, MayCross}
 use Rattle.lfa.specs.Route.{AreOptions, options, NamedRoute}
-use Rattle.lfa.specs.Question.{Question, Call, load, fill, linkRepair, prefixRepair, route, space, loading, toPrefixRepair, withoutMaintenance, LooksAtFirstHops, Buffer, workArea, routeBuffer, aPrefix, lent, HasInput, networkAsked, linkAsked, prefixAsked}
+use Rattle.lfa.specs.Question.{Question, Call, load, fill, linkRepair, prefixRepair, route, space, loading, filling, askSpace, askLink, askPrefix, askRoute, toPrefixRepair, withoutMaintenance, LooksAtFirstHops, Buffer, workArea, routeBuffer, aPrefix, lent, HasInput, networkAsked, linkAsked, prefixAsked}
 use Rattle.lfa.specs.Refusal.{Row, noPair, Applies, entryOf, rowsTried, Decides, Accepted, Posed}
 use Rattle.lfa.specs.Answer.{Answer, refused, accepted, done, untouched, unreached, set, repair, played, answerTo, leave, writtenTo, exitOf, networkLoaded, linkPart, prefixPart}
 
@@ -181,6 +181,12 @@ pub record SameReply (q other : Question) : Type 0 where
   pub answer : answerTo q ≡ answerTo other
   pub exit : (x : Buffer) → HasInput q (lent x) → (before : List ℕ) → exitOf q x before ≡ exitOf other x before
 
+-- "below 65,535": at every call a link is under maintenance at a cost of 65,535
+abbrev pub PutAt65535 : Type 0
+PutAt65535 =
+    (b : Bytes) (area buffer l e p : ℕ) (choices : List ℕ) (s : Space) (q : Question) →
+    List·Memᴰ q (loading b ∷ filling b area ∷ askSpace s b area l e ∷ askLink b area l e ∷ askPrefix b area l e p ∷ askRoute b area buffer l e p choices ∷ []) → q .maintenance ≡ 65535
+
 pub record Point1 (q : Question) : Type 0 where
   -- a first hop now, and before
   pub first-hop : (f : FirstHop) → IsFirstHop (Hops q) (linkAsked q) f ↔ (IsNeighbour q f × (f .cost < 65535))
@@ -196,6 +202,7 @@ pub record Demands : Type 0 where
   pub demand-1 : Demand1
   pub demand-2 : (q : Question) → Posed q → Demand2 q
   pub demand-3 : (q : Question) → Posed q → Demand3 q (answerTo q)
+  pub put-at-65535 : PutAt65535
   pub point-1 : (q : Question) → q .maintenance ≡ underMaintenance → ((i : ℕ) → byteAt (q .file) i < 256) → Point1 q
   -- of a file of bytes, that is what `Posed` means
   pub posed-when : (q : Question) → ((i : ℕ) → byteAt (q .file) i < 256) →

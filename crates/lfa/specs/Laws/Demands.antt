@@ -22,7 +22,7 @@ use Rattle.lfa.specs.Laws.Demand1.{the-demand-1}
 use Rattle.lfa.specs.Laws.HasThis.{sound, least-costs, named, has-this, serves-it, first-repair, repaired, crossing-searched}
 use Rattle.lfa.specs.Laws.Replies.{computes, link-answer, link-has-link, link-meaning, prefix-has-link, prefix-meaning, Tells, prefix-tells, has-buffer, space-has-link, prefix-has-prefix, route-has-prefix, nothing-written, prefix-tells-same, pair-found, played-named}
 use Rattle.lfa.specs.Laws.Options.{are-options}
-use Rattle.lfa.specs.Laws.Point1.{point-1}
+use Rattle.lfa.specs.Laws.Point1.{put-at-65535, point-1}
 use Rattle.lfa.specs.Laws.PosedWhen.{posed-when}
 
 -- ---- demand 2
@@ -91,4 +91,4 @@ the-demand-3 q p = record {
 -- ---- the demands
 
 pub demands : Demands
-demands = record { demand-1 = the-demand-1; demand-2 = the-demand-2; demand-3 = the-demand-3; point-1 = point-1; posed-when = posed-when }
+demands = record { demand-1 = the-demand-1; demand-2 = the-demand-2; demand-3 = the-demand-3; put-at-65535 = put-at-65535; point-1 = point-1; posed-when = posed-when }

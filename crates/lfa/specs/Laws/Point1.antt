@@ -3,22 +3,35 @@
 -- Assumes nothing.
 use Prim.Native.Nat.{ℕ, _<_}
 use mathlib.Core.Path.{_≡_, refl, sym, ap, _∙_, subst}
-use mathlib.Core.Logic.{_↔_}
+use mathlib.Core.Logic.{_⊎_, inl, inr, _↔_}
 use mathlib.Core.Option.{Option, none, some}
-use mathlib.Core.List.{List, [], _∷_, map}
+use mathlib.Core.List.{List, [], _∷_, map, List·Memᴰ, List·Memᴰ·cases-cons, List·Memᴰ·not-nil}
 use native.Mathlib.Omega.{arith}
 use Rattle.lfa.specs.File.{byteAt}
 use Rattle.lfa.specs.Space.{underMaintenance, Protected, FirstHop, IsFirstHop}
-use Rattle.lfa.specs.Question.{Question, withoutMaintenance, LooksAtFirstHops, Buffer, workArea, routeBuffer, lent, HasInput, networkAsked, linkAsked}
+use Rattle.lfa.specs.Question.{Question, loading, filling, askSpace, askLink, askPrefix, askRoute, withoutMaintenance, LooksAtFirstHops, Buffer, workArea, routeBuffer, lent, HasInput, networkAsked, linkAsked}
 use Rattle.lfa.specs.Refusal.{Row, EarlyRow, early, Decided, earlyRows, tries, returned, fileRefusal, orLater, earlyRefusal, Posed}
 use Rattle.lfa.specs.Answer.{exitOf}
-use Rattle.lfa.specs.Demands.{Hops, IsNeighbour, SameReply, Point1}
+use Rattle.lfa.specs.Demands.{Hops, IsNeighbour, PutAt65535, SameReply, Point1}
 use Rattle.lfa.specs.Laws.Rows.{SameOn, nowhere, same-also, same-decides}
 use Rattle.lfa.specs.Laws.Causes.{early-numbers}
 use Rattle.lfa.specs.Laws.Asked.{posed-work}
 use Rattle.lfa.specs.Laws.HasThis.{sound}
 use Rattle.lfa.specs.Laws.Turned.{early-turned-away, early-posed}
 use Rattle.lfa.specs.Laws.Maintenance.{unlimited, asked-unlimited, limit-asked, reply-same, InService}
+
+-- of a list of questions that all are put at 65,535, one more at its head
+one-more : {q head : Question} {rest : List Question} → head .maintenance ≡ 65535 → (List·Memᴰ q rest → q .maintenance ≡ 65535) → List·Memᴰ q (head ∷ rest) → q .maintenance ≡ 65535
+one-more {q} {head} {rest} at others member = either (List·Memᴰ·cases-cons member)
+  where
+    either : (q ≡ head) ⊎ List·Memᴰ q rest → q .maintenance ≡ 65535
+    either (inl e) = rw (e) at
+    either (inr m) = others m
+
+pub put-at-65535 : PutAt65535
+unfolding loading filling askSpace askLink askPrefix askRoute
+put-at-65535 b area buffer l e p choices s q =
+    one-more refl (one-more refl (one-more refl (one-more refl (one-more refl (one-more refl (λ n. absurd (List·Memᴰ·not-nil n)))))))
 
 module _ (q : Question) (at : q .maintenance ≡ underMaintenance) (bytes : (i : ℕ) → byteAt (q .file) i < 256) where
   first-hop : (f : FirstHop) → IsFirstHop (Hops q) (linkAsked q) f ↔ (IsNeighbour q f × (f .cost < 65535))

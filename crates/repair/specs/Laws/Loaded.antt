@@ -1,11 +1,10 @@
 -- What the repair part knows of a file from the file part's answer: its refusal turns every question away, and the network of an
 -- accepted file is within the limits and stands in the columns.
 -- Assumes nothing.
-use Prim.Native.Nat.{ℕ, _-_, _*_, _≤_, _<_}
+use Prim.Native.Nat.{ℕ, _-_, _<_}
 use mathlib.Core.Path.{_≡_, refl, sym, ap, _∙_}
 use mathlib.Core.List.{List, map}
 use native.Mathlib.Omega.{arith}
-use native.Mathlib.Nat.{mul-le-mul}
 use lib.ListN.{length, getD, replicate, length-map, List·getD-append}
 use Rattle.lfa.specs.Network.{Link, link, Network}
 use Rattle.lfa.specs.File.{Bytes, byteAt, routersOf, linksOf, prefixesOf, networkOf}
@@ -93,7 +92,3 @@ module _ {b : Bytes} {network : struct.Network} (t : Taken b network) where
   pub prefixes-are : network .prefixes ≡ prefixesOf b
   unfolding structOf
   prefixes-are = ap (λ (n : struct.Network). n .prefixes) (t .network-is) ∙ prefix-count b (t .is-accepted)
-
-  -- N × N cells are few
-  pub few-cells : network .routers * network .routers ≤ 4096
-  few-cells = let h : network .routers ≤ 64 = columns-within .few-routers in mul-le-mul h h
