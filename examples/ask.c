@@ -14,6 +14,9 @@ static uint8_t file[6657];
 /* Enough for the distances of 64 routers. */
 static uint32_t work[64 * 64];
 
+/* The rank of each class, 0 to 3: the lower class is preferred. With 2, 3, 0, 1 tunnels would be. */
+static const uint8_t ranks[] = {0, 1, 2, 3};
+
 int main(int count, char **words) {
     if (count != 2) {
         fputs("usage: ask FILE\n", stderr);
@@ -31,7 +34,7 @@ int main(int count, char **words) {
         fprintf(stderr, "%s cannot be read\n", words[1]);
         return 2;
     }
-    planner_answer answer = planner_link_repair(file, length, work, sizeof work / sizeof work[0], 0, 0);
+    planner_answer answer = planner_link_repair(file, length, work, sizeof work / sizeof work[0], ranks, sizeof ranks, 0, 0);
     if (answer.kind != PLANNER_PAIR) {
         printf("refused %" PRIu32 " %" PRIu64 "\n", answer.number, answer.value);
         return 1;

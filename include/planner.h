@@ -9,6 +9,10 @@
  * - `work` is the work area. Where the file has N routers, the first N * N cells receive the distances, row by row: cell x * N + t is
  *   the distance from router x to router t, and 4294967295 where no path leads. The cells after them stay as they were. N is at most
  *   64, so that 4096 cells are enough for every file, and 128 bytes for `route`.
+ * - `ranks` says which classes of pairs are preferred, and is never changed: cell c is the rank of class c, and of the pairs that serve
+ *   the one whose class has the lowest rank comes first. It holds 0, 1, 2 and 3 once each, in any order, so that `ranks_len` is 4. The
+ *   cells 0, 1, 2, 3 prefer the lower class, as `plan` does; 2, 3, 0, 1 prefer tunnels. Which questions row 14 refuses does not depend
+ *   on the ranks, and the answer tells the class, not its rank.
  * - `link` is the number of a link in file order, `end` is 0 where its first router is S and 1 where its second is, and `prefix` is the
  *   number of a prefix in file order.
  *
@@ -30,19 +34,28 @@
  *   9       prefix: two of its attachments name the same router                                      the first such prefix
  *   10      `work` has fewer than N * N cells                                                        N * N
  *   11      `route` has fewer than 2 * N bytes                                                       2 * N
+ *   15      `ranks` does not hold 0, 1, 2 and 3 once each: too few or many cells, a rank over 3, or  0
+ *           one that stands twice
  *   12      `link` is not below the number of links, or `end` is above 1                             the number of links
  *   13      `prefix` is not below the number of prefixes                                             the number of prefixes
  *   14      there is no repair: no pair of first hop and endpoint serves; a neighbour to which the   0
  *           link costs 65,535 from S (under maintenance) is no first hop
  *
- * A call that is refused by one of the rows 1 to 13 leaves every cell of every buffer as it was. Row 14 leaves the distances in the
- * work area, and `route` as it was. docs/SPECIFICATION.md has an example of each row (Refusals), and says what S, E and the spaces are
+ * A call that is refused by any row but 14 leaves every cell of every buffer as it was. Row 14 leaves the distances in the work area,
+ * and `route` as it was. docs/SPECIFICATION.md has an example of each row (Refusals), and says what S, E and the spaces are
  * (Spaces), what a pair, its class and its tunnel cost are (Repairs), and how a route is played (Routes). */
 #ifndef PLANNER_H
 #define PLANNER_H
 
 #include <stddef.h>
 #include <stdint.h>
+
+/* The version of this interface. It is one higher wherever a program has to be changed to fit.
+ *
+ *   2   planner_link_repair, planner_prefix_repair and planner_route take `ranks` and `ranks_len` after `work_len`, and may be refused
+ *       by row 15. With the ranks 0, 1, 2, 3 they answer as before.
+ *   1   had no number: the three calls took no ranks. */
+#define PLANNER_VERSION 2
 
 #ifdef __cplusplus
 extern "C" {
@@ -63,7 +76,7 @@ enum {
 /* An answer. A field of which its kind does not speak is 0. */
 typedef struct {
     uint32_t kind;
-    uint32_t number;     /* the row of the table above, 1 to 14 */
+    uint32_t number;     /* the row of the table above, 1 to 15 */
     uint64_t value;      /* the value of a refusal, a set, or a number of routers */
     size_t first;        /* the first hop */
     size_t endpoint;     /* the tunnel's endpoint */
@@ -112,21 +125,23 @@ planner_answer planner_q_space(const uint8_t *file, size_t file_len, uint32_t *w
 /* The number of routers in a set. */
 uint32_t planner_size(uint64_t set);
 
-/* The pair that repairs a link, around it, to its far router: PLANNER_PAIR, or a refusal by rows 1 to 10, 12 or 14. Leaves the
+/* The pair that repairs a link, around it, to its far router: PLANNER_PAIR, or a refusal by rows 1 to 10, 15, 12 or 14. Leaves the
  * distances in the work area, where row 14 refuses too. */
-planner_answer planner_link_repair(const uint8_t *file, size_t file_len, uint32_t *work, size_t work_len, size_t link, size_t end);
+planner_answer planner_link_repair(const uint8_t *file, size_t file_len, uint32_t *work, size_t work_len, const uint8_t *ranks,
+                                   size_t ranks_len, size_t link, size_t end);
 
 /* The pair that repairs the traffic from S to a prefix: PLANNER_PAIR, PLANNER_UNREACHABLE, PLANNER_UNTOUCHED, or a refusal by rows 1
- * to 10, 12, 13 or 14. Leaves the distances in the work area, where row 14 refuses too. */
-planner_answer planner_prefix_repair(const uint8_t *file, size_t file_len, uint32_t *work, size_t work_len, size_t link, size_t end,
-                                     size_t prefix);
+ * to 10, 15, 12, 13 or 14. Leaves the distances in the work area, where row 14 refuses too. */
+planner_answer planner_prefix_repair(const uint8_t *file, size_t file_len, uint32_t *work, size_t work_len, const uint8_t *ranks,
+                                     size_t ranks_len, size_t link, size_t end, size_t prefix);
 
 /* Plays the route of a packet from S to a prefix by the pair that repairs it: PLANNER_PLAYED, PLANNER_UNREACHABLE, PLANNER_UNTOUCHED,
- * or a refusal by rows 1 to 14. The bytes at `choices` decide between options, and are 0 after the last. Writes the routers that the
+ * or a refusal by any row. The bytes at `choices` decide between options, and are 0 after the last. Writes the routers that the
  * packet visits, S first, into `route`, and leaves the bytes after them as they were; only PLANNER_PLAYED writes there. Leaves the
  * distances in the work area, where row 14 refuses too. */
-planner_answer planner_route(const uint8_t *file, size_t file_len, uint32_t *work, size_t work_len, size_t link, size_t end,
-                             size_t prefix, const uint8_t *choices, size_t choices_len, uint8_t *route, size_t route_len);
+planner_answer planner_route(const uint8_t *file, size_t file_len, uint32_t *work, size_t work_len, const uint8_t *ranks,
+                             size_t ranks_len, size_t link, size_t end, size_t prefix, const uint8_t *choices, size_t choices_len,
+                             uint8_t *route, size_t route_len);
 
 #ifdef __cplusplus
 }

@@ -3,9 +3,14 @@
 use crate::answer::{Answer, Space, PAIR};
 use crate::plan;
 use crate::side::Side;
+use planner::ASCENDING_RANKS;
 
 /// Cells and bytes after those that a call may write: they have to stay.
 const GUARD: usize = 3;
+
+/// The ranks that repairs are asked for with: those of links with both tables,
+/// those of prefixes with the first where the prefix number is even.
+const RANKS: [[u8; 4]; 2] = [ASCENDING_RANKS, [2, 3, 1, 0]];
 
 /// The choices that each route is played with.
 fn choice_strings() -> Vec<Vec<u8>> {
@@ -108,11 +113,13 @@ impl Comparison<'_> {
                 |lent| B::space(space, file, &mut lent.work, link, end),
             )?;
         }
-        self.ask(
-            || format!("repair of link {link}, end {end}"),
-            |lent| A::link_repair(file, &mut lent.work, link, end),
-            |lent| B::link_repair(file, &mut lent.work, link, end),
-        )?;
+        for ranks in RANKS {
+            self.ask(
+                || format!("repair of link {link}, end {end}, ranks {ranks:?}"),
+                |lent| A::link_repair(file, &mut lent.work, &ranks, link, end),
+                |lent| B::link_repair(file, &mut lent.work, &ranks, link, end),
+            )?;
+        }
         Ok(())
     }
 
@@ -126,18 +133,19 @@ impl Comparison<'_> {
     ) -> Result<(), String> {
         let file = self.file;
         let question = (link, end, prefix);
+        let ranks = RANKS[prefix % RANKS.len()];
         let answer = self.ask(
-            || format!("repair of prefix {prefix} at link {link}, end {end}"),
-            |lent| A::prefix_repair(file, &mut lent.work, link, end, prefix),
-            |lent| B::prefix_repair(file, &mut lent.work, link, end, prefix),
+            || format!("repair of prefix {prefix} at link {link}, end {end}, ranks {ranks:?}"),
+            |lent| A::prefix_repair(file, &mut lent.work, &ranks, link, end, prefix),
+            |lent| B::prefix_repair(file, &mut lent.work, &ranks, link, end, prefix),
         )?;
         let strings = choice_strings();
         let played = if answer.kind == PAIR { strings.len() } else { 1 };
         for choices in &strings[..played] {
             self.ask(
-                || format!("route to prefix {prefix} at link {link}, end {end}, {choices:?}"),
-                |lent| A::route(file, &mut lent.work, question, choices, &mut lent.route),
-                |lent| B::route(file, &mut lent.work, question, choices, &mut lent.route),
+                || format!("route of {question:?}, ranks {ranks:?}, choices {choices:?}"),
+                |lent| A::route(file, &mut lent.work, &ranks, question, choices, &mut lent.route),
+                |lent| B::route(file, &mut lent.work, &ranks, question, choices, &mut lent.route),
             )?;
         }
         Ok(())

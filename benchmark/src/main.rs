@@ -9,6 +9,7 @@ use benchmark::plan;
 use benchmark::planner::Planner;
 use benchmark::side::Side;
 use benchmark::timing::{measure, Times};
+use planner::ASCENDING_RANKS;
 use std::hint::black_box;
 
 /// Samples of each side for a short call, and for a whole plan.
@@ -79,7 +80,8 @@ fn longest_route(file: &[u8]) -> (usize, usize, usize) {
     for link in 0..network.links {
         for (end, prefix) in (0..network.prefixes).flat_map(|prefix| [(0, prefix), (1, prefix)]) {
             let question = (link, end, prefix);
-            let answer = Baseline::route(file, &mut work, question, &[], &mut route);
+            let ranks = &ASCENDING_RANKS;
+            let answer = Baseline::route(file, &mut work, ranks, question, &[], &mut route);
             if answer.kind == PLAYED && answer.value > longest.0 {
                 longest = (answer.value, question);
             }
@@ -115,7 +117,8 @@ fn time_distances(file: &[u8]) -> Times {
 fn time_link_repair(file: &[u8], link: usize, end: usize) -> Times {
     fn call<S: Side>(file: &[u8], work: &mut [u32], link: usize, end: usize) {
         let (link, end) = black_box((link, end));
-        black_box(S::link_repair(black_box(file), black_box(work), link, end));
+        let ranks = black_box(&ASCENDING_RANKS);
+        black_box(S::link_repair(black_box(file), black_box(work), ranks, link, end));
     }
     let (mut one, mut other) = (vec![0; 64 * 64], vec![0; 64 * 64]);
     measure(
@@ -128,7 +131,8 @@ fn time_link_repair(file: &[u8], link: usize, end: usize) -> Times {
 fn time_prefix_repair(file: &[u8], question: (usize, usize, usize)) -> Times {
     fn call<S: Side>(file: &[u8], work: &mut [u32], question: (usize, usize, usize)) {
         let (link, end, prefix) = black_box(question);
-        black_box(S::prefix_repair(black_box(file), black_box(work), link, end, prefix));
+        let ranks = black_box(&ASCENDING_RANKS);
+        black_box(S::prefix_repair(black_box(file), black_box(work), ranks, link, end, prefix));
     }
     let (mut one, mut other) = (vec![0; 64 * 64], vec![0; 64 * 64]);
     measure(
@@ -144,8 +148,9 @@ fn time_route(file: &[u8], question: (usize, usize, usize)) -> Times {
         (work, route): &mut (Vec<u32>, [u8; 128]),
         question: (usize, usize, usize),
     ) {
-        let (question, choices) = black_box((question, &[][..]));
-        black_box(S::route(black_box(file), black_box(work), question, choices, black_box(route)));
+        let (ranks, question, choices) = black_box((&ASCENDING_RANKS, question, &[][..]));
+        let (file, work, route) = black_box((file, work, route));
+        black_box(S::route(file, work, ranks, question, choices, route));
     }
     let mut one = (vec![0; 64 * 64], [0; 128]);
     let mut other = one.clone();

@@ -1,9 +1,10 @@
 //! The whole plan, put together from the calls of one side in the way of the
 //! program `plan`: one load, and a link repair for each link and end, each of
-//! which reads the file and fills the distances anew.
+//! which reads the file and fills the distances anew. The ranks ascend.
 
 use crate::answer::{Answer, PAIR, REFUSED};
 use crate::side::Side;
+use planner::ASCENDING_RANKS;
 
 /// Adds the text of a file's plan.
 pub fn write<S: Side>(file: &[u8], work: &mut [u32], text: &mut Vec<u8>) {
@@ -23,7 +24,7 @@ pub fn write<S: Side>(file: &[u8], work: &mut [u32], text: &mut Vec<u8>) {
                 text.push(b' ');
                 digits(text, field);
             }
-            repair(text, &S::link_repair(file, work, link, end as usize));
+            repair(text, &S::link_repair(file, work, &ASCENDING_RANKS, link, end as usize));
         }
     }
 }

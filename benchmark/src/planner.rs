@@ -8,8 +8,8 @@ use planner::raw;
 pub struct Planner;
 
 // Every call below is sound for the same reason: a slice lends a pointer and
-// its length for the time of the call, Rust's borrows do not overlap, and the
-// structs are those of `planner::raw`.
+// its length for the time of the call, the slices that this program lends do not
+// overlap, and the structs are those of `planner::raw`.
 impl Side for Planner {
     const NAME: &'static str = "planner";
 
@@ -33,27 +33,48 @@ impl Side for Planner {
         }
     }
 
-    fn link_repair(file: &[u8], work: &mut [u32], link: usize, end: usize) -> Answer {
-        let (cells, count) = (work.as_mut_ptr(), work.len());
-        unsafe { raw::planner_link_repair(file.as_ptr(), file.len(), cells, count, link, end) }
+    fn link_repair(file: &[u8], work: &mut [u32], ranks: &[u8], link: usize, end: usize) -> Answer {
+        unsafe {
+            raw::planner_link_repair(
+                file.as_ptr(),
+                file.len(),
+                work.as_mut_ptr(),
+                work.len(),
+                ranks.as_ptr(),
+                ranks.len(),
+                link,
+                end,
+            )
+        }
     }
 
     fn prefix_repair(
         file: &[u8],
         work: &mut [u32],
+        ranks: &[u8],
         link: usize,
         end: usize,
         prefix: usize,
     ) -> Answer {
-        let (cells, count) = (work.as_mut_ptr(), work.len());
         unsafe {
-            raw::planner_prefix_repair(file.as_ptr(), file.len(), cells, count, link, end, prefix)
+            raw::planner_prefix_repair(
+                file.as_ptr(),
+                file.len(),
+                work.as_mut_ptr(),
+                work.len(),
+                ranks.as_ptr(),
+                ranks.len(),
+                link,
+                end,
+                prefix,
+            )
         }
     }
 
     fn route(
         file: &[u8],
         work: &mut [u32],
+        ranks: &[u8],
         (link, end, prefix): (usize, usize, usize),
         choices: &[u8],
         route: &mut [u8],
@@ -64,6 +85,8 @@ impl Side for Planner {
                 file.len(),
                 work.as_mut_ptr(),
                 work.len(),
+                ranks.as_ptr(),
+                ranks.len(),
                 link,
                 end,
                 prefix,

@@ -12,11 +12,12 @@ pub trait Side {
 
     fn space(space: Space, file: &[u8], work: &mut [u32], link: usize, end: usize) -> Answer;
 
-    fn link_repair(file: &[u8], work: &mut [u32], link: usize, end: usize) -> Answer;
+    fn link_repair(file: &[u8], work: &mut [u32], ranks: &[u8], link: usize, end: usize) -> Answer;
 
     fn prefix_repair(
         file: &[u8],
         work: &mut [u32],
+        ranks: &[u8],
         link: usize,
         end: usize,
         prefix: usize,
@@ -25,6 +26,7 @@ pub trait Side {
     fn route(
         file: &[u8],
         work: &mut [u32],
+        ranks: &[u8],
         question: (usize, usize, usize),
         choices: &[u8],
         route: &mut [u8],

@@ -102,15 +102,15 @@ fn agrees(file: &[u8], question: &Question, lent: &Buffers, expected: &Outcome) 
             };
             Baseline::space(space, file, work, number(link), number(end))
         }
-        Question::LinkRepair { link, end } => {
-            Baseline::link_repair(file, work, number(link), number(end))
+        Question::LinkRepair { ranks, link, end } => {
+            Baseline::link_repair(file, work, ranks, number(link), number(end))
         }
-        Question::PrefixRepair { link, end, prefix } => {
-            Baseline::prefix_repair(file, work, number(link), number(end), number(prefix))
+        Question::PrefixRepair { ranks, link, end, prefix } => {
+            Baseline::prefix_repair(file, work, ranks, number(link), number(end), number(prefix))
         }
-        Question::Route { link, end, prefix, choices } => {
+        Question::Route { ranks, link, end, prefix, choices } => {
             let question = (number(link), number(end), number(prefix));
-            Baseline::route(file, work, question, choices, &mut left.route)
+            Baseline::route(file, work, ranks, question, choices, &mut left.route)
         }
     };
     told(answer) == expected.answer && left == expected.left
@@ -158,6 +158,26 @@ fn random_networks_have_the_same_outcomes() {
                 let expected = opened.ask(&question, &lent);
                 assert!(agrees(&file, &question, &lent, &expected), "{family:?}: {question:?}");
             }
+        }
+    }
+}
+
+/// Every wrong table, in each call that takes ranks.
+#[test]
+fn wrong_ranks_have_the_same_outcomes() {
+    let (sound, file) = (Context::sound(), oracle::file::write(&oracle::worked::four_classes()));
+    let opened = Opened::new(&sound, &file);
+    let lent = corpus::marked(17, 9);
+    for ranks in oracle::ranks::wrong_tables() {
+        for question in [
+            Question::link_repair(0, 0),
+            Question::prefix_repair(0, 0, 0),
+            Question::route(0, 0, 0, &[]),
+        ] {
+            let question = question.with_ranks(&ranks);
+            let expected = opened.ask(&question, &lent);
+            assert_eq!(expected.answer, Expected::Refused { number: 15, value: 0 });
+            assert!(agrees(&file, &question, &lent, &expected), "{question:?}");
         }
     }
 }

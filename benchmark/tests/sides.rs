@@ -7,6 +7,7 @@ use benchmark::compare::compare;
 use benchmark::networks;
 use benchmark::planner::Planner;
 use benchmark::side::Side;
+use planner::ASCENDING_RANKS;
 
 #[test]
 fn the_networks_have_their_sizes() {
@@ -51,8 +52,11 @@ fn most_links_have_a_repair() {
     for network in networks::all() {
         let links = Baseline::load(&network.file).links;
         let mut work = vec![0; 64 * 64];
-        let mut pair =
-            |link, end| Baseline::link_repair(&network.file, &mut work, link, end).kind == PAIR;
+        let mut pair = |link, end| {
+            let answer =
+                Baseline::link_repair(&network.file, &mut work, &ASCENDING_RANKS, link, end);
+            answer.kind == PAIR
+        };
         let pairs = (0..links).map(|link| [0, 1].map(|end| usize::from(pair(link, end))));
         let pairs: usize = pairs.flatten().sum();
         assert!(pairs > links, "{}: {pairs} of {}", network.name, 2 * links);

@@ -31,6 +31,17 @@ fn enough_cells(network: &Network, work: &[u32]) -> Result<(), Refusal> {
     Ok(())
 }
 
+/// Row 15, and the ranks as a table that every class has a place in.
+fn arranged(ranks: &[u8]) -> Result<[u8; 4], Refusal> {
+    let ranks: [u8; 4] = ranks.try_into().map_err(|_| Refusal::new(15, 0))?;
+    let seen =
+        ranks.iter().fold(0, |seen, rank| seen | 1u32.checked_shl((*rank).into()).unwrap_or(0));
+    if seen != 0b1111 {
+        return Err(Refusal::new(15, 0));
+    }
+    Ok(ranks)
+}
+
 /// Row 12.
 fn named(network: &Network, link: usize, end: usize) -> Result<(), Refusal> {
     if link >= network.links || end > 1 {
@@ -76,36 +87,44 @@ fn space(
     Ok(answer::with_value(SET, search::space(space, &graph, work, &protected)))
 }
 
-fn link_repair(file: &[u8], work: &mut [u32], link: usize, end: usize) -> Result<Answer, Refusal> {
+fn link_repair(
+    file: &[u8],
+    work: &mut [u32],
+    ranks: &[u8],
+    link: usize,
+    end: usize,
+) -> Result<Answer, Refusal> {
     let network = opened(file)?;
     enough_cells(&network, work)?;
+    let ranks = arranged(ranks)?;
     named(&network, link, end)?;
     let graph = filled(&network, work);
     let protected = search::Protected::of(&network, link, end);
     let target = Target::router(&graph, work, protected.far);
-    search::first_pair(&graph, work, &protected, &target)
+    search::first_pair(&graph, work, &ranks, &protected, &target)
 }
 
 fn prefix_repair(
     file: &[u8],
     work: &mut [u32],
-    link: usize,
-    end: usize,
-    prefix: usize,
+    ranks: &[u8],
+    (link, end, prefix): (usize, usize, usize),
 ) -> Result<Answer, Refusal> {
     let network = opened(file)?;
     enough_cells(&network, work)?;
+    let ranks = arranged(ranks)?;
     named(&network, link, end)?;
     numbered(&network, prefix)?;
     let graph = filled(&network, work);
     let protected = search::Protected::of(&network, link, end);
     let target = Target::prefix(&network, &graph, work, prefix);
-    search::repair(&graph, work, &protected, &target)
+    search::repair(&graph, work, &ranks, &protected, &target)
 }
 
 fn route(
     file: &[u8],
     work: &mut [u32],
+    ranks: &[u8],
     (link, end, prefix): (usize, usize, usize),
     choices: &[u8],
     buffer: &mut [u8],
@@ -115,12 +134,13 @@ fn route(
     if buffer.len() < 2 * network.routers {
         return Err(Refusal::new(11, 2 * network.routers));
     }
+    let ranks = arranged(ranks)?;
     named(&network, link, end)?;
     numbered(&network, prefix)?;
     let graph = filled(&network, work);
     let protected = search::Protected::of(&network, link, end);
     let target = Target::prefix(&network, &graph, work, prefix);
-    let answer = search::repair(&graph, work, &protected, &target)?;
+    let answer = search::repair(&graph, work, &ranks, &protected, &target)?;
     Ok(route::play(&graph, work, protected.near, &answer, &target, choices, buffer))
 }
 
@@ -148,27 +168,29 @@ impl Side for Baseline {
         told(space(which, file, work, link, end))
     }
 
-    fn link_repair(file: &[u8], work: &mut [u32], link: usize, end: usize) -> Answer {
-        told(link_repair(file, work, link, end))
+    fn link_repair(file: &[u8], work: &mut [u32], ranks: &[u8], link: usize, end: usize) -> Answer {
+        told(link_repair(file, work, ranks, link, end))
     }
 
     fn prefix_repair(
         file: &[u8],
         work: &mut [u32],
+        ranks: &[u8],
         link: usize,
         end: usize,
         prefix: usize,
     ) -> Answer {
-        told(prefix_repair(file, work, link, end, prefix))
+        told(prefix_repair(file, work, ranks, (link, end, prefix)))
     }
 
     fn route(
         file: &[u8],
         work: &mut [u32],
+        ranks: &[u8],
         question: (usize, usize, usize),
         choices: &[u8],
         buffer: &mut [u8],
     ) -> Answer {
-        told(route(file, work, question, choices, buffer))
+        told(route(file, work, ranks, question, choices, buffer))
     }
 }

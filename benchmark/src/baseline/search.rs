@@ -132,6 +132,7 @@ pub fn space(space: Space, graph: &Graph, work: &[u32], link: &Protected) -> u64
 pub fn repair(
     graph: &Graph,
     work: &[u32],
+    ranks: &[u8; 4],
     link: &Protected,
     target: &Target,
 ) -> Result<Answer, Refusal> {
@@ -142,15 +143,16 @@ pub fn repair(
     if link.out.wrapping_add(target.to[link.far & 63]) != own {
         return Ok(answer::of(UNTOUCHED));
     }
-    first_pair(graph, work, link, target)
+    first_pair(graph, work, ranks, link, target)
 }
 
 /// The first of the pairs that serve a target. The five keys of a pair fit
-/// one number of 64 bits: the class above the distance (22 bits), the endpoint
-/// (6), the tunnel cost (23) and the first hop (6).
+/// one number of 64 bits: the rank of its class above the distance (22 bits), the
+/// endpoint (6), the tunnel cost (23) and the first hop (6).
 pub fn first_pair(
     graph: &Graph,
     work: &[u32],
+    ranks: &[u8; 4],
     link: &Protected,
     target: &Target,
 ) -> Result<Answer, Refusal> {
@@ -165,27 +167,29 @@ pub fn first_pair(
             let y = rest.trailing_zeros() as usize;
             rest &= rest - 1;
             let nearer = target.to[y & 63] < target.to[link.near & 63];
-            let class = 2 * u64::from(y != hop) + u64::from(!nearer);
+            let class = 2 * usize::from(y != hop) + usize::from(!nearer);
+            let rank = u64::from(ranks[class & 3]);
             let cost = u64::from(arc.cost() + own[y]);
-            let order = class << 28 | u64::from(from_near[y]) << 6 | y as u64;
+            let order = rank << 28 | u64::from(from_near[y]) << 6 | y as u64;
             best = best.min(order << 29 | cost << 6 | hop as u64);
         }
     }
-    pair_of(best)
+    pair_of(best, ranks)
 }
 
 /// The answer that the least number of `first_pair` stands for.
-fn pair_of(best: u64) -> Result<Answer, Refusal> {
+fn pair_of(best: u64, ranks: &[u8; 4]) -> Result<Answer, Refusal> {
     if best == u64::MAX {
         return Err(Refusal::new(14, 0));
     }
+    let class = ranks.iter().position(|rank| u64::from(*rank) == best >> 57);
     Ok(Answer {
         kind: PAIR,
         number: 0,
         value: 0,
         first: best as usize & 63,
         endpoint: (best >> 29) as usize & 63,
-        pair_class: (best >> 57) as u32,
+        pair_class: class.unwrap_or(0) as u32,
         cost: (best >> 6) as u32 & 0x7f_ffff,
     })
 }

@@ -8,23 +8,24 @@ ghost use Rattle.repair.specs.Answer.{repairOf};
 ghost use Rattle.demands.specs.Demand.{MeetsDemand3};
 
 // The link repair question, and what demand 3 says of its answer.
-pub fn link_demand(file: &[u8], work: &mut [u32], link: usize, end: usize) -> Repair
-    ensures { λ r. ⌜ MeetsDemand3 (askLink (now (file .entry)) (length (now (work .entry))) link end) (repairOf r)
-        × Answered (askLink (now (file .entry)) (length (now (work .entry))) link end) (repairOf r) (now (work .entry)) (now (work .exit)) ⌝ }
+pub fn link_demand(file: &[u8], work: &mut [u32], ranks: &[u8], link: usize, end: usize) -> Repair
+    ensures { λ r. ⌜ MeetsDemand3 (askLink (now (file .entry)) (length (now (work .entry))) (now (ranks .entry)) link end) (repairOf r)
+        × Answered (askLink (now (file .entry)) (length (now (work .entry))) (now (ranks .entry)) link end) (repairOf r) (now (work .entry)) (now (work .exit)) ⌝ }
 {
-    repair::link_repair(file, work, link, end)
+    repair::link_repair(file, work, ranks, link, end)
 }
 
 // The prefix repair question, and what demand 3 says of its answer.
 pub fn prefix_demand(
     file: &[u8],
     work: &mut [u32],
+    ranks: &[u8],
     link: usize,
     end: usize,
     prefix: usize,
 ) -> Repair
-    ensures { λ r. ⌜ MeetsDemand3 (askPrefix (now (file .entry)) (length (now (work .entry))) link end prefix) (repairOf r)
-        × Answered (askPrefix (now (file .entry)) (length (now (work .entry))) link end prefix) (repairOf r) (now (work .entry)) (now (work .exit)) ⌝ }
+    ensures { λ r. ⌜ MeetsDemand3 (askPrefix (now (file .entry)) (length (now (work .entry))) (now (ranks .entry)) link end prefix) (repairOf r)
+        × Answered (askPrefix (now (file .entry)) (length (now (work .entry))) (now (ranks .entry)) link end prefix) (repairOf r) (now (work .entry)) (now (work .exit)) ⌝ }
 {
-    repair::prefix_repair(file, work, link, end, prefix)
+    repair::prefix_repair(file, work, ranks, link, end, prefix)
 }

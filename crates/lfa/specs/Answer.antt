@@ -71,7 +71,7 @@ answerTo q = elim (refusalOf q) [ some r ↦ refusal r | none ↦ computed q (q 
 -- ---- the exit of each lent buffer
 
 -- what a call writes into a buffer: the distances into the work area ("Calls that compute leave the distances in the work area
--- whenever rows 1 to 13 don't apply"), and the routers of the route into the route buffer, of which "later bytes .. are untouched"
+-- whenever rows 1 to 13 don't apply", and by Point 2 number 15), and the routers of the route into the route buffer, of which "later bytes .. are untouched"
 unfoldable pub writtenTo : Question → Buffer → List ℕ → List ℕ
 writtenTo q workArea before = filled (networkAsked q) before
 writtenTo q routeBuffer before = routePlayed q ++ drop (length (routePlayed q)) before

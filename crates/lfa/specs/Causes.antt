@@ -8,6 +8,7 @@ use mathlib.Core.Option.{some}
 use lib.ListN.{length}
 use Rattle.lfa.specs.Lists.{FirstFails}
 use Rattle.lfa.specs.File.{Bytes, routersOf, linksOf, prefixesOf, blocksIn, blocksNeeded, checkGood, headGood, blockGood, linkGood, linkNew, prefixGood, routersNew}
+use Rattle.lfa.specs.Ranks.{Arrangement}
 use Rattle.lfa.specs.Repair.{noneServes}
 use Rattle.lfa.specs.Question.{Question, searched}
 
@@ -29,12 +30,13 @@ FileApplies b routerTwice v = FirstFails (routersNew b) 0 (prefixesOf b) v
 
 -- the causes that lie in what else is asked, held against the counts of the file; they are looked for before anything is searched for
 pub data EarlyRow : Type 0 where
-  shortArea shortBuffer noSuchLink noSuchPrefix : EarlyRow
+  shortArea shortBuffer badRanks noSuchLink noSuchPrefix : EarlyRow
 
 -- row r applies to the question and returns v
 abbrev pub EarlyApplies : Question → EarlyRow → ℕ → Type 0
 EarlyApplies q shortArea v = (q .area < routersOf (q .file) * routersOf (q .file)) × (v ≡ routersOf (q .file) * routersOf (q .file))
 EarlyApplies q shortBuffer v = (q .buffer < 2 * routersOf (q .file)) × (v ≡ 2 * routersOf (q .file))
+EarlyApplies q badRanks v = (Arrangement (q .ranks) → ⊥) × (v ≡ 0)
 EarlyApplies q noSuchLink v = ((linksOf (q .file) ≤ q .link) ⊎ (1 < q .end)) × (v ≡ linksOf (q .file))
 EarlyApplies q noSuchPrefix v = (prefixesOf (q .file) ≤ q .prefix) × (v ≡ prefixesOf (q .file))
 

@@ -15,9 +15,10 @@ use Rattle.lfa.specs.FileOf.{fileOf, WithinLimits}
 use Rattle.lfa.specs.Distance.{unreachable, LeastCosts, distances, distanceIn, towards}
 use Rattle.lfa.specs.Walk.{Crosses, Arrives}
 use Rattle.lfa.specs.Space.{underMaintenance, FirstHop, IsFirstHop, Space, has, sizeOf, Member}
+use Rattle.lfa.specs.Ranks.{rankOf, Arrangement, ascending}
 use Rattle.lfa.specs.Repair.{Pair, IsPair, Told, Tells, Keys, First, MayCross}
 use Rattle.lfa.specs.Route.{AreOptions, options, NamedRoute}
-use Rattle.lfa.specs.Question.{Question, Call, load, fill, linkRepair, prefixRepair, route, space, loading, filling, askSpace, askLink, askPrefix, askRoute, toPrefixRepair, withoutMaintenance, LooksAtFirstHops, Buffer, workArea, routeBuffer, aPrefix, lent, HasInput, networkAsked, linkAsked, prefixAsked}
+use Rattle.lfa.specs.Question.{Question, Call, load, fill, linkRepair, prefixRepair, route, space, loading, filling, askSpace, askLink, askPrefix, askRoute, toPrefixRepair, withoutMaintenance, withRanks, LooksAtFirstHops, Buffer, workArea, routeBuffer, aRankTable, aPrefix, lent, HasInput, networkAsked, linkAsked, prefixAsked}
 use Rattle.lfa.specs.Refusal.{Row, noPair, Applies, entryOf, rowsTried, Decides, Accepted, Posed}
 use Rattle.lfa.specs.Answer.{Answer, refused, accepted, done, untouched, unreached, set, repair, played, answerTo, leave, writtenTo, exitOf, networkLoaded, linkPart, prefixPart}
 
@@ -55,9 +56,9 @@ pub record EachCallTries : Type 0 where
   pub load : numbersTried load ≡ countUp 1 9
   pub distances : numbersTried fill ≡ countUp 1 10
   pub space : (s : Space) → numbersTried (space s) ≡ countUp 1 10 ++ 12 ∷ []
-  pub link-repair : numbersTried linkRepair ≡ countUp 1 10 ++ 12 ∷ 14 ∷ []
-  pub prefix-repair : numbersTried prefixRepair ≡ countUp 1 10 ++ 12 ∷ 13 ∷ 14 ∷ []
-  pub route : numbersTried route ≡ countUp 1 14
+  pub link-repair : numbersTried linkRepair ≡ countUp 1 10 ++ 15 ∷ 12 ∷ 14 ∷ []
+  pub prefix-repair : numbersTried prefixRepair ≡ countUp 1 10 ++ 15 ∷ 12 ∷ 13 ∷ 14 ∷ []
+  pub route : numbersTried route ≡ countUp 1 11 ++ 15 ∷ 12 ∷ 13 ∷ 14 ∷ []
 
 -- rows 1 to 9 together: accepted files and networks within the limits of document 01 are the same thing
 pub record FilesAndNetworks : Type 0 where
@@ -99,17 +100,26 @@ Candidate q p = IsPair (N q) (Hops q) (linkAsked q) p
 abbrev pub TellsOf : Question → Target → Pair → Told → Type 0
 TellsOf q to p t = Tells (D q) (linkAsked q) to p t
 
--- what the order of repairs looks at: class, D(S,y), y, tunnel cost, n
-abbrev pub keys : Question → Told → Keys
-keys q t = record { told = t; distance = D q (linkAsked q .near) (t .endpoint) }
+-- what the order of document 01 looks at: class, D(S,y), y, tunnel cost, n
+abbrev pub keysByClass : Question → Told → Keys
+keysByClass q t = record { rank = t .class; distance = D q (linkAsked q .near) (t .endpoint); endpoint = t .endpoint; cost = t .cost; first = t .first }
 
--- "A repair is a first hop and an endpoint, the pair that document 01 puts first", with its class and tunnel cost
-pub record IsRepair (q : Question) (to : Target) (t : Told) : Type 0 where
+-- what the order of repairs looks at since Point 2: "rank replaces class as the first key"
+abbrev pub keys : Question → Told → Keys
+keys q t = record { rank = rankOf (q .ranks) (t .class); distance = D q (linkAsked q .near) (t .endpoint); endpoint = t .endpoint; cost = t .cost; first = t .first }
+
+-- what is told is of a candidate that has this, and by these keys none that has this comes before it
+pub record IsFirst (q : Question) (by : Told → Keys) (to : Target) (t : Told) : Type 0 where
   pub pair : Pair
   pub candidate : Candidate q pair
   pub tells : TellsOf q to pair t
   pub has-this : HasThis q to (t .first) (t .endpoint)
-  pub earliest : (p : Pair) (other : Told) → Candidate q p → TellsOf q to p other → HasThis q to (other .first) (other .endpoint) → First (keys q t) (keys q other)
+  pub earliest : (p : Pair) (other : Told) → Candidate q p → TellsOf q to p other → HasThis q to (other .first) (other .endpoint) → First (by t) (by other)
+
+-- "A repair is a first hop and an endpoint, the pair that document 01 puts first", by the ranks since Point 2, with its class and tunnel
+-- cost
+abbrev pub IsRepair : Question → Target → Told → Type 0
+IsRepair q to t = IsFirst q (keys q) to t
 
 -- ---- demand 2: "Distances are least path costs; the P, extended P and Q spaces hold exactly the routers that the remote LFA papers
 -- put there; the repair given is the first in the order of document 01, and a played route is the one its choices name."
@@ -145,29 +155,37 @@ pub record Demand2 (q : Question) : Type 0 where
   -- the options at a router; a route has a pair just where the prefix repair has one, and this pair is played
   pub options-are : (to : Target) (x : ℕ) → AreOptions (Hops q) (D q) to x (options (N q) (Hops q) (D q) to x)
   pub route-14 : q .call ≡ route → (answerTo q ≡ refused 14 0) ↔ (answerTo (toPrefixRepair q) ≡ refused 14 0)
-  pub route-named : q .call ≡ route → (t : Told) → answerTo (toPrefixRepair q) ≡ repair t → RouteNamed q (t .first) (t .endpoint)
+  pub route-named : q .call ≡ route → (t : Told) → answerTo (toPrefixRepair q) ≡ repair t → IsRepair q (prefixAsked q) t × RouteNamed q (t .first) (t .endpoint)
 
 -- ---- demand 3
 
--- a question is answered with a repair or with refusal 14, a repair is one, and 14 comes exactly when no candidate has this
-pub record Repaired (q : Question) (to : Target) (answer : Answer) : Type 0 where
+-- a question is answered with a repair or with refusal 14, a repair is first by these keys, and 14 comes exactly when no candidate has
+-- this
+pub record RepairedBy (q : Question) (by : Told → Keys) (to : Target) (answer : Answer) : Type 0 where
   pub repair-or-14 : ((t : Told) × (answer ≡ repair t)) ⊎ (answer ≡ refused 14 0)
-  pub is-repair : (t : Told) → answer ≡ repair t → IsRepair q to t
+  pub is-repair : (t : Told) → answer ≡ repair t → IsFirst q by to t
   pub exactly : (answer ≡ refused 14 0) ↔ ((p : Pair) → Candidate q p → HasThis q to (p .hop .router) (p .endpoint) → ⊥)
 
-pub record Demand3 (q : Question) (answer : Answer) : Type 0 where
+pub record Demand3By (q : Question) (by : Told → Keys) (answer : Answer) : Type 0 where
   -- "every prefix whose traffic from that end may cross the link: asked for this prefix with work area enough, the planner answers
   -- with a repair or refusal 14. .. Refusal 14 comes exactly when no neighbour of that end but the far end, paired with any router
   -- other than the two ends, has this."
-  pub prefix-repaired : q .call ≡ prefixRepair → MayCross (Hops q) (D q) (linkAsked q) (prefixAsked q) → Repaired q (prefixAsked q) answer
+  pub prefix-repaired : q .call ≡ prefixRepair → MayCross (Hops q) (D q) (linkAsked q) (prefixAsked q) → RepairedBy q by (prefixAsked q) answer
   -- "The link repair question, given work area enough, is answered with that repair or with 14, and with 14 exactly when no such
   -- pair has this for the far end."
-  pub link-repaired : q .call ≡ linkRepair → Repaired q (router (linkAsked q .far)) answer
+  pub link-repaired : q .call ≡ linkRepair → RepairedBy q by (router (linkAsked q .far)) answer
   -- "A link's own repair, at either end, has this for every such prefix, and for the far end in the prefix's place."
   pub link-has-this : q .call ≡ linkRepair → (t : Told) → answer ≡ repair t →
       HasThis q (router (linkAsked q .far)) (t .first) (t .endpoint)
       × ((p : ℕ) → p < length (networkAsked q .prefixes) →
       MayCross (Hops q) (D q) (linkAsked q) (getD (networkAsked q .prefixes) p []) → HasThis q (getD (networkAsked q .prefixes) p []) (t .first) (t .endpoint))
+
+-- by the keys of the question
+abbrev pub Repaired : Question → Target → Answer → Type 0
+Repaired q to answer = RepairedBy q (keys q) to answer
+
+abbrev pub Demand3 : Question → Answer → Type 0
+Demand3 q answer = Demand3By q (keys q) answer
 
 -- ---- Point 1: "From now on a neighbour counts as a first hop only when the cost from S to it is below 65,535." Candidates and extended P
 -- are made of first hops; nothing else changes.
@@ -184,16 +202,49 @@ pub record SameReply (q other : Question) : Type 0 where
 -- "below 65,535": at every call a link is under maintenance at a cost of 65,535
 abbrev pub PutAt65535 : Type 0
 PutAt65535 =
-    (b : Bytes) (area buffer l e p : ℕ) (choices : List ℕ) (s : Space) (q : Question) →
-    List·Memᴰ q (loading b ∷ filling b area ∷ askSpace s b area l e ∷ askLink b area l e ∷ askPrefix b area l e p ∷ askRoute b area buffer l e p choices ∷ []) → q .maintenance ≡ 65535
+    (b : Bytes) (area buffer l e p : ℕ) (ranks choices : List ℕ) (s : Space) (q : Question) →
+    List·Memᴰ q (loading b ∷ filling b area ∷ askSpace s b area l e ∷ askLink b area ranks l e ∷ askPrefix b area ranks l e p ∷ askRoute b area buffer ranks l e p choices ∷ []) → q .maintenance ≡ 65535
 
 pub record Point1 (q : Question) : Type 0 where
   -- a first hop now, and before
   pub first-hop : (f : FirstHop) → IsFirstHop (Hops q) (linkAsked q) f ↔ (IsNeighbour q f × (f .cost < 65535))
-  pub before : Posed q → (f : FirstHop) → IsFirstHop (Hops q) (linkAsked (withoutMaintenance q)) f ↔ IsNeighbour q f
+  pub before : Accepted (q .file) → (f : FirstHop) → IsFirstHop (Hops q) (linkAsked (withoutMaintenance q)) f ↔ IsNeighbour q f
   -- distances, P and Q do not change on any file; no other question does whose links from S, but to E, all cost less than 65,535 from S
   pub nothing-changes : (LooksAtFirstHops (q .call) → Posed q → (f : FirstHop) → IsNeighbour q f → f .cost < 65535) → SameReply q (withoutMaintenance q)
   pub same-distances : HasInput q (lent workArea) → (area : List ℕ) → exitOf q workArea area ≡ exitOf (withoutMaintenance q) workArea area
+
+-- ---- Point 2: "The four classes get a table of four ranks, lent with each repair question." The order by ranks is in `keys`, the cause of
+-- number 15 in `Causes`, its place in `EachCallTries`, and that demand 3 is for questions that it does not turn away in `Posed`.
+
+-- "lent with each repair question": the question holds the table that the call is lent, and with another table it is the same but for it
+pub record RanksLent : Type 0 where
+  pub link : (b : Bytes) (area l e : ℕ) (ranks : List ℕ) → askLink b area ranks l e .ranks ≡ ranks
+  pub link-other : (b : Bytes) (area l e : ℕ) (ranks others : List ℕ) → withRanks others (askLink b area ranks l e) ≡ askLink b area others l e
+  pub prefix : (b : Bytes) (area l e p : ℕ) (ranks : List ℕ) → askPrefix b area ranks l e p .ranks ≡ ranks
+  pub prefix-other : (b : Bytes) (area l e p : ℕ) (ranks others : List ℕ) → withRanks others (askPrefix b area ranks l e p) ≡ askPrefix b area others l e p
+  pub route : (b : Bytes) (area buffer l e p : ℕ) (ranks choices : List ℕ) → askRoute b area buffer ranks l e p choices .ranks ≡ ranks
+  pub route-other : (b : Bytes) (area buffer l e p : ℕ) (ranks others choices : List ℕ) → withRanks others (askRoute b area buffer ranks l e p choices) ≡ askRoute b area buffer others l e p choices
+
+-- two answers of one kind: the same answer, or two repairs, or two routes
+pub data SameKind : Answer → Answer → Type 0 where
+  one-answer : {a b : Answer} → a ≡ b → SameKind a b
+  two-repairs : {t u : Told} → SameKind (repair t) (repair u)
+  two-routes : {m k : ℕ} → SameKind (played m) (played k)
+
+pub record Point2 (q : Question) : Type 0 where
+  -- "Who gets a repair and who gets 14 is the same under every such table", and so is every other refusal, what is unreachable or untouched,
+  -- and the work area
+  pub same-who : Arrangement (q .ranks) → (ranks : List ℕ) → Arrangement ranks → SameKind (answerTo q) (answerTo (withRanks ranks q))
+  pub same-work : Arrangement (q .ranks) → (ranks : List ℕ) → Arrangement ranks → HasInput q (lent workArea) → (area : List ℕ) → exitOf q workArea area ≡ exitOf (withRanks ranks q) workArea area
+  -- "Numbers 15 .. write nothing", "value 0"
+  pub writes-nothing : (v : ℕ) → answerTo q ≡ refused 15 v → (v ≡ 0) × ((x : Buffer) → HasInput q (lent x) → (before : List ℕ) → exitOf q x before ≡ before)
+  -- with ascending ranks demand 3 is what it was before: a repair is the first by class
+  pub as-before : q .ranks ≡ ascending → Posed q → Demand3By q (keysByClass q) (answerTo q)
+  -- which leaves no choice: only one repair is first by class, and only one by the ranks
+  pub one-by-class : (to : Target) (t u : Told) → IsFirst q (keysByClass q) to t → IsFirst q (keysByClass q) to u → t ≡ u
+  pub one-by-rank : (to : Target) (t u : Told) → IsRepair q to t → IsRepair q to u → t ≡ u
+  -- a call that takes no table answers and writes the same whatever stands in its place
+  pub none-taken : (HasInput q aRankTable → ⊥) → (ranks : List ℕ) → SameReply q (withRanks ranks q)
 
 -- ---- the demands: 1 of every question at all; 2 and 3 of those that no row before 14 turns away, "for every accepted file, every link and
 -- end of it, and every prefix .. with work area enough"
@@ -204,6 +255,9 @@ pub record Demands : Type 0 where
   pub demand-3 : (q : Question) → Posed q → Demand3 q (answerTo q)
   pub put-at-65535 : PutAt65535
   pub point-1 : (q : Question) → q .maintenance ≡ underMaintenance → ((i : ℕ) → byteAt (q .file) i < 256) → Point1 q
+  pub ranks-lent : RanksLent
+  pub ascending-arranged : Arrangement ascending
+  pub point-2 : (q : Question) → Point2 q
   -- of a file of bytes, that is what `Posed` means
   pub posed-when : (q : Question) → ((i : ℕ) → byteAt (q .file) i < 256) →
       Posed q ↔ ((r : Row) (v : ℕ) → List·Memᴰ r (rowsTried (q .call)) → (r ≡ noPair → ⊥) → Applies q r v → ⊥)

@@ -1,5 +1,5 @@
--- "Hand-worked networks": the starred rows, as one table, and the lone theorem that the definitions yield every row of it. Each is
--- asked through the definitions that the public contracts cite, from the bytes of its network's file.
+-- "Hand-worked networks": the starred rows, as one table, what ranks do (Point 2) as another, and the lone theorem that the definitions
+-- yield every row of both. Each is asked through the definitions that the public contracts cite, from the bytes of its network's file.
 -- Assumes nothing.
 use Prim.Native.Nat.{ℕ, zero, suc, _+_, _^_}
 use mathlib.Core.Path.{_≡_, refl, sym, ap, _∙_}
@@ -14,12 +14,13 @@ use Rattle.lfa.specs.FileOf.{fileOf, blocksOf, prefixBlock, linkBlock, e
 use Rattle.lfa.specs.Distance.{least, costOver, towards, hopCost, direct, through, stage, distances, distanceIn}
 use Rattle.lfa.specs.Walk.{isStep, leads, takers, over, overFrom, avoids, crosses}
 use Rattle.lfa.specs.Space.{underMaintenance, Protected, Space, pSpace, extendedP, qSpace, protectedBy, protected, isFirst, hopOver, firstHops, inSpace, setOf, spaceOf}
+use Rattle.lfa.specs.Ranks.{ascending, timesGiven, isArrangement}
 use Rattle.lfa.specs.Repair.{Pair, isEndpoint, pairsOf, pairs, serves, mayCross, orElse, classOf, toldOf, Keys, keysOf, key, noLater, earlier, choose, pairKey, firstPair, outcomeOf, linkOutcome, prefixOutcome}
 use Rattle.lfa.specs.Route.{isStepTo, nextRouters, attachedAt, delivers, movesOf, options, choiceAt, optionTaken, playTo, playOn, routeOf}
 use Rattle.lfa.specs.Laws.Turned.{early-given}
 use mathlib.Core.Bool.{true}
 use Rattle.lfa.specs.Question.{Question, routeBuffer, aLink, inputsOf, inputNumber, hasInput, HasInput, loading, askSpace, askLink, askPrefix, askRoute, networkAsked, linkAsked, prefixAsked, withDistances, linkFound, prefixFound, searched, ifNone}
-use Rattle.lfa.specs.Refusal.{EarlyRow, shortArea, shortBuffer, noSuchLink, EarlyApplies, triesEarly, fileReturned, returned, fileNumber, entryOf, fileRows, earlyRows, questionRows, allRows, tries, rowsTried, firstRow, inFile, fileRefusal, refusalOf, sizedReturned}
+use Rattle.lfa.specs.Refusal.{EarlyRow, shortArea, shortBuffer, badRanks, noSuchLink, EarlyApplies, triesEarly, fileReturned, returned, fileNumber, entryOf, fileRows, earlyRows, questionRows, allRows, tries, rowsTried, firstRow, inFile, fileRefusal, refusalOf, sizedReturned}
 use Rattle.lfa.specs.Answer.{Answer, refused, accepted, set, repair, played, untouched, refusal, routeFor, routePlayed, repairAnswer, routeAnswer, computed, answerTo, writtenTo, leave, exitBy, exitOf}
 
 -- ---- the networks
@@ -75,18 +76,18 @@ unfoldable pub told : (first endpoint class cost : ℕ) → Answer
 told n y k c = repair (record { first = n; endpoint = y; class = k; cost = c })
 
 -- the questions, about link 0 from its end 0 and prefix 0 where nothing else is said: the work area has 64 × 64 cells, the route buffer
--- 128 bytes, and there are no choice bytes
+-- 128 bytes, the ranks ascend, and there are no choice bytes
 abbrev forSpace : Space → Network → Question
 forSpace s net = askSpace s (fileOf net) 4096 0 0
 
 abbrev forLink : Network → Question
-forLink net = askLink (fileOf net) 4096 0 0
+forLink net = askLink (fileOf net) 4096 ascending 0 0
 
 abbrev forPrefix : (link end : ℕ) → Network → Question
-forPrefix l e net = askPrefix (fileOf net) 4096 l e 0
+forPrefix l e net = askPrefix (fileOf net) 4096 ascending l e 0
 
 abbrev forRoute : Network → Question
-forRoute net = askRoute (fileOf net) 4096 128 0 0 0 []
+forRoute net = askRoute (fileOf net) 4096 128 ascending 0 0 0 []
 
 unfoldable pub starred : List Worked
 starred =
@@ -106,6 +107,24 @@ starred =
     ∷ asked (loading (fileOf oneRouter)) accepted
     ∷ []
 
+-- Point 2 on ring 4: the neighbour repair (3, 3) is of class 1, the tunnel (3, 2) of class 2. A table that ranks class 2 first puts the
+-- tunnel first, and its answer tells class 2; read the other way, as the class of each rank, it would rank class 1 first. What is no
+-- arrangement is number 15, after 10 and 11 and before 12.
+abbrev withTable : (area : ℕ) → (ranks : List ℕ) → (link : ℕ) → Question
+withTable area ranks l = askPrefix (fileOf ring4prefix) area ranks l 0 0
+
+unfoldable pub ranked : List Worked
+ranked =
+    asked (withTable 4096 (1 ∷ 2 ∷ 0 ∷ 3 ∷ []) 0) (told 3 2 2 2)
+    ∷ route (askRoute (fileOf ring4prefix) 4096 128 (1 ∷ 2 ∷ 0 ∷ 3 ∷ []) 0 0 0 []) (played 3) (0 ∷ 3 ∷ 2 ∷ [])
+    ∷ asked (withTable 4096 (0 ∷ 0 ∷ 1 ∷ 2 ∷ []) 0) (refused 15 0)
+    ∷ asked (withTable 4096 (0 ∷ 1 ∷ 2 ∷ []) 0) (refused 15 0)
+    ∷ asked (withTable 4096 (0 ∷ 1 ∷ 2 ∷ 4 ∷ []) 0) (refused 15 0)
+    ∷ asked (withTable 4096 (0 ∷ 1 ∷ 2 ∷ 3 ∷ 4 ∷ []) 9) (refused 15 0)
+    ∷ asked (withTable 15 [] 0) (refused 10 16)
+    ∷ asked (askRoute (fileOf ring4prefix) 4096 7 [] 0 0 0 []) (refused 11 8)
+    ∷ []
+
 -- what the definitions answer to the question of a row, in the row's form
 unfoldable pub yielded : Worked → Worked
 yielded (asked q a) = asked q (answerTo q)
@@ -117,13 +136,17 @@ yieldedAll (w ∷ ws) = yielded w ∷ yieldedAll ws
 
 -- to unfold this is to unfold every definition that an answer rests on
 unfoldable opened : Unit {0}
-unfolding countUp below select anyOf everyBelow memberOf flat count firstFailing unless table cell router arcs arcsFrom byteAt wordAt partOf allZero blocksIn blockOf sumWords checkOf routersOf linksOf prefixesOf ceil linkBlocks prefixBlocks blocksNeeded linkEntry linkIn prefixEntry attachments slotRouter slot prefixIn linkOf prefixOf networkOf lengthGood checkGood headGood blockCountGood laterGood entriesIn soundBlock blockGood soundLink linkGood joinSame linkNew slotGood soundPrefix prefixGood slotNew routersNew fileOf blocksOf prefixBlock linkBlock entriesBlock prefixBytes slotBytes linkBytes headBlock blockBytes pad wordBytes least costOver towards hopCost direct through stage distances distanceIn isStep leads takers over overFrom avoids crosses protectedBy protected isFirst hopOver firstHops inSpace setOf spaceOf isEndpoint pairsOf pairs serves mayCross orElse classOf toldOf key noLater earlier choose pairKey firstPair outcomeOf linkOutcome prefixOutcome isStepTo nextRouters attachedAt delivers movesOf options choiceAt optionTaken playTo playOn routeOf answerTo routePlayed loading askSpace askLink askPrefix askRoute networkAsked linkAsked prefixAsked withDistances linkFound prefixFound searched inputsOf inputNumber hasInput ifNone fileReturned returned sizedReturned fileNumber entryOf fileRows earlyRows questionRows allRows tries rowsTried firstRow inFile fileRefusal refusalOf refusal routeFor repairAnswer routeAnswer computed writtenTo leave exitBy exitOf
+unfolding countUp below select anyOf everyBelow memberOf flat count firstFailing unless table cell timesGiven isArrangement router arcs arcsFrom byteAt wordAt partOf allZero blocksIn blockOf sumWords checkOf routersOf linksOf prefixesOf ceil linkBlocks prefixBlocks blocksNeeded linkEntry linkIn prefixEntry attachments slotRouter slot prefixIn linkOf prefixOf networkOf lengthGood checkGood headGood blockCountGood laterGood entriesIn soundBlock blockGood soundLink linkGood joinSame linkNew slotGood soundPrefix prefixGood slotNew routersNew fileOf blocksOf prefixBlock linkBlock entriesBlock prefixBytes slotBytes linkBytes headBlock blockBytes pad wordBytes least costOver towards hopCost direct through stage distances distanceIn isStep leads takers over overFrom avoids crosses protectedBy protected isFirst hopOver firstHops inSpace setOf spaceOf isEndpoint pairsOf pairs serves mayCross orElse classOf toldOf key noLater earlier choose pairKey firstPair outcomeOf linkOutcome prefixOutcome isStepTo nextRouters attachedAt delivers movesOf options choiceAt optionTaken playTo playOn routeOf answerTo routePlayed loading askSpace askLink askPrefix askRoute networkAsked linkAsked prefixAsked withDistances linkFound prefixFound searched inputsOf inputNumber hasInput ifNone fileReturned returned sizedReturned fileNumber entryOf fileRows earlyRows questionRows allRows tries rowsTried firstRow inFile fileRefusal refusalOf refusal routeFor repairAnswer routeAnswer computed writtenTo leave exitBy exitOf
 opened = tt
 
 -- the table; the lone router's "any link question" follows
 rows-yielded : yieldedAll starred ≡ starred
 unfolding opened ringFrom ring ring4prefix ring5prefix ring3cost2 ring4cost10 twoRouters oneRouter members told starred yielded yieldedAll
 rows-yielded = refl
+
+ranked-yielded : yieldedAll ranked ≡ ranked
+unfolding opened ringFrom ring ring4prefix told ranked yielded yieldedAll
+ranked-yielded = refl
 
 -- ---- "One router alone: accepted; any link question 12, value 0."
 
@@ -135,9 +158,9 @@ lone-links : linksOf (fileOf oneRouter) ≡ 0
 unfolding opened oneRouter
 lone-links = refl
 
--- no row before 12 that the call tries applies: the buffers are long enough
+-- no row before 12 that the call tries applies: the buffers are long enough, and the ranks an arrangement
 abbrev pub NoneBefore12 : Question → Type 0
-NoneBefore12 q = (r : EarlyRow) (v : ℕ) → List·Memᴰ r (shortArea ∷ shortBuffer ∷ []) → triesEarly (q .call) r ≡ true → EarlyApplies q r v → ⊥
+NoneBefore12 q = (r : EarlyRow) (v : ℕ) → List·Memᴰ r (shortArea ∷ shortBuffer ∷ badRanks ∷ []) → triesEarly (q .call) r ≡ true → EarlyApplies q r v → ⊥
 
 -- a link question about the lone router: where no row before 12 applies, row 12 does
 lone-refused : (q : Question) → q .file ≡ fileOf oneRouter → NoneBefore12 q → HasInput q aLink → answerTo q ≡ refused 12 0
@@ -160,18 +183,19 @@ unfoldable pub overHop4 : ℕ → Pair
 overHop4 y = record { hop = record { router = 4; cost = 1; over = 4 }; endpoint = y }
 
 unfoldable pub ring5keys : Pair → Keys
-ring5keys p = keysOf ring5d ring5link (toldOf ring5d ring5link (router 1) p)
+ring5keys p = keysOf ascending ring5d ring5link (toldOf ring5d ring5link (router 1) p)
 
 -- The definitions yield every starred row: those of the table by computing them, and those of the lone router for every link, end,
 -- prefix and call, since row 12 is the first that applies where there is no link. Of ring 5's link repair, hop 4 and endpoint 2, "3 ties
--- on distance": hop 4 with endpoint 3 serves too, in the same class and at the same distance.
+-- on distance": hop 4 with endpoint 3 serves too, at the same rank, which is its class, and at the same distance.
 pub record Yielded : Type 0 where
   pub rows : yieldedAll starred ≡ starred
+  pub by-ranks : yieldedAll ranked ≡ ranked
   pub ring-5-tie : (serves 5 (arcs (ring 5 [])) ring5d ring5link (router 1) (overHop4 3) ≡ true)
-      × (ring5keys (overHop4 3) .told .class ≡ ring5keys (overHop4 2) .told .class)
+      × (ring5keys (overHop4 3) .rank ≡ ring5keys (overHop4 2) .rank)
       × (ring5keys (overHop4 3) .distance ≡ ring5keys (overHop4 2) .distance)
   pub lone : (q : Question) → q .file ≡ fileOf oneRouter → NoneBefore12 q → HasInput q aLink → answerTo q ≡ refused 12 0
 
 pub hand-worked : Yielded
 unfolding opened ringFrom ring ring5d ring5link overHop4 ring5keys
-hand-worked = record { rows = rows-yielded; ring-5-tie = (refl, refl, refl); lone = lone-refused }
+hand-worked = record { rows = rows-yielded; by-ranks = ranked-yielded; ring-5-tie = (refl, refl, refl); lone = lone-refused }

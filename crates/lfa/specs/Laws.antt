@@ -4,6 +4,7 @@ pub mod FirstFailing
 pub mod Counting
 pub mod Table
 pub mod Chunks
+pub mod Ranks
 pub mod Target
 pub mod Hop
 pub mod Distance
@@ -37,4 +38,6 @@ pub mod HasThis
 pub mod Replies
 pub mod Maintenance
 pub mod Point1
+pub mod SameKind
+pub mod Point2
 pub mod Demands

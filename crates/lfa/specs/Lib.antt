@@ -5,6 +5,7 @@ pub mod FileOf
 pub mod Distance
 pub mod Walk
 pub mod Space
+pub mod Ranks
 pub mod Repair
 pub mod Route
 pub mod Question

@@ -20,14 +20,15 @@ pub data Call : Type 0 where
   load fill linkRepair prefixRepair route : Call
   space : Space → Call
 
--- what a call is asked: the file, the lengths of the work area (in cells) and of the route buffer (in bytes), the link, the end,
--- the prefix and the choice bytes. A call reads only the inputs that it has. `maintenance` is no input: it is the cost at which a link is
+-- what a call is asked: the file, the lengths of the work area (in cells) and of the route buffer (in bytes), the table of ranks, the link,
+-- the end, the prefix and the choice bytes. A call reads only the inputs that it has. `maintenance` is no input: it is the cost at which a link is
 -- under maintenance, the same in every question that is put.
 pub record Question : Type 0 where
   pub call : Call
   pub file : Bytes
   pub area : ℕ
   pub buffer : ℕ
+  pub ranks : List ℕ
   pub link : ℕ
   pub end : ℕ
   pub prefix : ℕ
@@ -38,7 +39,7 @@ pub record Question : Type 0 where
 
 -- a question of a call that has no other inputs than these
 abbrev plain : Call → Bytes → (area link end : ℕ) → Question
-plain c b area l e = record { call = c; file = b; area = area; buffer = 0; link = l; end = e; prefix = 0; choices = []; maintenance = underMaintenance }
+plain c b area l e = record { call = c; file = b; area = area; buffer = 0; ranks = []; link = l; end = e; prefix = 0; choices = []; maintenance = underMaintenance }
 
 unfoldable pub loading : Bytes → Question
 loading b = plain load b 0 0 0
@@ -49,27 +50,42 @@ filling b area = plain fill b area 0 0
 unfoldable pub askSpace : Space → Bytes → ℕ → ℕ → ℕ → Question
 askSpace s b area l e = plain (space s) b area l e
 
-unfoldable pub askLink : Bytes → ℕ → ℕ → ℕ → Question
-askLink b area l e = plain linkRepair b area l e
+unfoldable pub askLink : Bytes → (area : ℕ) → (ranks : List ℕ) → (link end : ℕ) → Question
+askLink b area ranks l e = record { call = linkRepair; file = b; area = area; buffer = 0; ranks = ranks; link = l; end = e; prefix = 0; choices = []; maintenance = underMaintenance }
 
-unfoldable pub askPrefix : Bytes → ℕ → ℕ → ℕ → ℕ → Question
-askPrefix b area l e p = record { call = prefixRepair; file = b; area = area; buffer = 0; link = l; end = e; prefix = p; choices = []; maintenance = underMaintenance }
+unfoldable pub askPrefix : Bytes → (area : ℕ) → (ranks : List ℕ) → (link end prefix : ℕ) → Question
+askPrefix b area ranks l e p = record { call = prefixRepair; file = b; area = area; buffer = 0; ranks = ranks; link = l; end = e; prefix = p; choices = []; maintenance = underMaintenance }
 
-unfoldable pub askRoute : Bytes → ℕ → ℕ → ℕ → ℕ → ℕ → List ℕ → Question
-askRoute b area buffer l e p choices = record { call = route; file = b; area = area; buffer = buffer; link = l; end = e; prefix = p; choices = choices; maintenance = underMaintenance }
+unfoldable pub askRoute : Bytes → (area buffer : ℕ) → (ranks : List ℕ) → (link end prefix : ℕ) → (choices : List ℕ) → Question
+askRoute b area buffer ranks l e p choices = record { call = route; file = b; area = area; buffer = buffer; ranks = ranks; link = l; end = e; prefix = p; choices = choices; maintenance = underMaintenance }
 
 -- the same question, put to the prefix repair call
 unfoldable pub toPrefixRepair : Question → Question
 toPrefixRepair q =
-    record { call = prefixRepair; file = q .file; area = q .area; buffer = 0; link = q .link; end = q .end; prefix = q .prefix; choices = []; maintenance = q .maintenance }
+    record { call = prefixRepair; file = q .file; area = q .area; buffer = 0; ranks = q .ranks; link = q .link; end = q .end; prefix = q .prefix; choices = []; maintenance = q .maintenance }
 
 -- another call about another file, with other choice bytes and another limit, and with what else is asked as in the question
 abbrev pub sameNumbers : Question → Call → Bytes → (choices : List ℕ) → (maintenance : ℕ) → Question
-sameNumbers q c b choices m = record { call = c; file = b; area = q .area; buffer = q .buffer; link = q .link; end = q .end; prefix = q .prefix; choices = choices; maintenance = m }
+sameNumbers q c b choices m = record { call = c; file = b; area = q .area; buffer = q .buffer; ranks = q .ranks; link = q .link; end = q .end; prefix = q .prefix; choices = choices; maintenance = m }
 
 -- the same question where no link is under maintenance, since none costs that much: as it was before Point 1
 unfoldable pub withoutMaintenance : Question → Question
 withoutMaintenance q = sameNumbers q (q .call) (q .file) (q .choices) 65536
+
+-- the same question with another table of ranks
+unfoldable pub withRanks : (ranks : List ℕ) → Question → Question
+withRanks ranks q = record {
+  call = q .call;
+  file = q .file;
+  area = q .area;
+  buffer = q .buffer;
+  ranks = ranks;
+  link = q .link;
+  end = q .end;
+  prefix = q .prefix;
+  choices = q .choices;
+  maintenance = q .maintenance;
+}
 
 -- the calls that look at first hops
 abbrev pub LooksAtFirstHops : Call → Type 0
@@ -90,16 +106,16 @@ pub data Buffer : Type 0 where
 
 -- what a row of the table looks at; `searching`: the call searches for a pair
 pub data Input : Type 0 where
-  aFile aLink aPrefix searching : Input
+  aFile aRankTable aLink aPrefix searching : Input
   lent : Buffer → Input
 
 unfoldable pub inputsOf : Call → List Input
 inputsOf load = aFile ∷ []
 inputsOf fill = aFile ∷ lent workArea ∷ []
 inputsOf (space s) = aFile ∷ lent workArea ∷ aLink ∷ []
-inputsOf linkRepair = aFile ∷ lent workArea ∷ aLink ∷ searching ∷ []
-inputsOf prefixRepair = aFile ∷ lent workArea ∷ aLink ∷ aPrefix ∷ searching ∷ []
-inputsOf route = aFile ∷ lent workArea ∷ lent routeBuffer ∷ aLink ∷ aPrefix ∷ searching ∷ []
+inputsOf linkRepair = aFile ∷ lent workArea ∷ aRankTable ∷ aLink ∷ searching ∷ []
+inputsOf prefixRepair = aFile ∷ lent workArea ∷ aRankTable ∷ aLink ∷ aPrefix ∷ searching ∷ []
+inputsOf route = aFile ∷ lent workArea ∷ lent routeBuffer ∷ aRankTable ∷ aLink ∷ aPrefix ∷ searching ∷ []
 
 -- a number for each input, by which they are told apart
 unfoldable pub inputNumber : Input → ℕ
@@ -109,6 +125,7 @@ inputNumber aPrefix = 2
 inputNumber searching = 3
 inputNumber (lent workArea) = 4
 inputNumber (lent routeBuffer) = 5
+inputNumber aRankTable = 6
 
 unfoldable pub hasInput : Call → Input → Bool
 hasInput c i = memberOf (inputNumber i) (map inputNumber (inputsOf c))
@@ -133,10 +150,10 @@ withDistances net compute = let t : Table = distances net in compute (distanceIn
 
 -- what a link repair finds, and what a prefix repair or a route call finds
 unfoldable pub linkFound : Question → Outcome
-linkFound q = withDistances (networkAsked q) (λ d. linkOutcome (networkAsked q .routers) (arcs (networkAsked q)) d (linkAsked q))
+linkFound q = withDistances (networkAsked q) (λ d. linkOutcome (q .ranks) (networkAsked q .routers) (arcs (networkAsked q)) d (linkAsked q))
 
 unfoldable pub prefixFound : Question → Outcome
-prefixFound q = withDistances (networkAsked q) (λ d. prefixOutcome (networkAsked q .routers) (arcs (networkAsked q)) d (linkAsked q) (prefixAsked q))
+prefixFound q = withDistances (networkAsked q) (λ d. prefixOutcome (q .ranks) (networkAsked q .routers) (arcs (networkAsked q)) d (linkAsked q) (prefixAsked q))
 
 -- what a call's search finds; nothing where the call does not search
 unfoldable pub searched : Question → Call → Option Outcome

@@ -12,6 +12,7 @@ use Rattle.lfa.specs.Network.{Arc, Target, router}
 use Rattle.lfa.specs.Distance.{unreachable, towards}
 use Rattle.lfa.specs.Walk.{Avoids, Crosses, avoids, crosses}
 use Rattle.lfa.specs.Space.{Protected, FirstHop, IsFirstHop, firstHops}
+use Rattle.lfa.specs.Ranks.{rankOf}
 
 -- ---- pairs
 
@@ -94,21 +95,30 @@ toldOf d q to p = record {
   cost = p .hop .cost + d (p .hop .router) (p .endpoint);
 }
 
--- what the order looks at: what is told of a pair, and D(S,y)
+-- what the order looks at: the rank, D(S,y), y, the tunnel cost, n
 pub record Keys : Type 0 where
-  pub told : Told
+  pub rank : ℕ
   pub distance : ℕ
+  pub endpoint : ℕ
+  pub cost : ℕ
+  pub first : ℕ
 
-abbrev pub keysOf : (ℕ → ℕ → ℕ) → Protected → Told → Keys
-keysOf d q t = record { told = t; distance = d (q .near) (t .endpoint) }
+-- the keys of what is told of a pair, where its class has this rank
+abbrev pub keysAt : (rank : ℕ) → (ℕ → ℕ → ℕ) → Protected → Told → Keys
+keysAt rank d q t = record { rank = rank; distance = d (q .near) (t .endpoint); endpoint = t .endpoint; cost = t .cost; first = t .first }
 
--- "the one with lowest class, then D(S,y), then y, then cost S to n plus D(n,y), then n": a clause for each key
+-- Point 2: "rank replaces class as the first key"
+abbrev pub keysOf : (ranks : List ℕ) → (ℕ → ℕ → ℕ) → Protected → Told → Keys
+keysOf ranks d q t = keysAt (rankOf ranks (t .class)) d q t
+
+-- "the one with lowest class, then D(S,y), then y, then cost S to n plus D(n,y), then n", the rank in the place of the class: a clause for
+-- each key
 pub data Precedes (a b : Keys) : Type 0 where
-  by-class : a .told .class < b .told .class → Precedes a b
-  by-distance : a .told .class ≡ b .told .class → a .distance < b .distance → Precedes a b
-  by-endpoint : a .told .class ≡ b .told .class → a .distance ≡ b .distance → a .told .endpoint < b .told .endpoint → Precedes a b
-  by-tunnel : a .told .class ≡ b .told .class → a .distance ≡ b .distance → a .told .endpoint ≡ b .told .endpoint → a .told .cost < b .told .cost → Precedes a b
-  by-hop : a .told .class ≡ b .told .class → a .distance ≡ b .distance → a .told .endpoint ≡ b .told .endpoint → a .told .cost ≡ b .told .cost → a .told .first < b .told .first → Precedes a b
+  by-rank : a .rank < b .rank → Precedes a b
+  by-distance : a .rank ≡ b .rank → a .distance < b .distance → Precedes a b
+  by-endpoint : a .rank ≡ b .rank → a .distance ≡ b .distance → a .endpoint < b .endpoint → Precedes a b
+  by-tunnel : a .rank ≡ b .rank → a .distance ≡ b .distance → a .endpoint ≡ b .endpoint → a .cost < b .cost → Precedes a b
+  by-hop : a .rank ≡ b .rank → a .distance ≡ b .distance → a .endpoint ≡ b .endpoint → a .cost ≡ b .cost → a .first < b .first → Precedes a b
 
 -- b does not come before a: a precedes b, or the two have the same keys
 abbrev pub First : Keys → Keys → Type 0
@@ -117,7 +127,7 @@ First a b = Precedes a b ⊎ (a ≡ b)
 -- ---- the computation: the pair whose list of keys comes first
 
 unfoldable pub key : Keys → List ℕ
-key k = k .told .class ∷ k .distance ∷ k .told .endpoint ∷ k .told .cost ∷ k .told .first ∷ []
+key k = k .rank ∷ k .distance ∷ k .endpoint ∷ k .cost ∷ k .first ∷ []
 
 -- whether list a comes no later than list b: the first place at which they differ decides
 unfoldable pub noLater : List ℕ → List ℕ → Bool
@@ -134,12 +144,12 @@ unfoldable pub choose : (Pair → List ℕ) → List Pair → Option Pair
 choose k [] = none
 choose k (p ∷ ps) = earlier k p (choose k ps)
 
-unfoldable pub pairKey : (ℕ → ℕ → ℕ) → Protected → Target → Pair → List ℕ
-pairKey d q to p = key (keysOf d q (toldOf d q to p))
+unfoldable pub pairKey : (ranks : List ℕ) → (ℕ → ℕ → ℕ) → Protected → Target → Pair → List ℕ
+pairKey ranks d q to p = key (keysOf ranks d q (toldOf d q to p))
 
--- "Of the serving pairs the answer is the one with lowest class, then .."
-unfoldable pub firstPair : ℕ → List Arc → (ℕ → ℕ → ℕ) → Protected → Target → Option Pair
-firstPair n hops d q to = choose (pairKey d q to) (select (serves n hops d q to) (pairs q n hops))
+-- "Of the serving pairs the answer is the one with lowest class, then ..", by rank instead of class
+unfoldable pub firstPair : (ranks : List ℕ) → ℕ → List Arc → (ℕ → ℕ → ℕ) → Protected → Target → Option Pair
+firstPair ranks n hops d q to = choose (pairKey ranks d q to) (select (serves n hops d q to) (pairs q n hops))
 
 -- ---- what a repair question finds
 
@@ -152,17 +162,17 @@ outcomeOf d q to none = noneServes
 outcomeOf d q to (some p) = serving (toldOf d q to p)
 
 -- "A link repair has target E."
-unfoldable pub linkOutcome : ℕ → List Arc → (ℕ → ℕ → ℕ) → Protected → Outcome
-linkOutcome n hops d q = outcomeOf d q (router (q .far)) (firstPair n hops d q (router (q .far)))
+unfoldable pub linkOutcome : (ranks : List ℕ) → ℕ → List Arc → (ℕ → ℕ → ℕ) → Protected → Outcome
+linkOutcome ranks n hops d q = outcomeOf d q (router (q .far)) (firstPair ranks n hops d q (router (q .far)))
 
 -- "A prefix repair answers unreachable when D(S,p) is unreachable, untouched when no walk from S towards p crosses the link from
 -- S to E, else a pair."
-unfoldable pub prefixOutcome : ℕ → List Arc → (ℕ → ℕ → ℕ) → Protected → Target → Outcome
-prefixOutcome n hops d q to =
+unfoldable pub prefixOutcome : (ranks : List ℕ) → ℕ → List Arc → (ℕ → ℕ → ℕ) → Protected → Target → Outcome
+prefixOutcome ranks n hops d q to =
     elim (ltb (towards d to (q .near)) unreachable) [
       | false ↦ prefixUnreachable
       | true ↦ elim (mayCross n hops d q to) [
         | false ↦ prefixUntouched
-        | true ↦ outcomeOf d q to (firstPair n hops d q to)
+        | true ↦ outcomeOf d q to (firstPair ranks n hops d q to)
       ]
     ]

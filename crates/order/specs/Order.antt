@@ -16,9 +16,9 @@ use Rattle.order.specs.declared.Earliest.the-variants.{Nothing, Found}
 abbrev pub toldIn : Pair → Told
 toldIn p = record { first = p .first; endpoint = p .endpoint; class = p .class; cost = p .cost }
 
--- the keys of a pair, the first of which is given with it
+-- the keys of a pair, the rank of its class first
 abbrev pub keysIn : Ordered → List ℕ
-keysIn o = o .key ∷ o .distance ∷ o .pair .endpoint ∷ o .pair .cost ∷ o .pair .first ∷ []
+keysIn o = o .rank ∷ o .distance ∷ o .pair .endpoint ∷ o .pair .cost ∷ o .pair .first ∷ []
 
 -- what was found, if any pair was
 abbrev pub earliestIn : Earliest → Option Ordered

@@ -1,6 +1,7 @@
-// The order of the pairs that serve: the class of a pair, and the earlier of two pairs. Each function takes any numbers.
+// The order of the pairs that serve: the class of a pair, its rank, and the earlier of two pairs. Each function takes any numbers.
 ghost use mathlib.Core.Path.{_≡_};
 ghost use Prim.Native.Nat.{_≤_};
+ghost use Rattle.lfa.specs.Ranks.{rankOf};
 ghost use Rattle.lfa.specs.Repair.{noLater, orElse};
 ghost use Rattle.order.specs.Order.{keysIn, earliestIn, earlierOf, classBy};
 
@@ -12,9 +13,9 @@ pub struct Pair {
     pub cost: u32,
 }
 
-// A pair, with what orders it and is not told: the first key, and the distance from S to the endpoint.
+// A pair, with what orders it and is not told: the rank of its class, and the distance from S to the endpoint.
 pub struct Ordered {
-    pub key: u32,
+    pub rank: u32,
     pub distance: u32,
     pub pair: Pair,
 }
@@ -25,12 +26,12 @@ pub enum Earliest {
     Found(Ordered),
 }
 
-// Whether a comes no later than b: the first of key, distance, endpoint, tunnel cost and first hop in which they differ decides.
+// Whether a comes no later than b: the first of rank, distance, endpoint, tunnel cost and first hop in which they differ decides.
 fn no_later(a: Ordered, b: Ordered) -> bool
     ensures { λ r. ⌜ r ≡ noLater (keysIn a) (keysIn b) ⌝ }
 {
-    if a.key != b.key {
-        return a.key < b.key;
+    if a.rank != b.rank {
+        return a.rank < b.rank;
     }
     if a.distance != b.distance {
         return a.distance < b.distance;
@@ -72,4 +73,22 @@ pub fn class_of(hop: usize, endpoint: usize, end: u32, near: u32) -> u32
     ensures { λ r. ⌜ r ≡ classBy hop endpoint end near ⌝ }
 {
     or_else(endpoint == hop, 2) + or_else(end < near, 1)
+}
+
+// A byte as a number to compare by.
+fn wide(x: u8) -> u32
+    ensures { λ r. ⌜ r ≡ x ⌝ }
+{
+    x as u32
+}
+
+// The rank that a table gives to a class, and 0 where the table has no place for it.
+pub fn rank_of(ranks: &[u8], class: u32) -> u32
+    ensures { λ r. ⌜ r ≡ rankOf (now (ranks .entry)) class ⌝ }
+{
+    let place = class as usize;
+    if ranks.len() <= place {
+        return 0;
+    }
+    wide(ranks[place])
 }

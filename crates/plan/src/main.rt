@@ -49,13 +49,14 @@ fn print_question(link: usize, side: usize, near: u8, far: u8) {
     number(far as usize);
 }
 
-// Prints the lines of the two ends of a link, which joins the routers a and b.
+// Prints the lines of the two ends of a link, which joins the routers a and b. The ranks ascend: the rank of a class is its number.
 fn print_ends(file: &[u8], work: &mut [u32], link: usize, a: u8, b: u8) {
+    let ranks: [u8; 4] = [0, 1, 2, 3];
     print_question(link, 0, a, b);
-    print_repair(link_repair(file, work, link, 0));
+    print_repair(link_repair(file, work, &ranks, link, 0));
     end();
     print_question(link, 1, b, a);
-    print_repair(link_repair(file, work, link, 1));
+    print_repair(link_repair(file, work, &ranks, link, 1));
     end();
 }
 

@@ -146,17 +146,18 @@ pub extern "C" fn planner_size(set: u64) -> u32
     size(set)
 }
 
-// The pair that repairs a link.
+// The pair that repairs a link. The table gives each class its rank.
 #[no_mangle]
 pub extern "C" fn planner_link_repair(
     file: &[u8],
     work: &mut [u32],
+    ranks: &[u8],
     link: usize,
     end: usize,
 ) -> Numbers
-    ensures { λ r. ⌜ Numbered (askLink (now (file .entry)) (length (now (work .entry))) link end) r (now (work .entry)) (now (work .exit)) ⌝ }
+    ensures { λ r. ⌜ Numbered (askLink (now (file .entry)) (length (now (work .entry))) (now (ranks .entry)) link end) r (now (work .entry)) (now (work .exit)) ⌝ }
 {
-    repair_numbers(link_repair(file, work, link, end))
+    repair_numbers(link_repair(file, work, ranks, link, end))
 }
 
 // The pair that repairs the traffic to a prefix.
@@ -164,13 +165,14 @@ pub extern "C" fn planner_link_repair(
 pub extern "C" fn planner_prefix_repair(
     file: &[u8],
     work: &mut [u32],
+    ranks: &[u8],
     link: usize,
     end: usize,
     prefix: usize,
 ) -> Numbers
-    ensures { λ r. ⌜ Numbered (askPrefix (now (file .entry)) (length (now (work .entry))) link end prefix) r (now (work .entry)) (now (work .exit)) ⌝ }
+    ensures { λ r. ⌜ Numbered (askPrefix (now (file .entry)) (length (now (work .entry))) (now (ranks .entry)) link end prefix) r (now (work .entry)) (now (work .exit)) ⌝ }
 {
-    repair_numbers(prefix_repair(file, work, link, end, prefix))
+    repair_numbers(prefix_repair(file, work, ranks, link, end, prefix))
 }
 
 // Plays the route of the pair that repairs the traffic to a prefix, and writes its routers into the buffer.
@@ -178,14 +180,15 @@ pub extern "C" fn planner_prefix_repair(
 pub extern "C" fn planner_route(
     file: &[u8],
     work: &mut [u32],
+    ranks: &[u8],
     link: usize,
     end: usize,
     prefix: usize,
     choices: &[u8],
     buffer: &mut [u8],
 ) -> Numbers
-    ensures { λ r. ⌜ NumberedRoute (askRoute (now (file .entry)) (length (now (work .entry))) (length (now (buffer .entry))) link end prefix (now (choices .entry)))
+    ensures { λ r. ⌜ NumberedRoute (askRoute (now (file .entry)) (length (now (work .entry))) (length (now (buffer .entry))) (now (ranks .entry)) link end prefix (now (choices .entry)))
         r (now (work .entry)) (now (work .exit)) (now (buffer .entry)) (now (buffer .exit)) ⌝ }
 {
-    played_numbers(route(file, work, link, end, prefix, choices, buffer))
+    played_numbers(route(file, work, ranks, link, end, prefix, choices, buffer))
 }

@@ -46,5 +46,6 @@ pub fn question_row(refusal: Refusal) -> Row
         Refusal::NoSuchLink(n) => numbered(12, n),
         Refusal::NoSuchPrefix(n) => numbered(13, n),
         Refusal::NoPair => numbered(14, 0),
+        Refusal::BadRanks => numbered(15, 0),
     }
 }

@@ -1,5 +1,5 @@
--- Rows 1 to 13 in one place: what the file part refuses is refused early, and where it refuses nothing, the counts of the network that it
--- hands over decide rows 10 to 13.
+-- The rows before 14 in one place: what the file part refuses is refused early, and where it refuses nothing, the counts of the network
+-- that it hands over decide the rows of the question.
 -- Assumes nothing.
 use Prim.Native.Nat.{ℕ, _*_, _≤_, _<_}
 use mathlib.Core.Path.{_≡_, sym, ap, _∙_, subst}

@@ -9,14 +9,14 @@ use Rattle.lfa.specs.Network as lfa
 use Rattle.lfa.specs.Distance.{filled}
 use Rattle.lfa.specs.Space.{underMaintenance}
 use Rattle.lfa.specs.Question.{Question}
-use Rattle.lfa.specs.Refusal.{Row, early, shortArea, shortBuffer, noSuchLink, noSuchPrefix, noPair, Decided, decided, inFile}
+use Rattle.lfa.specs.Refusal.{Row, early, shortArea, shortBuffer, badRanks, noSuchLink, noSuchPrefix, noPair, Decided, decided, inFile}
 use Rattle.lfa.specs.Answer.{Answer, done, untouched, unreached, set, repair, refusal, earlyAnswer, networkLoaded}
 use Rattle.network_file.specs.Load.{faultRow}
 use Rattle.network_file.specs.Struct.{structOf}
 use Rattle.network_file.specs.declared.network.Network as struct
 use Rattle.order.specs.Order.{toldIn}
 use Rattle.repair.specs.declared.Refusal.{Refusal}
-use Rattle.repair.specs.declared.Refusal.the-variants.{File, ShortArea, ShortBuffer, NoSuchLink, NoSuchPrefix, NoPair}
+use Rattle.repair.specs.declared.Refusal.the-variants.{File, ShortArea, ShortBuffer, NoSuchLink, NoSuchPrefix, NoPair, BadRanks}
 use Rattle.repair.specs.declared.Filled.{Filled}
 use Rattle.repair.specs.declared.Filled.the-variants.{Done, Refused}
 use Rattle.repair.specs.declared.SpaceAnswer.{SpaceAnswer}
@@ -34,6 +34,7 @@ rowOf (ShortBuffer v) = decided (early shortBuffer) v
 rowOf (NoSuchLink v) = decided (early noSuchLink) v
 rowOf (NoSuchPrefix v) = decided (early noSuchPrefix) v
 rowOf NoPair = decided noPair 0
+rowOf BadRanks = decided (early badRanks) 0
 
 unfoldable pub refusalAnswer : Refusal → Answer
 refusalAnswer x = refusal (rowOf x)

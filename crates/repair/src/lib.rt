@@ -7,6 +7,7 @@ use question::Turned;
 use question::pose;
 use rows::Asked;
 use rows::Call;
+use rows::ranks::arranged;
 use search::Which;
 use search::link_pair;
 use search::prefix_pair;
@@ -22,7 +23,8 @@ ghost use Rattle.repair.specs.Answer.{filledAnswer, repairOf, spaceAnswe
 pub mod answer;
 pub mod question;
 
-// What turns a question away: rows 1 to 9 as the file part tells them, and rows 10 to 14 with the value that each returns.
+// What turns a question away: rows 1 to 9 as the file part tells them, and the others with the value that each returns, where it is not
+// always 0: `NoPair` is row 14, `BadRanks` row 15.
 pub enum Refusal {
     File(Fault),
     ShortArea(usize),
@@ -30,6 +32,7 @@ pub enum Refusal {
     NoSuchLink(usize),
     NoSuchPrefix(usize),
     NoPair,
+    BadRanks,
 }
 
 pub enum Filled {
@@ -58,6 +61,7 @@ pub fn distances(file: &[u8], work: &mut [u32]) -> Filled
     let asked = Asked {
         call: Call::Distances,
         buffer: 0,
+        ranked: false,
         link: 0,
         end: 0,
         prefix: 0,
@@ -70,13 +74,15 @@ pub fn distances(file: &[u8], work: &mut [u32]) -> Filled
     Filled::Done
 }
 
-// The pair that repairs a link: around it, to its far router.
-pub fn link_repair(file: &[u8], work: &mut [u32], link: usize, end: usize) -> Repair
-    ensures { λ r. ⌜ Answered (askLink (now (file .entry)) (length (now (work .entry))) link end) (repairOf r) (now (work .entry)) (now (work .exit)) ⌝ }
+// The pair that repairs a link: around it, to its far router. The table gives each class its rank, by which pairs are ordered.
+pub fn link_repair(file: &[u8], work: &mut [u32], ranks: &[u8], link: usize, end: usize) -> Repair
+    ensures { λ r. ⌜ Answered (askLink (now (file .entry)) (length (now (work .entry))) (now (ranks .entry)) link end) (repairOf r) (now (work .entry)) (now (work .exit)) ⌝ }
 {
+    let ranked = arranged(ranks);
     let asked = Asked {
         call: Call::Link,
         buffer: 0,
+        ranked,
         link,
         end,
         prefix: 0,
@@ -87,7 +93,7 @@ pub fn link_repair(file: &[u8], work: &mut [u32], link: usize, end: usize) -> Re
         return Repair::Refused(refusal);
     }
     let network = posed.network;
-    let serving = link_pair(network, link, end, work);
+    let serving = link_pair(network, ranks, link, end, work);
     repair_answer(serving)
 }
 
@@ -95,15 +101,18 @@ pub fn link_repair(file: &[u8], work: &mut [u32], link: usize, end: usize) -> Re
 pub fn prefix_repair(
     file: &[u8],
     work: &mut [u32],
+    ranks: &[u8],
     link: usize,
     end: usize,
     prefix: usize,
 ) -> Repair
-    ensures { λ r. ⌜ Answered (askPrefix (now (file .entry)) (length (now (work .entry))) link end prefix) (repairOf r) (now (work .entry)) (now (work .exit)) ⌝ }
+    ensures { λ r. ⌜ Answered (askPrefix (now (file .entry)) (length (now (work .entry))) (now (ranks .entry)) link end prefix) (repairOf r) (now (work .entry)) (now (work .exit)) ⌝ }
 {
+    let ranked = arranged(ranks);
     let asked = Asked {
         call: Call::Prefix,
         buffer: 0,
+        ranked,
         link,
         end,
         prefix,
@@ -114,7 +123,7 @@ pub fn prefix_repair(
         return Repair::Refused(refusal);
     }
     let network = posed.network;
-    let found = prefix_pair(network, link, end, prefix, work);
+    let found = prefix_pair(network, ranks, link, end, prefix, work);
     repair_answer(found)
 }
 
@@ -125,6 +134,7 @@ fn ask_space(file: &[u8], work: &mut [u32], link: usize, end: usize, which: Whic
     let asked = Asked {
         call: Call::Space,
         buffer: 0,
+        ranked: false,
         link,
         end,
         prefix: 0,

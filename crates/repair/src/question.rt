@@ -1,4 +1,4 @@
-// Whether a question is turned away before anything is searched for: rows 1 to 9 over the file, then rows 10 to 13 over numbers.
+// Whether a question is turned away before anything is searched for: rows 1 to 9 over the file, then rows 10, 11, 15, 12 and 13 over numbers.
 use crate::Refusal;
 use distance::fill;
 use network_file::Verdict;
@@ -12,6 +12,7 @@ ghost use mathlib.Core.Path.{_≡_};
 ghost use mathlib.Core.List.{List};
 ghost use lib.ListN.{length};
 ghost use Rattle.lfa.specs.Space.{Space};
+ghost use Rattle.lfa.specs.Ranks.{isArrangement};
 ghost use Rattle.lfa.specs.Refusal.{inEarly};
 ghost use Rattle.rows.specs.Rows.{questionAbout, rowDecided};
 ghost use Rattle.repair.specs.Answer.{turnedRow, Judges};
@@ -46,14 +47,15 @@ fn turned_by(row: Row) -> Turned
         Row::NoSuchLink(links) => Turned::Refused(Refusal::NoSuchLink(links)),
         Row::NoSuchPrefix(prefixes) => Turned::Refused(Refusal::NoSuchPrefix(prefixes)),
         Row::Passed => Turned::Ready,
+        Row::BadRanks => Turned::Refused(Refusal::BadRanks),
     }
 }
 
-// Rows 1 to 13 for a question about a file, as far as its call tries them, and the network that the file holds; whichever space is asked
-// for, and whatever the choice bytes are. Where none of the rows applies, the work area holds the distances of the network.
+// The rows before 14 for a question about a file, as far as its call tries them, and the network that the file holds; whichever space is
+// asked for, whatever the choice bytes are, and for every table of ranks that was judged as `asked` says. Where none of the rows applies, the work area holds the distances of the network.
 pub fn pose(file: &[u8], asked: Asked, work: &mut [u32]) -> Judged
-    ensures { λ r. ⌜ ((s : Space) (choices : List ℕ) →
-        Judges (questionAbout (now (file .entry)) (length (now (work .entry))) asked s choices) (r .turned) (r .network) (now (work .entry)) (now (work .exit))) ⌝ }
+    ensures { λ r. ⌜ ((s : Space) (choices ranks : List ℕ) → isArrangement ranks ≡ asked .ranked →
+        Judges (questionAbout (now (file .entry)) (length (now (work .entry))) asked s choices ranks) (r .turned) (r .network) (now (work .entry)) (now (work .exit))) ⌝ }
 {
     let loaded = load(file);
     let verdict = loaded.verdict;

@@ -58,7 +58,7 @@ module _ {q : Question} {turned : Turned} {network : Network} {area after : List
   cells-enough = omega (arith, j .cells-are, p .area (has q p (lent workArea) c refl))
 
   -- what the search finds is what the prefix repair finds
-  pub route-searched : {o : Outcome} → o ≡ prefixBy network (q .link) (q .end) (q .prefix) after → o ≡ prefixFound q
+  pub route-searched : {o : Outcome} → o ≡ prefixBy network (q .ranks) (q .link) (q .end) (q .prefix) after → o ≡ prefixFound q
   unfolding hasInput inputsOf inputNumber memberOf anyOf
   route-searched e = e ∙ prefix-searched p t area (j .cells-are) (j .limit-is) (area-filled j bytes ready) (has q p aLink c refl) (has q p (lent workArea) c refl) (has q p aPrefix c refl)
 

@@ -9,6 +9,7 @@ use repair::question::Turned;
 use repair::question::pose;
 use rows::Asked;
 use rows::Call;
+use rows::ranks::arranged;
 use search::prefix_pair;
 ghost use mathlib.Core.Path.{_≡_};
 ghost use mathlib.Core.List.{List};
@@ -56,18 +57,21 @@ fn repairing<'a>(from: &'a [u8; 128], to: &'a [u8; 128], link: usize, end: usize
 pub fn route(
     file: &[u8],
     work: &mut [u32],
+    ranks: &[u8],
     link: usize,
     end: usize,
     prefix: usize,
     choices: &[u8],
     buffer: &mut [u8],
 ) -> Played
-    ensures { λ r. ⌜ Routed (askRoute (now (file .entry)) (length (now (work .entry))) (length (now (buffer .entry))) link end prefix (now (choices .entry)))
+    ensures { λ r. ⌜ Routed (askRoute (now (file .entry)) (length (now (work .entry))) (length (now (buffer .entry))) (now (ranks .entry)) link end prefix (now (choices .entry)))
         (playedOf r) (now (work .entry)) (now (work .exit)) (now (buffer .entry)) (now (buffer .exit)) ⌝ }
 {
+    let ranked = arranged(ranks);
     let asked = Asked {
         call: Call::Route,
         buffer: buffer.len(),
+        ranked,
         link,
         end,
         prefix,
@@ -78,7 +82,7 @@ pub fn route(
         return Played::Refused(refusal);
     }
     let network = posed.network;
-    let answer = repair_answer(prefix_pair(network, link, end, prefix, work));
+    let answer = repair_answer(prefix_pair(network, ranks, link, end, prefix, work));
     let Repair::Pair(pair) = answer else {
         return passed_on(answer);
     };

@@ -13,7 +13,7 @@ use Rattle.rows.specs.declared.Call.the-variants.{Distances, Space, Link
 use Rattle.rows.specs.declared.Asked.{Asked}
 use Rattle.rows.specs.declared.Inputs.{Inputs}
 use Rattle.rows.specs.declared.Row.{Row}
-use Rattle.rows.specs.declared.Row.the-variants.{ShortArea, ShortBuffer, NoSuchLink, NoSuchPrefix, Passed}
+use Rattle.rows.specs.declared.Row.the-variants.{ShortArea, ShortBuffer, NoSuchLink, NoSuchPrefix, BadRanks, Passed}
 
 -- the call, and the space that it asks for where it asks for one
 unfoldable pub callOf : Call → space.Space → question.Call
@@ -23,13 +23,15 @@ callOf Link s = question.linkRepair
 callOf Prefix s = question.prefixRepair
 callOf Route s = question.route
 
--- the question about a file, with a work area of so many cells; the rows look at neither the space nor the choice bytes
-unfoldable pub questionAbout : Bytes → (area : ℕ) → Asked → space.Space → (choices : List ℕ) → question.Question
-questionAbout b area a s choices = record {
+-- the question about a file, with a work area of so many cells and this table of ranks; the rows look at neither the space nor the
+-- choice bytes
+unfoldable pub questionAbout : Bytes → (area : ℕ) → Asked → space.Space → (choices ranks : List ℕ) → question.Question
+questionAbout b area a s choices ranks = record {
   call = callOf (a .call) s;
   file = b;
   area = area;
   buffer = a .buffer;
+  ranks = ranks;
   link = a .link;
   end = a .end;
   prefix = a .prefix;
@@ -41,6 +43,7 @@ questionAbout b area a s choices = record {
 unfoldable pub inputsIn : question.Call → Inputs
 inputsIn c = record {
   buffer = question.hasInput c (question.lent question.routeBuffer);
+  ranks = question.hasInput c question.aRankTable;
   link = question.hasInput c question.aLink;
   prefix = question.hasInput c question.aPrefix;
 }
@@ -57,4 +60,5 @@ rowDecided (ShortArea v) = some (table.decided table.shortArea v)
 rowDecided (ShortBuffer v) = some (table.decided table.shortBuffer v)
 rowDecided (NoSuchLink v) = some (table.decided table.noSuchLink v)
 rowDecided (NoSuchPrefix v) = some (table.decided table.noSuchPrefix v)
+rowDecided BadRanks = some (table.decided table.badRanks 0)
 rowDecided Passed = none

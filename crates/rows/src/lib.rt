@@ -1,5 +1,5 @@
-// Rows 10 to 13 of the table of refusals, for every call that tries one of them. They look at numbers alone: the counts of a file's head
-// and those of the question.
+// Rows 10 to 13 and 15 of the table of refusals, for every call that tries one of them, in the order 10, 11, 15, 12, 13. They look at the
+// counts of a file's head, at the numbers of the question, and at whether its table of ranks is an arrangement.
 use metric::read::wide;
 ghost use Prim.Native.Nat.{ℕ};
 ghost use mathlib.Core.Path.{_≡_};
@@ -9,8 +9,11 @@ ghost use lib.Dec.{ltb, leb};
 ghost use Rattle.lfa.specs.Lists.{select};
 ghost use Rattle.lfa.specs.File.{Bytes};
 ghost use Rattle.lfa.specs.Space.{Space};
+ghost use Rattle.lfa.specs.Ranks.{isArrangement};
 ghost use Rattle.lfa.specs.Refusal.{earlyRows, triesEarly, firstRow, sizedReturned};
 ghost use Rattle.rows.specs.Rows.{callOf, questionAbout, inputsIn, orRow, rowDecided};
+
+pub mod ranks;
 
 // The calls, by the inputs that these rows look at. They do not look at which space is asked for.
 pub enum Call {
@@ -21,10 +24,12 @@ pub enum Call {
     Route,
 }
 
-// The numbers of a question, beside the cells of its work area. Where the call has no such input, any number may stand.
+// The numbers of a question, beside the cells of its work area, and whether the lent table of ranks is an arrangement. Where the call has
+// no such input, any value may stand.
 pub struct Asked {
     pub call: Call,
     pub buffer: usize,
+    pub ranked: bool,
     pub link: usize,
     pub end: usize,
     pub prefix: usize,
@@ -36,12 +41,14 @@ pub enum Row {
     ShortBuffer(usize),
     NoSuchLink(usize),
     NoSuchPrefix(usize),
+    BadRanks,
     Passed,
 }
 
 // Which inputs a call has, beside the file and the work area.
 struct Inputs {
     buffer: bool,
+    ranks: bool,
     link: bool,
     prefix: bool,
 }
@@ -52,26 +59,31 @@ fn inputs_of(call: Call) -> Inputs
     match call {
         Call::Distances => Inputs {
             buffer: false,
+            ranks: false,
             link: false,
             prefix: false,
         },
         Call::Space => Inputs {
             buffer: false,
+            ranks: false,
             link: true,
             prefix: false,
         },
         Call::Link => Inputs {
             buffer: false,
+            ranks: true,
             link: true,
             prefix: false,
         },
         Call::Prefix => Inputs {
             buffer: false,
+            ranks: true,
             link: true,
             prefix: true,
         },
         Call::Route => Inputs {
             buffer: true,
+            ranks: true,
             link: true,
             prefix: true,
         },
@@ -98,11 +110,11 @@ fn or_row(tried: bool, passes: bool, row: Row, later: Row) -> Row
     later
 }
 
-// The first of rows 10 to 13 that applies to a question about a file with these counts, `area` being the cells of the work area, which
-// every call has. It is found from the last row to the first, so that a further row is one more step.
+// The first of rows 10 to 13 and 15 that applies to a question about a file with these counts, `area` being the cells of the work area,
+// which every call has. It is found from the last row to the first, so that a further row is one more step.
 pub fn first_row(routers: u8, links: usize, prefixes: usize, area: usize, asked: Asked) -> Row
-    ensures { λ r. ⌜ ((b : Bytes) (s : Space) (choices : List ℕ) → rowDecided r
-        ≡ firstRow (sizedReturned routers links prefixes (questionAbout b area asked s choices)) (select (triesEarly (callOf (asked .call) s)) earlyRows)) ⌝ }
+    ensures { λ r. ⌜ ((b : Bytes) (s : Space) (choices ranks : List ℕ) → isArrangement ranks ≡ asked .ranked → rowDecided r
+        ≡ firstRow (sizedReturned routers links prefixes (questionAbout b area asked s choices ranks)) (select (triesEarly (callOf (asked .call) s)) earlyRows)) ⌝ }
 {
     let call = asked.call;
     let has = inputs_of(call);
@@ -117,11 +129,12 @@ pub fn first_row(routers: u8, links: usize, prefixes: usize, area: usize, asked:
         Row::Passed,
     );
     let from12 = or_row(has.link, there, Row::NoSuchLink(links), from13);
+    let from15 = or_row(has.ranks, asked.ranked, Row::BadRanks, from12);
     let from11 = or_row(
         has.buffer,
         bytes <= asked.buffer,
         Row::ShortBuffer(bytes),
-        from12,
+        from15,
     );
     or_row(true, cells <= area, Row::ShortArea(cells), from11)
 }

@@ -43,12 +43,12 @@ first-append found [] m = refl
 first-append found (o ∷ l) m = first-append (earlierOf found o) l m
 
 -- the endpoints of one first hop, one router more
-module _ (n : ℕ) (area : List ℕ) (near far : ℕ) (column : List ℕ) (f : FirstHop) (set y : ℕ) where
+module _ (ranks : List ℕ) (n : ℕ) (area : List ℕ) (near far : ℕ) (column : List ℕ) (f : FirstHop) (set y : ℕ) where
   abbrev at : ℕ → Ordered
-  at = orderedAt n area near column f
+  at = orderedAt ranks n area near column f
 
   abbrev upTo : ℕ → List Ordered
-  upTo = hopPairs n area near far column f set
+  upTo = hopPairs ranks n area near far column f set
 
   one-more : (b : Bool) → mayEnd set near far y ≡ b → upTo (y + 1) ≡ upTo y ++ map at (keepIf b y [])
   unfolding hopPairs select
@@ -67,25 +67,25 @@ module _ (n : ℕ) (area : List ℕ) (near far : ℕ) (column : List ℕ) (f : F
   end-same found t e = e ∙ sym (ap (firstOf found) (one-more false t ∙ append-nil (upTo y)))
 
 -- the pairs of one first hop more of a column
-module _ (n : ℕ) (q : Protected) (area column : List ℕ) (mask : ℕ) (from to out back arcs : List ℕ) where
+module _ (ranks : List ℕ) (n : ℕ) (q : Protected) (area column : List ℕ) (mask : ℕ) (from to out back arcs : List ℕ) where
   abbrev tried : ℕ → List Ordered
-  tried i = pairsTried n q area column mask (hopsIn from to out back i arcs)
+  tried i = pairsTried ranks n q area column mask (hopsIn from to out back i arcs)
 
   pub none-tried : none ≡ firstOf none (tried 0)
   unfolding firstOf pairsTried hopsIn below countUp flat
   none-tried = refl
 
   pub hop-tried : {before next : Option Ordered} {f : FirstHop} {set : ℕ} (i : ℕ) → before ≡ firstOf none (tried i) → f ≡ hopBy from to out back (getD arcs i 0) →
-      set ≡ avoidedFrom n q area (f .router) → next ≡ firstOf before (hopPairs n area (q .near) (q .far) column f (bitAnd mask set) n) → next ≡ firstOf none (tried (i + 1))
+      set ≡ avoidedFrom n q area (f .router) → next ≡ firstOf before (hopPairs ranks n area (q .near) (q .far) column f (bitAnd mask set) n) → next ≡ firstOf none (tried (i + 1))
   unfolding pairsTried pairsOver flat
   hop-tried {before} {next} {f} {set} i e ef es s =
       let passed = hopsIn from to out back i arcs in
       let g = hopBy from to out back (getD arcs i 0) in
-      let own = pairsOver n q area column mask g in
-      let one : hopPairs n area (q .near) (q .far) column f (bitAnd mask set) n ≡ own = ap (λ (k : ℕ). hopPairs n area (q .near) (q .far) column f (bitAnd mask k) n) es ∙ ap (pairsOver n q area column mask) ef in
+      let own = pairsOver ranks n q area column mask g in
+      let one : hopPairs ranks n area (q .near) (q .far) column f (bitAnd mask set) n ≡ own = ap (λ (k : ℕ). hopPairs ranks n area (q .near) (q .far) column f (bitAnd mask k) n) es ∙ ap (pairsOver ranks n q area column mask) ef in
       let all : tried (i + 1) ≡ tried i ++ own =
-      ap (pairsTried n q area column mask) (hops-more from to out back i arcs)
-      ∙ ap flat (map-append (pairsOver n q area column mask) passed (g ∷ []))
-      ∙ flat-append (map (pairsOver n q area column mask) passed) (own ∷ [])
+      ap (pairsTried ranks n q area column mask) (hops-more from to out back i arcs)
+      ∙ ap flat (map-append (pairsOver ranks n q area column mask) passed (g ∷ []))
+      ∙ flat-append (map (pairsOver ranks n q area column mask) passed) (own ∷ [])
       ∙ ap (λ (l : List Ordered). tried i ++ l) (append-nil own) in
       s ∙ ap₂ firstOf e one ∙ sym (ap (firstOf none) all ∙ first-append none (tried i) own)

@@ -28,22 +28,22 @@ unfoldable pub spaceIf : Bool → Space → (n : ℕ) → List Arc → Protected
 spaceIf passes s n hops q area = elim passes [ true ↦ spaceFor s n hops q area | false ↦ 0 ]
 
 -- the pair that serves a target to which a column holds the distances
-unfoldable pub pairFor : (n : ℕ) → List Arc → Protected → (area column : List ℕ) → Outcome
-pairFor n hops q area column = outcomeFor (firstServing n hops q area column (avoidingIn n q area column))
+unfoldable pub pairFor : (ranks : List ℕ) → (n : ℕ) → List Arc → Protected → (area column : List ℕ) → Outcome
+pairFor ranks n hops q area column = outcomeFor (firstServing ranks n hops q area column (avoidingIn n q area column))
 
-unfoldable pub linkIf : Bool → (n : ℕ) → List Arc → Protected → (area : List ℕ) → Outcome
-linkIf passes n hops q area = elim passes [ true ↦ pairFor n hops q area (routerColumn n (q .far) area) | false ↦ noneServes ]
+unfoldable pub linkIf : (ranks : List ℕ) → Bool → (n : ℕ) → List Arc → Protected → (area : List ℕ) → Outcome
+linkIf ranks passes n hops q area = elim passes [ true ↦ pairFor ranks n hops q area (routerColumn n (q .far) area) | false ↦ noneServes ]
 
 -- what is found for a prefix to which a column holds the distances
-unfoldable pub prefixFor : (n : ℕ) → List Arc → Protected → (area column : List ℕ) → Outcome
-prefixFor n hops q area column =
+unfoldable pub prefixFor : (ranks : List ℕ) → (n : ℕ) → List Arc → Protected → (area column : List ℕ) → Outcome
+prefixFor ranks n hops q area column =
     elim (ltb (getD column (q .near) 0) unreachable) [
       | false ↦ prefixUnreachable
-      | true ↦ elim (crossesOut q (λ x. getD column x 0)) [ false ↦ prefixUntouched | true ↦ pairFor n hops q area column ]
+      | true ↦ elim (crossesOut q (λ x. getD column x 0)) [ false ↦ prefixUntouched | true ↦ pairFor ranks n hops q area column ]
     ]
 
-unfoldable pub prefixIf : Bool → (n : ℕ) → List Arc → Protected → (area column : List ℕ) → Outcome
-prefixIf passes n hops q area column = elim passes [ true ↦ prefixFor n hops q area column | false ↦ noneServes ]
+unfoldable pub prefixIf : (ranks : List ℕ) → Bool → (n : ℕ) → List Arc → Protected → (area column : List ℕ) → Outcome
+prefixIf ranks passes n hops q area column = elim passes [ true ↦ prefixFor ranks n hops q area column | false ↦ noneServes ]
 
 -- ---- by a network and a question
 
@@ -61,14 +61,14 @@ unfoldable pub spaceBy : Space → Network → (link end : ℕ) → (area : List
 spaceBy s network link end area = spaceIf (searches network link end area) s (network .routers) (hopsOf network) (protectedOf network link end) area
 
 -- what a link repair finds
-unfoldable pub linkBy : Network → (link end : ℕ) → (area : List ℕ) → Outcome
-linkBy network link end area = linkIf (searches network link end area) (network .routers) (hopsOf network) (protectedOf network link end) area
+unfoldable pub linkBy : Network → (ranks : List ℕ) → (link end : ℕ) → (area : List ℕ) → Outcome
+linkBy network ranks link end area = linkIf ranks (searches network link end area) (network .routers) (hopsOf network) (protectedOf network link end) area
 
 -- the distances to a prefix
 abbrev pub columnTo : Network → (prefix : ℕ) → (area : List ℕ) → List ℕ
 columnTo network prefix area = prefixColumn (network .routers) (network .at) (network .own) (8 * prefix) (getD (network .attached) prefix 0) area
 
 -- what a prefix repair finds
-unfoldable pub prefixBy : Network → (link end prefix : ℕ) → (area : List ℕ) → Outcome
-prefixBy network link end prefix area =
-    prefixIf (ltb prefix 128 && searches network link end area) (network .routers) (hopsOf network) (protectedOf network link end) area (columnTo network prefix area)
+unfoldable pub prefixBy : Network → (ranks : List ℕ) → (link end prefix : ℕ) → (area : List ℕ) → Outcome
+prefixBy network ranks link end prefix area =
+    prefixIf ranks (ltb prefix 128 && searches network link end area) (network .routers) (hopsOf network) (protectedOf network link end) area (columnTo network prefix area)

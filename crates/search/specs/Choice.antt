@@ -11,6 +11,7 @@ use Rattle.lfa.specs.Lists.{below, select, flat}
 use Rattle.lfa.specs.Network.{Arc}
 use Rattle.lfa.specs.Distance.{unreachable}
 use Rattle.lfa.specs.Space.{Protected, FirstHop, firstHops, extendedP, has}
+use Rattle.lfa.specs.Ranks.{rankOf}
 use Rattle.lfa.specs.Repair.{Outcome, prefixUnreachable, prefixUntouched, noneServes, serving}
 use Rattle.metric.specs.Area.{cellIn}
 use Rattle.order.specs.declared.Ordered.{Ordered}
@@ -42,12 +43,12 @@ firstOf found (o ∷ os) = firstOf (earlierOf found o) os
 
 -- ---- the pairs that are tried
 
--- the pair of a first hop and an endpoint; a column holds the distances to the target. The first key is the class.
-unfoldable pub orderedAt : (n : ℕ) → (area : List ℕ) → (near : ℕ) → (column : List ℕ) → FirstHop → (y : ℕ) → Ordered
-orderedAt n area near column f y =
+-- the pair of a first hop and an endpoint; a column holds the distances to the target. The first key is the rank of the class.
+unfoldable pub orderedAt : (ranks : List ℕ) → (n : ℕ) → (area : List ℕ) → (near : ℕ) → (column : List ℕ) → FirstHop → (y : ℕ) → Ordered
+orderedAt ranks n area near column f y =
     let class = classBy (f .router) y (getD column y 0) (getD column near 0) in
     record {
-      key = class;
+      rank = rankOf ranks class;
       distance = cellIn n area near y;
       pair = record { first = f .router; endpoint = y; class = class; cost = min (f .cost + cellIn n area (f .router) y) unreachable };
     }
@@ -57,17 +58,17 @@ abbrev pub mayEnd : (set near far y : ℕ) → Bool
 mayEnd set near far y = has set y && (not (eqb y near) && not (eqb y far))
 
 -- the pairs of one first hop whose endpoints are in the set and below `last`
-unfoldable pub hopPairs : (n : ℕ) → (area : List ℕ) → (near far : ℕ) → (column : List ℕ) → FirstHop → (set last : ℕ) → List Ordered
-hopPairs n area near far column f set last = map (orderedAt n area near column f) (select (mayEnd set near far) (below last))
+unfoldable pub hopPairs : (ranks : List ℕ) → (n : ℕ) → (area : List ℕ) → (near far : ℕ) → (column : List ℕ) → FirstHop → (set last : ℕ) → List Ordered
+hopPairs ranks n area near far column f set last = map (orderedAt ranks n area near column f) (select (mayEnd set near far) (below last))
 
 -- the pairs of one first hop whose endpoints are in the mask, and those that it avoids the link on the way to
-unfoldable pub pairsOver : (n : ℕ) → Protected → (area column : List ℕ) → (mask : ℕ) → FirstHop → List Ordered
-pairsOver n q area column mask f = hopPairs n area (q .near) (q .far) column f (bitAnd mask (avoidedFrom n q area (f .router))) n
+unfoldable pub pairsOver : (ranks : List ℕ) → (n : ℕ) → Protected → (area column : List ℕ) → (mask : ℕ) → FirstHop → List Ordered
+pairsOver ranks n q area column mask f = hopPairs ranks n area (q .near) (q .far) column f (bitAnd mask (avoidedFrom n q area (f .router))) n
 
-unfoldable pub pairsTried : (n : ℕ) → Protected → (area column : List ℕ) → (mask : ℕ) → List FirstHop → List Ordered
-pairsTried n q area column mask firsts = flat (map (pairsOver n q area column mask) firsts)
+unfoldable pub pairsTried : (ranks : List ℕ) → (n : ℕ) → Protected → (area column : List ℕ) → (mask : ℕ) → List FirstHop → List Ordered
+pairsTried ranks n q area column mask firsts = flat (map (pairsOver ranks n q area column mask) firsts)
 
 -- The first of the pairs that serve a target to which a column holds the distances: their endpoints are in extended P, masked by the set
 -- of routers from which the second leg avoids the link, `onward`.
-unfoldable pub firstServing : (n : ℕ) → List Arc → Protected → (area column : List ℕ) → (onward : ℕ) → Option Ordered
-firstServing n hops q area column onward = firstOf none (pairsTried n q area column (bitAnd (spaceFor extendedP n hops q area) onward) (firstHops q hops))
+unfoldable pub firstServing : (ranks : List ℕ) → (n : ℕ) → List Arc → Protected → (area column : List ℕ) → (onward : ℕ) → Option Ordered
+firstServing ranks n hops q area column onward = firstOf none (pairsTried ranks n q area column (bitAnd (spaceFor extendedP n hops q area) onward) (firstHops q hops))

@@ -66,8 +66,8 @@ pub fn space_in(which: Which, network: Network, link: usize, end: usize, dist: &
 }
 
 // The pair that repairs a link: around it, to its far router.
-pub fn link_pair(network: Network, link: usize, end: usize, dist: &[u32]) -> Found
-    ensures { λ r. ⌜ outcomeIn r ≡ linkBy network link end (now (dist .entry)) ⌝ }
+pub fn link_pair(network: Network, ranks: &[u8], link: usize, end: usize, dist: &[u32]) -> Found
+    ensures { λ r. ⌜ outcomeIn r ≡ linkBy network (now (ranks .entry)) link end (now (dist .entry)) ⌝ }
 {
     if 128 <= link {
         return Found::Nothing;
@@ -83,6 +83,7 @@ pub fn link_pair(network: Network, link: usize, end: usize, dist: &[u32]) -> Fou
         end,
     );
     link_found(
+        ranks,
         dist,
         n,
         links,
@@ -95,8 +96,15 @@ pub fn link_pair(network: Network, link: usize, end: usize, dist: &[u32]) -> Fou
 }
 
 // The pair that repairs the traffic to a prefix, where it may cross the link.
-pub fn prefix_pair(network: Network, link: usize, end: usize, prefix: usize, dist: &[u32]) -> Found
-    ensures { λ r. ⌜ outcomeIn r ≡ prefixBy network link end prefix (now (dist .entry)) ⌝ }
+pub fn prefix_pair(
+    network: Network,
+    ranks: &[u8],
+    link: usize,
+    end: usize,
+    prefix: usize,
+    dist: &[u32],
+) -> Found
+    ensures { λ r. ⌜ outcomeIn r ≡ prefixBy network (now (ranks .entry)) link end prefix (now (dist .entry)) ⌝ }
 {
     if 128 <= prefix {
         return Found::Nothing;
@@ -117,6 +125,7 @@ pub fn prefix_pair(network: Network, link: usize, end: usize, prefix: usize, dis
         end,
     );
     prefix_found(
+        ranks,
         dist,
         n,
         links,

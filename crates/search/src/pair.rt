@@ -18,6 +18,7 @@ use order::Ordered;
 use order::Pair;
 use order::class_of;
 use order::earlier;
+use order::rank_of;
 ghost use mathlib.Core.Path.{_≡_};
 ghost use mathlib.Core.Option.{none};
 ghost use Prim.Native.Nat.{_≤_, _<_};
@@ -29,8 +30,9 @@ ghost use Rattle.search.specs.Hops.{hopIn, hopsIn};
 ghost use Rattle.search.specs.Choice.{outcomeFor, outcomeIn, firstOf, orderedAt, mayEnd, hopPairs, pairsTried, firstServing};
 ghost use Rattle.search.specs.Calls.{searchable, pairFor, linkIf, prefixIf};
 
-// The pair of a first hop and an endpoint. Its first key is its class.
+// The pair of a first hop and an endpoint. Its first key is the rank of its class.
 fn pair_of(
+    ranks: &[u8],
     dist: &[u32],
     n: usize,
     near: usize,
@@ -39,12 +41,13 @@ fn pair_of(
     endpoint: usize,
 ) -> Ordered
     requires { ⌜ (near < 64) × (endpoint < 64) ⌝ }
-    ensures { λ r. ⌜ r ≡ orderedAt n (now (dist .entry)) near (now (target .entry)) (hopIn hop) endpoint ⌝ }
+    ensures { λ r. ⌜ r ≡ orderedAt (now (ranks .entry)) n (now (dist .entry)) near (now (target .entry)) (hopIn hop) endpoint ⌝ }
 {
     let first = hop.router;
     let class = class_of(first, endpoint, target[endpoint], target[near]);
+    let rank = rank_of(ranks, class);
     Ordered {
-        key: class,
+        rank,
         distance: cell(dist, n, near, endpoint),
         pair: Pair {
             first,
@@ -68,6 +71,7 @@ fn may_end(set: u64, near: usize, far: usize, y: usize) -> bool
 
 // The earliest of what was found and the pairs of one first hop with an endpoint in the set.
 fn over_hop(
+    ranks: &[u8],
     dist: &[u32],
     n: usize,
     near: usize,
@@ -78,13 +82,13 @@ fn over_hop(
     before: Earliest,
 ) -> Earliest
     requires { ⌜ (n ≤ 64) × (near < 64) ⌝ }
-    ensures { λ r. ⌜ earliestIn r ≡ firstOf (earliestIn before) (hopPairs n (now (dist .entry)) near far (now (target .entry)) (hopIn hop) ends n) ⌝ }
+    ensures { λ r. ⌜ earliestIn r ≡ firstOf (earliestIn before) (hopPairs (now (ranks .entry)) n (now (dist .entry)) near far (now (target .entry)) (hopIn hop) ends n) ⌝ }
 {
     let mut best = before;
     let mut y = 0;
     while y < n {
         if may_end(ends, near, far, y) {
-            best = earlier(best, pair_of(dist, n, near, target, hop, y));
+            best = earlier(best, pair_of(ranks, dist, n, near, target, hop, y));
         }
         y += 1;
     }
@@ -93,6 +97,7 @@ fn over_hop(
 
 // The earliest of the pairs of the first hops with an endpoint in the mask that the first hop avoids the link on the way to.
 fn search(
+    ranks: &[u8],
     dist: &[u32],
     n: usize,
     from: &[u8; 128],
@@ -105,7 +110,7 @@ fn search(
     mask: u64,
 ) -> Earliest
     requires { ⌜ (n ≤ 64) × (protected .near < 64) × (hops .count ≤ 256) ⌝ }
-    ensures { λ r. ⌜ earliestIn r ≡ firstOf none (pairsTried n (asked protected) (now (dist .entry)) (now (target .entry)) mask
+    ensures { λ r. ⌜ earliestIn r ≡ firstOf none (pairsTried (now (ranks .entry)) n (asked protected) (now (dist .entry)) (now (target .entry)) mask
         (hopsIn (now (from .entry)) (now (to .entry)) (now (out .entry)) (now (back .entry)) (hops .count) (hops .arcs))) ⌝ }
 {
     let near = protected.near;
@@ -115,7 +120,7 @@ fn search(
     while i < hops.count {
         let hop = hop_of(hops.arcs[i], from, to, out, back);
         let ends = mask & avoiding_from(dist, dist, n, protected, hop.router);
-        best = over_hop(dist, n, near, far, target, hop, ends, best);
+        best = over_hop(ranks, dist, n, near, far, target, hop, ends, best);
         i += 1;
     }
     best
@@ -124,6 +129,7 @@ fn search(
 // The first of the pairs that serve a target, `target` holding the distances to it and `onward` the routers from which the second leg
 // avoids the link. The endpoints are those of extended P that `onward` holds: for the link repair, the intersection of extended P and Q.
 fn first_pair(
+    ranks: &[u8],
     dist: &[u32],
     n: usize,
     links: usize,
@@ -136,15 +142,28 @@ fn first_pair(
     onward: u64,
 ) -> Earliest
     requires { ⌜ (n ≤ 64) × (protected .near < 64) × (links ≤ 128) ⌝ }
-    ensures { λ r. ⌜ earliestIn r ≡ firstServing n (arcsIn (now (from .entry)) (now (to .entry)) (now (out .entry)) (now (back .entry)) links) (asked protected) (now (dist .entry)) (now (target .entry)) onward ⌝ }
+    ensures { λ r. ⌜ earliestIn r ≡ firstServing (now (ranks .entry)) n (arcsIn (now (from .entry)) (now (to .entry)) (now (out .entry)) (now (back .entry)) links) (asked protected) (now (dist .entry)) (now (target .entry)) onward ⌝ }
 {
     let hops = first_hops(links, from, to, out, back, protected);
     let mask = extended_p(dist, n, from, to, protected, hops) & onward;
-    search(dist, n, from, to, out, back, protected, target, hops, mask)
+    search(
+        ranks,
+        dist,
+        n,
+        from,
+        to,
+        out,
+        back,
+        protected,
+        target,
+        hops,
+        mask,
+    )
 }
 
 // The pair that serves a target, `target` holding the distances to it, told without what only orders it.
 fn pair_found(
+    ranks: &[u8],
     dist: &[u32],
     n: usize,
     links: usize,
@@ -156,10 +175,11 @@ fn pair_found(
     target: &[u32; 64],
 ) -> Found
     requires { ⌜ (n ≤ 64) × (protected .near < 64) × (links ≤ 128) ⌝ }
-    ensures { λ r. ⌜ outcomeIn r ≡ pairFor n (arcsIn (now (from .entry)) (now (to .entry)) (now (out .entry)) (now (back .entry)) links) (asked protected) (now (dist .entry)) (now (target .entry)) ⌝ }
+    ensures { λ r. ⌜ outcomeIn r ≡ pairFor (now (ranks .entry)) n (arcsIn (now (from .entry)) (now (to .entry)) (now (out .entry)) (now (back .entry)) links) (asked protected) (now (dist .entry)) (now (target .entry)) ⌝ }
 {
     let onward = avoiding_to(target, dist, n, protected, target);
     let best = first_pair(
+        ranks,
         dist,
         n,
         links,
@@ -180,6 +200,7 @@ fn pair_found(
 
 // What a link repair finds: its target is E.
 pub(crate) fn link_found<'a>(
+    ranks: &[u8],
     dist: &[u32],
     n: usize,
     links: usize,
@@ -189,7 +210,7 @@ pub(crate) fn link_found<'a>(
     back: &'a [u16; 128],
     protected: Protected,
 ) -> Found
-    ensures { λ r. ⌜ outcomeIn r ≡ linkIf (searchable n links (asked protected) (length (now (dist .entry)))) n
+    ensures { λ r. ⌜ outcomeIn r ≡ linkIf (now (ranks .entry)) (searchable n links (asked protected) (length (now (dist .entry)))) n
         (arcsIn (now (from .entry)) (now (to .entry)) (now (out .entry)) (now (back .entry)) links) (asked protected) (now (dist .entry)) ⌝ }
 {
     if !can_search(n, links, protected, dist.len()) {
@@ -197,11 +218,23 @@ pub(crate) fn link_found<'a>(
     }
     let far = protected.far;
     let target = towards_router(dist, n, far);
-    pair_found(dist, n, links, from, to, out, back, protected, &target)
+    pair_found(
+        ranks,
+        dist,
+        n,
+        links,
+        from,
+        to,
+        out,
+        back,
+        protected,
+        &target,
+    )
 }
 
 // What a prefix repair finds, `target` holding the distances to the prefix.
 pub(crate) fn prefix_found<'a>(
+    ranks: &[u8],
     dist: &[u32],
     n: usize,
     links: usize,
@@ -212,7 +245,7 @@ pub(crate) fn prefix_found<'a>(
     protected: Protected,
     target: &'a [u32; 64],
 ) -> Found
-    ensures { λ r. ⌜ outcomeIn r ≡ prefixIf (searchable n links (asked protected) (length (now (dist .entry)))) n
+    ensures { λ r. ⌜ outcomeIn r ≡ prefixIf (now (ranks .entry)) (searchable n links (asked protected) (length (now (dist .entry)))) n
         (arcsIn (now (from .entry)) (now (to .entry)) (now (out .entry)) (now (back .entry)) links) (asked protected) (now (dist .entry)) (now (target .entry)) ⌝ }
 {
     if !can_search(n, links, protected, dist.len()) {
@@ -225,5 +258,16 @@ pub(crate) fn prefix_found<'a>(
     if !may_cross(target, protected) {
         return Found::Untouched;
     }
-    pair_found(dist, n, links, from, to, out, back, protected, target)
+    pair_found(
+        ranks,
+        dist,
+        n,
+        links,
+        from,
+        to,
+        out,
+        back,
+        protected,
+        target,
+    )
 }

@@ -1,5 +1,5 @@
 // What the space calls and the repair calls answer to the questions about a file. Every call gets a work area that does not hold the
-// distances yet.
+// distances yet. The ranks ascend where nothing else is said.
 use super::print::end;
 use super::print::number;
 use super::print::refused;
@@ -81,11 +81,24 @@ fn print_q(file: &[u8], link: usize, side: usize) {
     print_space(repair::q_space(file, &mut work, link, side));
 }
 
+// The rest of a line: the link repair with some ranks.
+fn print_ranked(file: &[u8], ranks: &[u8], link: usize, side: usize) {
+    let mut work = [7u32; 4096];
+    print_repair(repair::link_repair(file, &mut work, ranks, link, side));
+}
+
 // The line of the link repair.
 fn print_link_repair(file: &[u8], link: usize, side: usize) {
     print_question(b"link-repair", link, side);
-    let mut work = [7u32; 4096];
-    print_repair(repair::link_repair(file, &mut work, link, side));
+    let ranks = [0u8, 1, 2, 3];
+    print_ranked(file, &ranks, link, side);
+}
+
+// The line of the link repair with ranks by which tunnels come first.
+fn print_ranked_link_repair(file: &[u8], link: usize, side: usize) {
+    print_question(b"ranked-link-repair", link, side);
+    let ranks = [2u8, 3, 1, 0];
+    print_ranked(file, &ranks, link, side);
 }
 
 // The spaces and the link repair of one link and end.
@@ -100,8 +113,9 @@ fn print_link(file: &[u8], link: usize, side: usize) {
 fn print_prefix(file: &[u8], link: usize, side: usize, prefix: usize) {
     print_question(b"prefix-repair", link, side);
     number(prefix);
+    let ranks = [0u8, 1, 2, 3];
     let mut work = [7u32; 4096];
-    print_repair(repair::prefix_repair(file, &mut work, link, side, prefix));
+    print_repair(repair::prefix_repair(file, &mut work, &ranks, link, side, prefix));
 }
 
 // The lines of the prefix repairs of one link and end.
@@ -137,10 +151,10 @@ fn code(answer: Repair) -> u64 {
     }
 }
 
-// The code of the prefix repair of one link, end and prefix.
-fn prefix_code(file: &[u8], link: usize, side: usize, prefix: usize) -> u64 {
+// The code of the prefix repair of one link, end and prefix with some ranks.
+fn prefix_code(file: &[u8], ranks: &[u8], link: usize, side: usize, prefix: usize) -> u64 {
     let mut work = [7u32; 4096];
-    code(repair::prefix_repair(file, &mut work, link, side, prefix))
+    code(repair::prefix_repair(file, &mut work, ranks, link, side, prefix))
 }
 
 // The check sum of a row of answers: 33 times the sum before, and the next code.
@@ -148,12 +162,12 @@ fn mixed(sum: u64, code: u64) -> u64 {
     std::num::wrapping_add_u64(std::num::wrapping_add_u64(sum << 5, sum), code)
 }
 
-// The check sum of the prefix repairs of one link and end, in the order of the prefixes.
-fn check_sum(file: &[u8], link: usize, side: usize, prefixes: usize) -> u64 {
+// The check sum of the prefix repairs of one link and end with some ranks, in the order of the prefixes.
+fn check_sum(file: &[u8], ranks: &[u8], link: usize, side: usize, prefixes: usize) -> u64 {
     let mut sum: u64 = 0;
     let mut prefix: usize = 0;
     while prefix < prefixes {
-        sum = mixed(sum, prefix_code(file, link, side, prefix));
+        sum = mixed(sum, prefix_code(file, ranks, link, side, prefix));
         prefix += 1;
     }
     sum
@@ -162,7 +176,20 @@ fn check_sum(file: &[u8], link: usize, side: usize, prefixes: usize) -> u64 {
 // The line of the check sum.
 fn print_sum(file: &[u8], link: usize, side: usize, prefixes: usize) {
     print_question(b"prefix-repairs", link, side);
-    let sum = check_sum(file, link, side, prefixes);
+    let ranks = [0u8, 1, 2, 3];
+    let sum = check_sum(file, &ranks, link, side, prefixes);
+    number(sum as usize);
+    end();
+}
+
+// The line of the check sum with ranks by which classes 1 and 3 come first, if there is a prefix.
+fn print_ranked_sum(file: &[u8], link: usize, side: usize, prefixes: usize) {
+    if prefixes == 0 {
+        return;
+    }
+    print_question(b"ranked-prefix-repairs", link, side);
+    let ranks = [3u8, 0, 2, 1];
+    let sum = check_sum(file, &ranks, link, side, prefixes);
     number(sum as usize);
     end();
 }
@@ -175,6 +202,8 @@ fn print_side(file: &[u8], link: usize, side: usize, prefixes: usize, whole: boo
     } else {
         print_sum(file, link, side, prefixes);
     }
+    print_ranked_link_repair(file, link, side);
+    print_ranked_sum(file, link, side, prefixes);
 }
 
 fn print_links(file: &[u8], links: usize, prefixes: usize, whole: bool) {
@@ -195,6 +224,60 @@ fn print_beyond(file: &[u8], links: usize, prefixes: usize) {
     print_prefix(file, 0, 0, prefixes);
 }
 
+// The line of the link repair with a table of ranks that is no arrangement, and with a link number that is too large as well.
+fn print_wrong(file: &[u8], table: usize, ranks: &[u8], links: usize) {
+    io::write_all(1, b"wrong-link-ranks");
+    number(table);
+    print_ranked(file, ranks, links, 0);
+}
+
+// Tables of another length: none, one rank too few, one too many.
+fn print_wrong_lengths(file: &[u8], links: usize) {
+    let ranks = [0u8, 1, 2, 3, 0];
+    print_wrong(file, 0, &ranks[..0], links);
+    print_wrong(file, 1, &ranks[..3], links);
+    print_wrong(file, 2, &ranks, links);
+}
+
+// Tables with a rank over 3, with a rank twice, and with two ranks twice.
+fn print_wrong_ranks(file: &[u8], links: usize) {
+    let over = [0u8, 1, 2, 4];
+    print_wrong(file, 3, &over, links);
+    let twice = [0u8, 1, 2, 2];
+    print_wrong(file, 4, &twice, links);
+    let both = [3u8, 0, 3, 0];
+    print_wrong(file, 5, &both, links);
+}
+
+// Tables with a rank of which some lower bits are those of a sound one.
+fn print_wrong_bits(file: &[u8], links: usize) {
+    let five = [32u8, 1, 2, 3];
+    print_wrong(file, 6, &five, links);
+    let six = [64u8, 1, 2, 3];
+    print_wrong(file, 7, &six, links);
+    let two = [0u8, 1, 2, 255];
+    print_wrong(file, 8, &two, links);
+}
+
+// The line of the prefix repair with too few ranks, and with a prefix number that is too large as well.
+fn print_wrong_prefix(file: &[u8], prefixes: usize) {
+    io::write_all(1, b"wrong-prefix-ranks");
+    number(1);
+    let ranks = [0u8, 1, 2];
+    let mut work = [7u32; 4096];
+    print_repair(repair::prefix_repair(file, &mut work, &ranks, 0, 0, prefixes));
+}
+
+// The questions with ranks that are no arrangement; about a refused file, which has no routers, only the last.
+fn print_misranked(file: &[u8], routers: usize, links: usize, prefixes: usize) {
+    if 0 < routers {
+        print_wrong_lengths(file, links);
+        print_wrong_ranks(file, links);
+        print_wrong_bits(file, links);
+    }
+    print_wrong_prefix(file, prefixes);
+}
+
 // Whether every prefix repair is printed: links times prefixes is at most 2,000.
 fn few(links: usize, prefixes: usize) -> bool {
     if prefixes == 0 {
@@ -211,4 +294,5 @@ pub(crate) fn print_repairs(file: &[u8]) {
     let prefixes = network.prefixes;
     print_links(file, links, prefixes, few(links, prefixes));
     print_beyond(file, links, prefixes);
+    print_misranked(file, network.routers, links, prefixes);
 }

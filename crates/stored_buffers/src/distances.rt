@@ -72,7 +72,7 @@ fn print_rows(n: usize, work: &[u32]) {
 }
 
 // Prints whether every cell still holds 7.
-fn print_kept(work: &[u32]) {
+pub(crate) fn print_kept(work: &[u32]) {
     let mut i = 0;
     while i < work.len() {
         if work[i] != 7 {

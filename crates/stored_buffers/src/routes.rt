@@ -1,5 +1,6 @@
 // What `route` answers for a file and what it leaves in the route buffer, which holds 255 in every byte before a call. Every call
 // gets a work area that does not hold the distances yet.
+use super::distances::print_kept;
 use super::print::number;
 use super::print::refused;
 use network_file::load;
@@ -53,9 +54,10 @@ fn print_left(buffer: &[u8], count: usize) {
     io::write_all(1, b" kept\n");
 }
 
-// Asks for a route with a buffer of 255s, and prints the rest of its line.
+// Asks for a route with some ranks and a buffer of 255s, and prints the rest of its line.
 fn print_played(
     file: &[u8],
+    ranks: &[u8],
     link: usize,
     side: usize,
     prefix: usize,
@@ -63,7 +65,7 @@ fn print_played(
     buffer: &mut [u8],
 ) {
     let mut work = [7u32; 4096];
-    let count = print_answer(route(file, &mut work, link, side, prefix, choices, buffer));
+    let count = print_answer(route(file, &mut work, ranks, link, side, prefix, choices, buffer));
     print_left(buffer, count);
 }
 
@@ -86,8 +88,18 @@ fn print_route(
 ) {
     io::write_all(1, b"route");
     print_question(link, side, prefix, string);
+    let ranks = [0u8, 1, 2, 3];
     let mut buffer = [255u8; 128];
-    print_played(file, link, side, prefix, choices, &mut buffer);
+    print_played(file, &ranks, link, side, prefix, choices, &mut buffer);
+}
+
+// Prints the line of a route with choice string 3 and with ranks by which tunnels come first.
+fn print_ranked_route(file: &[u8], link: usize, side: usize, prefix: usize, choices: &[u8]) {
+    io::write_all(1, b"ranked-route");
+    print_question(link, side, prefix, 3);
+    let ranks = [2u8, 3, 1, 0];
+    let mut buffer = [255u8; 128];
+    print_played(file, &ranks, link, side, prefix, choices, &mut buffer);
 }
 
 // Fills bytes with a row of numbers modulo 256: the first, and each next one greater by the step.
@@ -109,13 +121,16 @@ fn print_ones(file: &[u8], link: usize, side: usize, prefix: usize) {
     print_route(file, link, side, prefix, 2, &ones);
 }
 
-// The routes of a prefix with the choice strings 3 and 4: 128 bytes from 0 upwards, and from 255 downwards.
+// The routes of a prefix with the choice strings 3 and 4: 128 bytes from 0 upwards, and from 255 downwards. Then string 3 with other
+// ranks.
 fn print_rows(file: &[u8], link: usize, side: usize, prefix: usize) {
     let mut row = [0u8; 128];
     fill(&mut row, 0, 1);
     print_route(file, link, side, prefix, 3, &row);
     fill(&mut row, 255, 255);
     print_route(file, link, side, prefix, 4, &row);
+    fill(&mut row, 0, 1);
+    print_ranked_route(file, link, side, prefix, &row);
 }
 
 // The routes of a prefix, if it is asked about: of a whole network every prefix is, otherwise every 16th.
@@ -181,14 +196,43 @@ fn too_few(n: usize) -> usize
     2 * n - 1
 }
 
-// Prints the line of a question with a route buffer too short for n routers.
-fn print_short(file: &[u8], n: usize) {
-    io::write_all(1, b"short-route");
+// Prints the line of a question with some ranks and a route buffer too short for n routers.
+fn print_short(file: &[u8], name: &[u8], ranks: &[u8], n: usize) {
+    io::write_all(1, name);
     print_question(0, 0, 0, 0);
     let mut buffer = [255u8; 128];
     let bytes = too_few(n);
     let choices = [0u8; 1];
-    print_played(file, 0, 0, 0, &choices[..0], &mut buffer[..bytes]);
+    print_played(file, ranks, 0, 0, 0, &choices[..0], &mut buffer[..bytes]);
+}
+
+// Prints the lines of the questions with a route buffer too short for n routers; the second has too few ranks too.
+fn print_shorts(file: &[u8], n: usize) {
+    let ranks = [0u8, 1, 2, 3];
+    print_short(file, b"short-route", &ranks, n);
+    print_short(file, b"short-route-and-ranks", &ranks[..3], n);
+}
+
+// Prints the line of a question with too few ranks and a link number too large, and whether the work area is kept.
+fn print_wrong_ranks(file: &[u8], links: usize) {
+    io::write_all(1, b"wrong-ranks");
+    print_question(links, 0, 0, 0);
+    let ranks = [0u8, 1, 2];
+    let choices = [0u8; 1];
+    let mut work = [7u32; 4096];
+    let mut buffer = [255u8; 128];
+    let count = print_answer(route(
+        file,
+        &mut work,
+        &ranks,
+        links,
+        0,
+        0,
+        &choices[..0],
+        &mut buffer,
+    ));
+    print_left(&buffer, count);
+    print_kept(&work);
 }
 
 // Asks for the routes of a file and prints the answers. The network of a refused file has no routers.
@@ -196,5 +240,6 @@ pub(crate) fn print_routes(file: &[u8]) {
     let loaded = load(file);
     let network = loaded.network;
     print_asked(file, network.links, network.prefixes);
-    print_short(file, network.routers);
+    print_shorts(file, network.routers);
+    print_wrong_ranks(file, network.links);
 }

@@ -3,8 +3,9 @@
 //! Every call takes every input and returns. What it asks of its pointers is the same each time:
 //! each has to be good for its length for the time of the call, and the buffers of one call may
 //! not overlap. A slice's pointer and length are good by the slice's type, and an exclusive slice
-//! overlaps no other; `route` alone is lent two shared ones. The pointer of an empty slice points
-//! nowhere, but its length is 0, so that nothing is read or written there.
+//! overlaps no other; of shared ones, the file, ranks and choices, one that overlaps is copied. The
+//! pointer of an empty slice points nowhere, but its length is 0, so that nothing is read or
+//! written there.
 
 use crate::answer::{self, Pair, Played, Repair, Set};
 use crate::file::{LINK_ENTRY, PREFIX_ENTRY};
@@ -18,6 +19,9 @@ pub const WORK_CELLS: usize = MOST_ROUTERS * MOST_ROUTERS;
 
 /// Bytes of a route buffer that is enough for every network.
 pub const ROUTE_BYTES: usize = 2 * MOST_ROUTERS;
+
+/// Ranks by which the lower class is preferred, as the program `plan` does.
+pub const ASCENDING_RANKS: [u8; 4] = [0, 1, 2, 3];
 
 /// The distance between routers that no path joins.
 pub const UNREACHABLE: u32 = u32::MAX;
@@ -99,41 +103,59 @@ pub fn q_space(file: &[u8], work: &mut [u32], link: usize, end: usize) -> Result
 
 /// The pair that repairs a link: its packets go around it to its far router E.
 ///
-/// Refuses by the rows 1 to 10, 12 and 14. Leaves the distances in the work area, also where row
-/// 14 refuses.
+/// The ranks say which classes are preferred: the rank of class c is `ranks[c]`, and of the pairs
+/// that serve the one whose class has the lowest rank comes first. They are 0, 1, 2 and 3 in any
+/// order; [`ASCENDING_RANKS`] prefers the lower class. Whether there is a repair does not depend on
+/// them.
+///
+/// Refuses by the rows 1 to 10, 15, 12 and 14. Leaves the distances in the work area, also where
+/// row 14 refuses.
 pub fn link_repair(
     file: &[u8],
     work: &mut [u32],
+    ranks: &[u8],
     link: usize,
     end: usize,
 ) -> Result<Pair, Refusal> {
-    let (bytes, cells) = (file.len(), work.len());
-    // SAFETY: pointers and lengths are those of two slices that do not overlap.
+    let ranks = apart(ranks, &[file]);
+    // SAFETY: pointers and lengths are those of three slices that do not overlap.
     let answer = unsafe {
-        raw::planner_link_repair(file.as_ptr(), bytes, work.as_mut_ptr(), cells, link, end)
+        raw::planner_link_repair(
+            file.as_ptr(),
+            file.len(),
+            work.as_mut_ptr(),
+            work.len(),
+            ranks.as_ptr(),
+            ranks.len(),
+            link,
+            end,
+        )
     };
     answer::pair(answer)
 }
 
-/// What repairs the traffic from S to a prefix.
+/// What repairs the traffic from S to a prefix, with ranks as [`link_repair`] takes them.
 ///
-/// Refuses by the rows 1 to 10, 12, 13 and 14. Leaves the distances in the work area, also where
-/// row 14 refuses.
+/// Refuses by the rows 1 to 10, 15, 12, 13 and 14. Leaves the distances in the work area, also
+/// where row 14 refuses.
 pub fn prefix_repair(
     file: &[u8],
     work: &mut [u32],
+    ranks: &[u8],
     link: usize,
     end: usize,
     prefix: usize,
 ) -> Result<Repair, Refusal> {
-    let (bytes, cells) = (file.len(), work.len());
-    // SAFETY: pointers and lengths are those of two slices that do not overlap.
+    let ranks = apart(ranks, &[file]);
+    // SAFETY: pointers and lengths are those of three slices that do not overlap.
     let answer = unsafe {
         raw::planner_prefix_repair(
             file.as_ptr(),
-            bytes,
+            file.len(),
             work.as_mut_ptr(),
-            cells,
+            work.len(),
+            ranks.as_ptr(),
+            ranks.len(),
             link,
             end,
             prefix,
@@ -143,30 +165,34 @@ pub fn prefix_repair(
 }
 
 /// Plays the route of a packet from S to a prefix by the pair that repairs it, and writes the
-/// routers that it visits into `route`, S first. The bytes after them stay as they were.
+/// routers that it visits into `route`, S first. The bytes after them stay as they were. The ranks
+/// are as [`link_repair`] takes them.
 ///
 /// The choice bytes decide between equal hops, each modulo the number of options; after the last
-/// they count as 0. Refuses by the rows 1 to 14. Leaves the distances in the work area, also where
-/// row 14 refuses.
+/// they count as 0. Refuses by any row. Leaves the distances in the work area, also where row 14
+/// refuses.
+#[allow(clippy::too_many_arguments)]
 pub fn route(
     file: &[u8],
     work: &mut [u32],
+    ranks: &[u8],
     link: usize,
     end: usize,
     prefix: usize,
     choices: &[u8],
     route: &mut [u8],
 ) -> Result<Played, Refusal> {
-    // Two shared slices may overlap in Rust, but the buffers of one call may not.
-    let choices =
-        if overlap(file, choices) { Cow::from(choices.to_vec()) } else { Cow::from(choices) };
-    // SAFETY: pointers and lengths are those of four slices that do not overlap.
+    let choices = apart(choices, &[file]);
+    let ranks = apart(ranks, &[file, &choices]);
+    // SAFETY: pointers and lengths are those of five slices that do not overlap.
     let answer = unsafe {
         raw::planner_route(
             file.as_ptr(),
             file.len(),
             work.as_mut_ptr(),
             work.len(),
+            ranks.as_ptr(),
+            ranks.len(),
             link,
             end,
             prefix,
@@ -177,6 +203,17 @@ pub fn route(
         )
     };
     answer::played(answer)
+}
+
+/// A shared slice, or a copy of it where it overlaps another one: shared slices may overlap in
+/// Rust, but the buffers of one call may not.
+fn apart<'a>(slice: &'a [u8], others: &[&[u8]]) -> Cow<'a, [u8]> {
+    let overlapping = others.iter().any(|other| overlap(slice, other));
+    if overlapping {
+        Cow::from(slice.to_vec())
+    } else {
+        Cow::from(slice)
+    }
 }
 
 /// Whether two slices share a byte.

@@ -6,11 +6,12 @@
 //! lent a work area, which receives the distances; [`WORK_CELLS`] cells are enough for every file.
 //!
 //! A question names a link and an end: 0 makes the link's router a the repairing router S and its
-//! router b the far router E, 1 the reverse. docs/SPECIFICATION.md says what a network file holds,
-//! and what distances, spaces, repairs and routes are.
+//! router b the far router E, 1 the reverse. A question for a repair is lent the ranks of the four
+//! classes too, which say what is preferred, [`ASCENDING_RANKS`] or others. docs/SPECIFICATION.md
+//! says what a network file holds, and what distances, spaces, repairs and routes are.
 //!
 //! ```
-//! use planner::{Pair, Played, ROUTE_BYTES, WORK_CELLS};
+//! use planner::{Pair, Played, Repair, ASCENDING_RANKS, ROUTE_BYTES, WORK_CELLS};
 //!
 //! // Four routers in a ring, and a prefix that is attached to routers 1 and 2.
 //! let network = planner::text::parse(
@@ -26,14 +27,18 @@
 //!
 //! // Link 0 drops. Router 0 sends packets for router 1 to router 3, in a tunnel to router 2.
 //! let mut work = [0; WORK_CELLS];
-//! let pair = planner::link_repair(&file, &mut work, 0, 0)?;
+//! let pair = planner::link_repair(&file, &mut work, &ASCENDING_RANKS, 0, 0)?;
 //! assert_eq!(pair, Pair { first: 3, endpoint: 2, class: 3, cost: 2 });
 //!
 //! // A packet for the prefix goes by router 3 to router 2, which delivers it.
 //! let mut route = [0; ROUTE_BYTES];
-//! let played = planner::route(&file, &mut work, 0, 0, 0, &[], &mut route)?;
+//! let played = planner::route(&file, &mut work, &ASCENDING_RANKS, 0, 0, 0, &[], &mut route)?;
 //! assert_eq!(played, Played::Written(3));
 //! assert_eq!(route[..3], [0, 3, 2]);
+//!
+//! // Ranks that prefer tunnels, classes 2 and 3: one ends at router 2.
+//! let repair = planner::prefix_repair(&file, &mut work, &[2, 3, 0, 1], 0, 0, 0)?;
+//! assert_eq!(repair, Repair::Pair(Pair { first: 3, endpoint: 2, class: 2, cost: 2 }));
 //! # Ok::<(), Box<dyn std::error::Error>>(())
 //! ```
 #![deny(unsafe_op_in_unsafe_fn)]
@@ -53,7 +58,7 @@ pub mod text;
 pub use answer::{Pair, Played, Repair, Set};
 pub use call::{
     distances, extended_p_space, link_entry, link_repair, load, p_space, prefix_entry,
-    prefix_repair, q_space, route, ROUTE_BYTES, UNREACHABLE, WORK_CELLS,
+    prefix_repair, q_space, route, ASCENDING_RANKS, ROUTE_BYTES, UNREACHABLE, WORK_CELLS,
 };
 pub use file::LARGEST_FILE;
 pub use network::{

@@ -3,6 +3,9 @@
 
 #![allow(missing_docs)]
 
+/// `PLANNER_VERSION`: the version of the interface.
+pub const VERSION: u32 = 2;
+
 /// The kinds of an answer.
 pub mod kind {
     pub const REFUSED: u32 = 0;
@@ -100,6 +103,8 @@ unsafe extern "C" {
         file_len: usize,
         work: *mut u32,
         work_len: usize,
+        ranks: *const u8,
+        ranks_len: usize,
         link: usize,
         end: usize,
     ) -> Answer;
@@ -108,6 +113,8 @@ unsafe extern "C" {
         file_len: usize,
         work: *mut u32,
         work_len: usize,
+        ranks: *const u8,
+        ranks_len: usize,
         link: usize,
         end: usize,
         prefix: usize,
@@ -117,6 +124,8 @@ unsafe extern "C" {
         file_len: usize,
         work: *mut u32,
         work_len: usize,
+        ranks: *const u8,
+        ranks_len: usize,
         link: usize,
         end: usize,
         prefix: usize,
@@ -129,7 +138,7 @@ unsafe extern "C" {
 
 #[cfg(test)]
 mod tests {
-    use super::{kind, Answer, Network};
+    use super::{kind, Answer, Network, VERSION};
     use std::io::Write;
     use std::mem::{offset_of, size_of};
     use std::process::{Command, Stdio};
@@ -180,6 +189,7 @@ mod tests {
             kind number value routers links prefixes from to out back attached at own)));
         assert!(compiler_agrees(&kinds!(
             REFUSED ACCEPTED DONE UNREACHABLE UNTOUCHED SET PAIR PLAYED)));
+        assert!(compiler_agrees(&[("PLANNER_VERSION".to_string(), VERSION as usize)]));
         assert!(!compiler_agrees(&[("sizeof(planner_answer)".to_string(), 41)]));
     }
 }

@@ -8,10 +8,10 @@ use std::fmt::{self, Display, Formatter};
 /// Its `Display` says the number, the value, and what they mean.
 #[derive(Clone, Copy, Debug, PartialEq, Eq, Hash)]
 pub struct Refusal {
-    /// The number of the row, 1 to 14.
+    /// The number of the row, 1 to 15.
     pub number: u32,
     /// The value that the row returns: a block, link or prefix, or a number that is needed. It
-    /// is 0 for the rows 1, 3 and 14.
+    /// is 0 for the rows 1, 3, 14 and 15.
     pub value: u64,
 }
 
@@ -74,7 +74,7 @@ fn entry_words(out: &mut Formatter, number: u32, value: u64) -> fmt::Result {
     }
 }
 
-/// The rows 10 to 14, about the question and the lent buffers.
+/// The rows 10 to 15, about the question and the lent buffers.
 fn question_words(out: &mut Formatter, number: u32, value: u64) -> fmt::Result {
     match number {
         10 => write!(out, "the work area is too short: it needs {value} cells"),
@@ -89,6 +89,11 @@ fn question_words(out: &mut Formatter, number: u32, value: u64) -> fmt::Result {
             "there is no such prefix: the number of prefixes is {value}, and they count from 0"
         ),
         14 => write!(out, "there is no repair: no pair of first hop and endpoint serves"),
+        15 => write!(
+            out,
+            "the ranks are no arrangement: the four classes have the ranks 0, 1, 2 and 3, each \
+             once, in any order"
+        ),
         _ => write!(out, "the table of refusals has no such row"),
     }
 }

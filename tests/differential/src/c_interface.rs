@@ -9,19 +9,20 @@ use crate::call::{Call, ENTRY, Planner, Told};
 use crate::plan;
 use oracle::answer::Question;
 use oracle::network::{Attachment, Link, Network, Prefix};
+use oracle::ranks::ASCENDING;
 use oracle::space::Space;
 use planner::raw::{self, Answer};
 use std::ptr::{null, null_mut};
 
-/// A call about a link and an end: file, work area, link, end.
-type LinkCall = unsafe extern "C" fn(*const u8, usize, *mut u32, usize, usize, usize) -> Answer;
+/// A call for a space: file, work area, link, end.
+type SpaceCall = unsafe extern "C" fn(*const u8, usize, *mut u32, usize, usize, usize) -> Answer;
 
 /// The library behind its C interface.
 pub struct CInterface;
 
 impl Planner for CInterface {
     fn ask(&self, call: Call) -> Told {
-        let Call { file, question, choices, work, route, entry } = call;
+        let Call { file, question, choices, ranks, work, route, entry } = call;
         match *question {
             Question::Load => load(file),
             Question::LinkEntry { link } => copied(raw::planner_link_entry, file, link, entry),
@@ -30,24 +31,24 @@ impl Planner for CInterface {
             }
             Question::Distances => told(distances(file, work)),
             Question::Space { space, link, end } => {
-                let call: LinkCall = match space {
+                let call: SpaceCall = match space {
                     Space::P => raw::planner_p_space,
                     Space::ExtendedP => raw::planner_extended_p_space,
                     Space::Q => raw::planner_q_space,
                 };
-                told(about_link(call, file, work, link, end))
+                told(space_of(call, file, work, link, end))
             }
             Question::Size { set } => Told::Size(u64::from(raw::planner_size(set))),
-            Question::LinkRepair { link, end } => link_repair(file, work, link, end),
-            Question::PrefixRepair { link, end, prefix } => {
-                told(prefix_repair(file, work, (link, end, prefix)))
+            Question::LinkRepair { link, end, .. } => link_repair(file, work, ranks, link, end),
+            Question::PrefixRepair { link, end, prefix, .. } => {
+                told(prefix_repair(file, work, ranks, (link, end, prefix)))
             }
             Question::Route { link, end, prefix, .. } => {
-                told(route_of(file, work, (link, end, prefix), choices, route))
+                told(route_of(file, work, ranks, (link, end, prefix), choices, route))
             }
             Question::Plan => {
                 let mut own = [0; 4096];
-                let repair = |link, end| link_repair(file, &mut own, link, end);
+                let repair = |link, end| link_repair(file, &mut own, &ASCENDING, link, end);
                 Told::Text(plan::text(&load(file), repair))
             }
         }
@@ -88,31 +89,49 @@ fn distances(file: &[u8], work: &mut [u32]) -> Answer {
     unsafe { raw::planner_distances(of(file), file.len(), to(work), work.len()) }
 }
 
-fn about_link(call: LinkCall, file: &[u8], work: &mut [u32], link: u64, end: u64) -> Answer {
+fn space_of(call: SpaceCall, file: &[u8], work: &mut [u32], link: u64, end: u64) -> Answer {
     let cells = work.len();
     // SAFETY: pointers and lengths are those of two slices apart.
     unsafe { call(of(file), file.len(), to(work), cells, place(link), place(end)) }
 }
 
-fn link_repair(file: &[u8], work: &mut [u32], link: u64, end: u64) -> Told {
-    told(about_link(raw::planner_link_repair, file, work, link, end))
+fn link_repair(file: &[u8], work: &mut [u32], ranks: &[u8], link: u64, end: u64) -> Told {
+    // SAFETY: pointers and lengths are those of three slices apart.
+    told(unsafe {
+        raw::planner_link_repair(
+            of(file),
+            file.len(),
+            to(work),
+            work.len(),
+            of(ranks),
+            ranks.len(),
+            place(link),
+            place(end),
+        )
+    })
 }
 
 /// A question's link, end and prefix.
 type Named = (u64, u64, u64);
 
-fn prefix_repair(file: &[u8], work: &mut [u32], (link, end, prefix): Named) -> Answer {
-    let (cells, prefix) = (work.len(), place(prefix));
-    // SAFETY: pointers and lengths are those of two slices apart.
+fn prefix_repair(
+    file: &[u8],
+    work: &mut [u32],
+    ranks: &[u8],
+    (link, end, prefix): Named,
+) -> Answer {
+    // SAFETY: pointers and lengths are those of three slices apart.
     unsafe {
         raw::planner_prefix_repair(
             of(file),
             file.len(),
             to(work),
-            cells,
+            work.len(),
+            of(ranks),
+            ranks.len(),
             place(link),
             place(end),
-            prefix,
+            place(prefix),
         )
     }
 }
@@ -120,17 +139,20 @@ fn prefix_repair(file: &[u8], work: &mut [u32], (link, end, prefix): Named) -> A
 fn route_of(
     file: &[u8],
     work: &mut [u32],
+    ranks: &[u8],
     (link, end, prefix): Named,
     choices: &[u8],
     route: &mut [u8],
 ) -> Answer {
-    // SAFETY: pointers and lengths are those of four slices apart.
+    // SAFETY: pointers and lengths are those of five slices apart.
     unsafe {
         raw::planner_route(
             of(file),
             file.len(),
             to(work),
             work.len(),
+            of(ranks),
+            ranks.len(),
             place(link),
             place(end),
             place(prefix),

@@ -15,6 +15,8 @@ pub struct Call<'a> {
     /// The choice bytes of a route question, lent from a guarded place. Those
     /// in the question itself are a copy for the oracle.
     pub choices: &'a [u8],
+    /// The ranks of a repair question, lent in the same way.
+    pub ranks: &'a [u8],
     pub work: &'a mut [u32],
     pub route: &'a mut [u8],
     pub entry: &'a mut [u8],

@@ -24,6 +24,10 @@ pub enum Breadth {
     Limits,
     /// What the file alone decides.
     Reading,
+    /// Every link, end and prefix by every arrangement of ranks.
+    Arrangements,
+    /// Every wrong table of ranks.
+    WrongRanks,
 }
 
 /// A file and what is asked about it. Both follow from seeds.
@@ -58,13 +62,17 @@ impl Case {
     pub fn asked(&self) -> Vec<Asked> {
         let random = &mut Random::new(self.seed);
         match (self.network(), self.breadth) {
+            (_, Breadth::WrongRanks) => questions::every_wrong_table(random),
             (None, _) => questions::of_refused(random),
             (Some(network), Breadth::Whole(routes)) => questions::whole(&network, routes, random),
             (Some(network), Breadth::Reading) => questions::reading(&network, random),
             (Some(network), Breadth::Limits) => {
-                let mut asked = questions::numbers_at_limits(&network);
+                let mut asked = questions::numbers_at_limits(&network, random);
                 asked.extend(questions::lengths_at_limits(&network, random));
                 asked
+            }
+            (Some(network), Breadth::Arrangements) => {
+                questions::every_arrangement(&network, random)
             }
         }
     }
@@ -143,6 +151,7 @@ fn run_case(planner: &dyn Planner, case: &Case) -> Report {
         report.calls += 1;
         report.coverage.call(&opened, &asked, &compared.expected);
         report.coverage.maintenance(&opened, &before, &asked, &compared.expected);
+        report.coverage.ranks(&opened, &asked, &compared.expected);
         pairs.remember(&asked.question, &compared.heard.told);
         let wrong = match &compared.difference {
             Some(difference) => Some(difference.clone()),
@@ -161,16 +170,16 @@ fn run_case(planner: &dyn Planner, case: &Case) -> Report {
 /// the same question, so that its pair is known.
 #[derive(Default)]
 struct LastPair {
-    question: Option<(u64, u64, u64)>,
+    question: Option<Question>,
     pair: (usize, usize),
 }
 
 impl LastPair {
     fn remember(&mut self, question: &Question, told: &Told) {
-        if let (Question::PrefixRepair { link, end, prefix }, Told::Pair { first, endpoint, .. }) =
+        if let (Question::PrefixRepair { .. }, Told::Pair { first, endpoint, .. }) =
             (question, told)
         {
-            self.question = Some((*link, *end, *prefix));
+            self.question = Some(question.clone());
             self.pair = (*first as usize, *endpoint as usize);
         }
     }
@@ -187,10 +196,11 @@ fn wrong_route(
     let Heard { told: Told::Played(count), .. } = compared.heard else {
         return None;
     };
-    let Question::Route { link, end, prefix, choices } = &asked.question else {
+    let Question::Route { ranks, link, end, prefix, choices } = &asked.question else {
         return Some("a question that is no route was played".to_string());
     };
-    if pairs.question != Some((*link, *end, *prefix)) {
+    let repair = Question::prefix_repair(*link, *end, *prefix).with_ranks(ranks);
+    if pairs.question != Some(repair) {
         return Some("a route was played where no pair was told".to_string());
     }
     let (pair, link, prefix) = (pairs.pair, *link as usize, *prefix as usize);

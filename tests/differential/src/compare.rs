@@ -27,6 +27,7 @@ pub struct Heard {
     pub told: Told,
     pub file: Lent<u8>,
     pub choices: Lent<u8>,
+    pub ranks: Lent<u8>,
     pub work: Lent<u32>,
     pub route: Lent<u8>,
     pub entry: Lent<u8>,
@@ -36,6 +37,7 @@ pub struct Heard {
 pub fn ask(planner: &dyn Planner, file: &[u8], asked: &Asked) -> Heard {
     let file = Lent::holding(file);
     let choices = Lent::holding(choices_of(&asked.question));
+    let ranks = Lent::holding(ranks_of(&asked.question));
     let mut work = Lent::of_length(asked.cells);
     let mut route = Lent::of_length(asked.bytes);
     let mut entry = Lent::of_length(ENTRY);
@@ -43,11 +45,12 @@ pub fn ask(planner: &dyn Planner, file: &[u8], asked: &Asked) -> Heard {
         file: file.contents(),
         question: &asked.question,
         choices: choices.contents(),
+        ranks: ranks.contents(),
         work: work.lend(),
         route: route.lend(),
         entry: entry.lend(),
     });
-    Heard { told, file, choices, work, route, entry }
+    Heard { told, file, choices, ranks, work, route, entry }
 }
 
 /// The first thing in which a planner differs from what is expected.
@@ -67,6 +70,7 @@ pub fn difference(file: &[u8], asked: &Asked, expected: &Outcome, heard: &Heard)
         ("the entry buffer", heard.entry.difference(&entry)),
         ("the file", heard.file.difference(file)),
         ("the choices", heard.choices.difference(choices_of(&asked.question))),
+        ("the ranks", heard.ranks.difference(ranks_of(&asked.question))),
     ];
     let found = buffers.into_iter().find_map(|(name, found)| Some((name, found?)));
     found.map(|(name, found)| format!("in {name}, {found}"))
@@ -87,6 +91,11 @@ pub fn compare(planner: &dyn Planner, opened: &Opened, file: &[u8], asked: &Aske
     let heard = ask(planner, file, asked);
     let difference = difference(file, asked, &expected, &heard);
     Compared { expected, heard, difference }
+}
+
+/// The ranks of a question; those that take none have none.
+fn ranks_of(question: &Question) -> &[u8] {
+    question.ranks().unwrap_or_default()
 }
 
 /// The choice bytes of a question; other questions than routes have none.

@@ -3,6 +3,7 @@
 
 use crate::compare::Asked;
 use crate::maintenance;
+use crate::ranks;
 use crate::routes::Met;
 use oracle::answer::{Answer, Opened, Outcome, Question, inputs};
 use oracle::network::{LinkEnd, Network};
@@ -65,7 +66,7 @@ pub mod thing {
 }
 
 /// What the keys of the order of pairs are, the first deciding.
-const KEYS: [&str; 5] = ["class", "distance", "endpoint", "cost", "first hop"];
+const KEYS: [&str; 5] = ["rank", "distance", "endpoint", "cost", "first hop"];
 
 /// How often each thing was met.
 #[derive(Clone, Debug, Default, PartialEq, Eq)]
@@ -137,14 +138,14 @@ impl Coverage {
     /// The key that puts the answer before the next serving pair.
     fn deciding(&mut self, opened: &Opened, question: &Question) {
         let workings = opened.workings();
-        let Some(ends) = ends(opened, question) else {
+        let (Some(ends), Some(ranks)) = (ends(opened, question), question.ranks()) else {
             return;
         };
         let target = match question {
             Question::PrefixRepair { prefix, .. } => workings.to_prefix(*prefix),
             _ => workings.to_router(ends.e),
         };
-        if let Some(key) = deciding_key(&serving(workings, &ends, target)) {
+        if let Some(key) = deciding_key(&serving(workings, &ends, target, ranks)) {
             self.met(&of_key(key), 1);
         }
     }
@@ -197,6 +198,7 @@ pub fn everything() -> Vec<String> {
     let mut things: Vec<String> = thing::ALL.map(str::to_string).into();
     things.extend(of_repairs());
     things.extend(maintenance::thing::ALL.map(str::to_string));
+    things.extend(ranks::things());
     things.extend(Cause::ALL.iter().map(|cause| of_cause(*cause)));
     things
 }
@@ -208,7 +210,7 @@ pub fn of_repairs() -> Vec<String> {
 }
 
 /// The causes of some rows.
-pub fn of_rows(rows: std::ops::RangeInclusive<u8>) -> Vec<String> {
+pub fn of_rows(rows: &[u8]) -> Vec<String> {
     let causes = Cause::ALL.iter().filter(|cause| rows.contains(&cause.row()));
     causes.map(|cause| of_cause(*cause)).collect()
 }
@@ -252,7 +254,7 @@ pub(crate) fn ends(opened: &Opened, question: &Question) -> Option<LinkEnd> {
     let workings = opened.workings();
     match question {
         Question::Space { link, end, .. }
-        | Question::LinkRepair { link, end }
+        | Question::LinkRepair { link, end, .. }
         | Question::PrefixRepair { link, end, .. }
         | Question::Route { link, end, .. } => {
             workings.network.link_end(&workings.ctx, *link, *end)

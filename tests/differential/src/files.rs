@@ -1,15 +1,24 @@
-//! Files that most often are refused: damaged on purpose, or random.
+//! Files of networks worked by hand, and files that most often are refused: damaged
+//! on purpose, or random.
 
 use oracle::corpus::network_to_damage;
 use oracle::damage::{self, Damage};
-use oracle::file::{BLOCK, Draft, LARGEST};
+use oracle::file::{BLOCK, Draft, LARGEST, write};
 use oracle::random::Random;
 use oracle::row::Cause;
+use oracle::worked;
 
 /// A file with the name by which it can be made again.
 pub struct NamedFile {
     pub name: String,
     pub bytes: Vec<u8>,
+}
+
+/// The networks worked by hand.
+pub fn worked() -> Vec<NamedFile> {
+    let named =
+        |(name, network): (&str, _)| NamedFile { name: name.to_string(), bytes: write(&network) };
+    worked::all().into_iter().map(named).collect()
 }
 
 /// Each cause alone, at its first place and at some random ones.

@@ -18,6 +18,7 @@ pub mod maintenance;
 pub mod networks;
 pub mod plan;
 pub mod questions;
+pub mod ranks;
 pub mod routes;
 pub mod stand_in;
 mod threads;

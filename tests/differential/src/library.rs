@@ -13,7 +13,7 @@ pub struct Library;
 
 impl Planner for Library {
     fn ask(&self, call: Call) -> Told {
-        let Call { file, question, choices, work, route, entry } = call;
+        let Call { file, question, choices, ranks, work, route, entry } = call;
         match *question {
             Question::Load => load(file),
             Question::LinkEntry { link } => copied(planner::link_entry(file, place(link)), entry),
@@ -30,14 +30,14 @@ impl Planner for Library {
                 told(call(file, work, place(link), place(end)), |set| Told::Set(set.0))
             }
             Question::Size { set } => Told::Size(u64::from(Set(set).size())),
-            Question::LinkRepair { link, end } => link_repair(file, work, link, end),
-            Question::PrefixRepair { link, end, prefix } => {
+            Question::LinkRepair { link, end, .. } => link_repair(file, work, ranks, link, end),
+            Question::PrefixRepair { link, end, prefix, .. } => {
                 let (link, end, prefix) = (place(link), place(end), place(prefix));
-                told(planner::prefix_repair(file, work, link, end, prefix), repaired)
+                told(planner::prefix_repair(file, work, ranks, link, end, prefix), repaired)
             }
             Question::Route { link, end, prefix, .. } => {
                 let (link, end, prefix) = (place(link), place(end), place(prefix));
-                told(planner::route(file, work, link, end, prefix, choices, route), played)
+                told(planner::route(file, work, ranks, link, end, prefix, choices, route), played)
             }
             Question::Plan => planned(file),
         }
@@ -48,15 +48,16 @@ fn load(file: &[u8]) -> Told {
     told(planner::load(file), |network| Told::Accepted(network_of(&network)))
 }
 
-fn link_repair(file: &[u8], work: &mut [u32], link: u64, end: u64) -> Told {
-    told(planner::link_repair(file, work, place(link), place(end)), pair)
+fn link_repair(file: &[u8], work: &mut [u32], ranks: &[u8], link: u64, end: u64) -> Told {
+    told(planner::link_repair(file, work, ranks, place(link), place(end)), pair)
 }
 
 /// The text of a plan, from the library's answers. The plan has a work area of
-/// its own: the lent one is not part of the question.
+/// its own: the lent one is not part of the question. Its ranks ascend.
 fn planned(file: &[u8]) -> Told {
     let mut work = [0; planner::WORK_CELLS];
-    let text = plan::text(&load(file), |link, end| link_repair(file, &mut work, link, end));
+    let ranks = &planner::ASCENDING_RANKS;
+    let text = plan::text(&load(file), |link, end| link_repair(file, &mut work, ranks, link, end));
     Told::Text(text)
 }
 

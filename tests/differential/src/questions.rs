@@ -1,28 +1,72 @@
 //! The questions about a file: all there are, those at the limits of numbers
-//! and lengths, and those about a file that is refused.
+//! and lengths, those with ranks of every kind, and those about a file that is
+//! refused.
 
 use crate::compare::Asked;
 use oracle::answer::Question;
+use oracle::corpus::wrongly_ranked_too;
 use oracle::network::Network;
 use oracle::random::Random;
+use oracle::ranks::{ASCENDING, arrangements, wrong_tables};
 use oracle::space::Space;
 
 /// Every question with numbers in range, for each prefix question that many
-/// routes. The plan comes last: it shows again what the link repairs show.
+/// routes; the repairs with the ranks ascending, and then once more, with one
+/// route, by another arrangement. The plan comes last: it shows again what the
+/// link repairs show.
 pub fn whole(network: &Network, routes: usize, random: &mut Random) -> Vec<Asked> {
     let mut questions = about_the_file(network, random);
+    let arrangements = arrangements();
     for (link, end) in link_ends(network) {
         questions.extend(link_questions(link, end));
+        let other = random.pick(&arrangements);
+        questions.push(Question::link_repair(link, end).with_ranks(&other));
         for prefix in 0..network.prefixes.len() as u64 {
-            questions.push(Question::PrefixRepair { link, end, prefix });
-            for _ in 0..routes {
-                let choices = choices(network, random);
-                questions.push(Question::Route { link, end, prefix, choices });
+            let other = random.pick(&arrangements);
+            for (ranks, routes) in [(ASCENDING, routes), (other, 1)] {
+                questions.push(Question::prefix_repair(link, end, prefix).with_ranks(&ranks));
+                for _ in 0..routes {
+                    let choices = choices(network, random);
+                    let route = Question::route(link, end, prefix, &choices);
+                    questions.push(route.with_ranks(&ranks));
+                }
             }
         }
     }
     questions.push(Question::Plan);
     lent(network, questions, random)
+}
+
+/// Every link, end and prefix by every arrangement of ranks, with one route for
+/// each.
+pub fn every_arrangement(network: &Network, random: &mut Random) -> Vec<Asked> {
+    let mut questions = Vec::new();
+    for (link, end) in link_ends(network) {
+        for ranks in arrangements() {
+            questions.push(Question::link_repair(link, end).with_ranks(&ranks));
+            for prefix in 0..network.prefixes.len() as u64 {
+                let choices = choices(network, random);
+                questions.push(Question::prefix_repair(link, end, prefix).with_ranks(&ranks));
+                questions.push(Question::route(link, end, prefix, &choices).with_ranks(&ranks));
+            }
+        }
+    }
+    lent(network, questions, random)
+}
+
+/// Every wrong table, in each call that takes ranks, with buffers that are
+/// enough for any file. The link and the prefix may be in range or not.
+pub fn every_wrong_table(random: &mut Random) -> Vec<Asked> {
+    let mut asked = Vec::new();
+    for ranks in wrong_tables() {
+        let link = random.pick(&[0, 0, 1, u64::MAX]);
+        let prefix = random.pick(&[0, 0, 1, u64::MAX]);
+        let mut questions = vec![Question::link_repair(link, 0)];
+        questions.extend(prefix_questions(link, 0, prefix));
+        let ranked = questions.into_iter().map(|question| question.with_ranks(&ranks));
+        asked.extend(ranked.map(|question| Asked { question, cells: 4096, bytes: 128 }));
+    }
+    asked
 }
 
 /// What the file alone decides: load, distances, sizes, and every entry.
@@ -76,8 +120,8 @@ fn numbers_about(count: usize) -> Vec<u64> {
 }
 
 /// Every mixture of numbers in range and out of it, with buffers that are
-/// enough, and the entries of such numbers.
-pub fn numbers_at_limits(network: &Network) -> Vec<Asked> {
+/// enough and with ranks of both kinds, and the entries of such numbers.
+pub fn numbers_at_limits(network: &Network, random: &mut Random) -> Vec<Asked> {
     let (cells, bytes) = enough(network);
     let links = numbers_about(network.links.len());
     let prefixes = numbers_about(network.prefixes.len());
@@ -92,11 +136,12 @@ pub fn numbers_at_limits(network: &Network) -> Vec<Asked> {
             }
         }
     }
-    questions.into_iter().map(|question| Asked { question, cells, bytes }).collect()
+    let questions = wrongly_ranked_too(questions, random).into_iter();
+    questions.map(|question| Asked { question, cells, bytes }).collect()
 }
 
 /// Every mixture of buffer lengths: none, one short, exact, and longer; with
-/// questions in range and out of it.
+/// questions in range and out of it, and with ranks of both kinds.
 pub fn lengths_at_limits(network: &Network, random: &mut Random) -> Vec<Asked> {
     let (cells, bytes) = enough(network);
     let (links, prefixes) = (network.links.len(), network.prefixes.len());
@@ -106,7 +151,8 @@ pub fn lengths_at_limits(network: &Network, random: &mut Random) -> Vec<Asked> {
             let link = random.below(links) as u64;
             let prefix = random.below(prefixes) as u64;
             let end = random.below(2) as u64;
-            for question in mixed(link, links as u64, end, prefix, prefixes as u64) {
+            let questions = mixed(link, links as u64, end, prefix, prefixes as u64);
+            for question in wrongly_ranked_too(questions, random) {
                 asked.push(Asked { question, cells, bytes });
             }
         }
@@ -140,7 +186,8 @@ pub fn of_refused(random: &mut Random) -> Vec<Asked> {
         ];
         questions.extend(link_questions(number, random.below(3) as u64));
         questions.extend(prefix_questions(number, random.below(3) as u64, number));
-        asked.extend(questions.into_iter().map(|question| Asked { question, cells, bytes }));
+        let questions = wrongly_ranked_too(questions, random).into_iter();
+        asked.extend(questions.map(|question| Asked { question, cells, bytes }));
     }
     asked.push(Asked { question: Question::Plan, cells: 0, bytes: 0 });
     asked
@@ -152,12 +199,12 @@ fn link_ends(network: &Network) -> impl Iterator<Item = (u64, u64)> {
 
 fn link_questions(link: u64, end: u64) -> Vec<Question> {
     let spaces = Space::ALL.iter().map(|space| Question::Space { space: *space, link, end });
-    spaces.chain([Question::LinkRepair { link, end }]).collect()
+    spaces.chain([Question::link_repair(link, end)]).collect()
 }
 
 fn prefix_questions(link: u64, end: u64, prefix: u64) -> [Question; 2] {
-    let choices = vec![1, 2, 3, 4, 5, 6, 7, 8];
-    [Question::PrefixRepair { link, end, prefix }, Question::Route { link, end, prefix, choices }]
+    let choices = [1, 2, 3, 4, 5, 6, 7, 8];
+    [Question::prefix_repair(link, end, prefix), Question::route(link, end, prefix, &choices)]
 }
 
 /// Cells and bytes that are just enough.

@@ -7,15 +7,14 @@ use differential::coverage::everything;
 use differential::files::{self, NamedFile};
 use differential::networks::{self, MIDDLE, SMALL, WIDE};
 use oracle::corpus;
-use oracle::file::write;
-use oracle::worked;
 
 fn cases() -> Vec<Case> {
     let whole = |named| Case::of_network(named, Breadth::Whole(1));
     let file = |file| Case::of_file(file, Breadth::Limits);
     let named = |(name, bytes)| NamedFile { name, bytes };
-    let worked = worked::all().into_iter().map(|(name, network)| (name.into(), write(&network)));
-    let mut cases: Vec<Case> = worked.map(named).map(file).collect();
+    let mut cases: Vec<Case> = files::worked().into_iter().map(file).collect();
+    let ranked = |file| Case::of_file(file, Breadth::Arrangements);
+    cases.extend(files::worked().into_iter().map(ranked));
     cases.extend(networks::of_extremes(4001).into_iter().map(whole));
     cases.extend(networks::of_families(WIDE, 4002..4003).into_iter().map(whole));
     cases.extend(networks::of_families(MIDDLE, 4003..4004).into_iter().map(whole));

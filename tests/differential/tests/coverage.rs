@@ -16,12 +16,14 @@ fn cases() -> Vec<Case> {
     let whole = |routes| move |named| Case::of_network(named, Breadth::Whole(routes));
     let limits = |named| Case::of_network(named, Breadth::Limits);
     let file = |file| Case::of_file(file, Breadth::Limits);
+    let ranked = |file| Case::of_file(file, Breadth::Arrangements);
     let mut cases = vec![whole(1)(networks::largest(1001))];
     cases.extend(networks::of_extremes(1002).into_iter().map(whole(1)));
     cases.extend(networks::of_families(WIDE, 1003..1005).into_iter().map(whole(1)));
     cases.extend(networks::of_families(MIDDLE, 1005..1009).into_iter().map(whole(1)));
     cases.extend(networks::of_families(SMALL, 1010..1050).into_iter().map(whole(3)));
     cases.extend(networks::of_families(SMALL, 1050..1053).into_iter().map(limits));
+    cases.extend(files::worked().into_iter().map(ranked));
     cases.extend(files::single_causes(8, 1060).into_iter().map(file));
     cases.extend(files::pairs_of_causes(1061).into_iter().map(file));
     cases.extend(files::several_causes(100, 1062).into_iter().map(file));

@@ -18,7 +18,7 @@ fn compared(files: Vec<NamedFile>) -> Report {
 
 #[test]
 fn every_cause_alone_at_many_places() {
-    compared(files::single_causes(20, 1)).assert_met(&of_rows(1..=9));
+    compared(files::single_causes(20, 1)).assert_met(&of_rows(&[1, 2, 3, 4, 5, 6, 7, 8, 9]));
 }
 
 #[test]
@@ -42,5 +42,5 @@ fn every_stored_case() {
     let tests = cases.networks.into_iter().chain(cases.reader);
     let all = tests.chain(cases.examples).chain(cases.refused);
     let files = all.map(|case| NamedFile { name: case.name, bytes: case.file });
-    compared(files.collect()).assert_met(&of_rows(1..=9));
+    compared(files.collect()).assert_met(&of_rows(&[1, 2, 3, 4, 5, 6, 7, 8, 9]));
 }

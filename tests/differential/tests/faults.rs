@@ -10,8 +10,6 @@ use differential::networks::{self, MIDDLE, SMALL};
 use oracle::answer::Opened;
 use oracle::corpus;
 use oracle::fault::{Context, Fault};
-use oracle::file::write;
-use oracle::worked;
 
 /// A case with all that was heard from the library.
 struct Recorded {
@@ -46,11 +44,8 @@ impl Recorded {
 fn cases() -> Vec<Case> {
     let file = |file| Case::of_file(file, Breadth::Limits);
     let mut cases = Vec::new();
-    for breadth in [Breadth::Whole(5), Breadth::Limits] {
-        cases.extend(worked::all().into_iter().map(|(name, network)| {
-            let bytes = write(&network);
-            Case::of_file(NamedFile { name: name.to_string(), bytes }, breadth)
-        }));
+    for breadth in [Breadth::Whole(5), Breadth::Limits, Breadth::Arrangements] {
+        cases.extend(files::worked().into_iter().map(|file| Case::of_file(file, breadth)));
     }
     cases.extend(files::repeated_bytes().into_iter().map(file));
     cases.extend(files::single_causes(4, 2001).into_iter().map(file));
@@ -84,8 +79,7 @@ fn every_fault_is_noticed() {
     for (fault, by) in faults.iter().zip(&by) {
         println!("{} is noticed by: {}", fault.name(), by.join("; "));
     }
-    // Two faults change no answer of any call, so nothing may notice them.
-    let wrong = faults.iter().zip(&by).filter(|(fault, by)| by.is_empty() != fault.never_seen());
-    let wrong: Vec<String> = wrong.map(|(fault, _)| fault.name()).collect();
-    assert!(wrong.is_empty(), "not noticed, or noticed though it cannot be seen: {wrong:?}");
+    let unnoticed = faults.iter().zip(&by).filter(|(_, by)| by.is_empty());
+    let unnoticed: Vec<String> = unnoticed.map(|(fault, _)| fault.name()).collect();
+    assert!(unnoticed.is_empty(), "not noticed: {unnoticed:?}");
 }

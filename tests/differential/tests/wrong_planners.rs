@@ -18,8 +18,8 @@ impl<Change: Fn(&Question, &mut Told, &mut [u32], &mut [u8], &mut [u8]) + Sync> 
     for Changed<Change>
 {
     fn ask(&self, call: Call) -> Told {
-        let Call { file, question, choices, work, route, entry } = call;
-        let lent = Call { file, question, choices, work, route, entry };
+        let Call { file, question, choices, ranks, work, route, entry } = call;
+        let lent = Call { file, question, choices, ranks, work, route, entry };
         let mut told = Library.ask(lent);
         (self.0)(question, &mut told, work, route, entry);
         told

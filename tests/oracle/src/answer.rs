@@ -5,6 +5,7 @@ use crate::fault::{Context, Fault};
 use crate::file::{self, Bytes, Head};
 use crate::network::{LinkEnd, Network};
 use crate::plan;
+use crate::ranks::{self, ASCENDING};
 use crate::repair::{self, Pair, Repair};
 use crate::route;
 use crate::row::{self, Cause, Inputs, Refusal};
@@ -12,7 +13,7 @@ use crate::space::{self, Space};
 use crate::workings::Workings;
 use std::cell::OnceCell;
 
-/// A call with its inputs, but for the file and the lent buffers.
+/// A call with its inputs, but for the file and the buffers lent to be written.
 #[derive(Clone, Debug, PartialEq, Eq)]
 pub enum Question {
     Load,
@@ -32,15 +33,18 @@ pub enum Question {
         set: u64,
     },
     LinkRepair {
+        ranks: Vec<u8>,
         link: u64,
         end: u64,
     },
     PrefixRepair {
+        ranks: Vec<u8>,
         link: u64,
         end: u64,
         prefix: u64,
     },
     Route {
+        ranks: Vec<u8>,
         link: u64,
         end: u64,
         prefix: u64,
@@ -48,6 +52,45 @@ pub enum Question {
     },
     /// What the program `plan` prints.
     Plan,
+}
+
+impl Question {
+    /// A link repair question with the ranks ascending.
+    pub fn link_repair(link: u64, end: u64) -> Question {
+        Question::LinkRepair { ranks: ASCENDING.to_vec(), link, end }
+    }
+
+    /// A prefix repair question with the ranks ascending.
+    pub fn prefix_repair(link: u64, end: u64, prefix: u64) -> Question {
+        Question::PrefixRepair { ranks: ASCENDING.to_vec(), link, end, prefix }
+    }
+
+    /// A route question with the ranks ascending.
+    pub fn route(link: u64, end: u64, prefix: u64, choices: &[u8]) -> Question {
+        let choices = choices.to_vec();
+        Question::Route { ranks: ASCENDING.to_vec(), link, end, prefix, choices }
+    }
+
+    /// The ranks of a question that takes them.
+    pub fn ranks(&self) -> Option<&[u8]> {
+        match self {
+            Question::LinkRepair { ranks, .. }
+            | Question::PrefixRepair { ranks, .. }
+            | Question::Route { ranks, .. } => Some(ranks),
+            _ => None,
+        }
+    }
+
+    /// The same question with other ranks, if it takes them.
+    pub fn with_ranks(mut self, table: &[u8]) -> Question {
+        if let Question::LinkRepair { ranks, .. }
+        | Question::PrefixRepair { ranks, .. }
+        | Question::Route { ranks, .. } = &mut self
+        {
+            *ranks = table.to_vec();
+        }
+        self
+    }
 }
 
 /// The answer of a call.
@@ -144,8 +187,16 @@ pub fn size(ctx: &Context, set: u64) -> u32 {
 }
 
 /// The call link repair.
-pub fn link_repair(ctx: &Context, file: &[u8], work: &[u32], link: u64, end: u64) -> Outcome {
-    ask(ctx, file, &Question::LinkRepair { link, end }, &work_only(work))
+pub fn link_repair(
+    ctx: &Context,
+    file: &[u8],
+    work: &[u32],
+    ranks: &[u8],
+    link: u64,
+    end: u64,
+) -> Outcome {
+    let question = Question::link_repair(link, end).with_ranks(ranks);
+    ask(ctx, file, &question, &work_only(work))
 }
 
 /// The call prefix repair.
@@ -153,11 +204,11 @@ pub fn prefix_repair(
     ctx: &Context,
     file: &[u8],
     work: &[u32],
-    link: u64,
-    end: u64,
-    prefix: u64,
+    ranks: &[u8],
+    (link, end, prefix): (u64, u64, u64),
 ) -> Outcome {
-    ask(ctx, file, &Question::PrefixRepair { link, end, prefix }, &work_only(work))
+    let question = Question::prefix_repair(link, end, prefix).with_ranks(ranks);
+    ask(ctx, file, &question, &work_only(work))
 }
 
 /// The call route. `lent` holds the work area and the route buffer.
@@ -165,13 +216,12 @@ pub fn route(
     ctx: &Context,
     file: &[u8],
     lent: &Buffers,
-    link: u64,
-    end: u64,
-    prefix: u64,
+    ranks: &[u8],
+    (link, end, prefix): (u64, u64, u64),
     choices: &[u8],
 ) -> Outcome {
-    let choices = choices.to_vec();
-    ask(ctx, file, &Question::Route { link, end, prefix, choices }, lent)
+    let question = Question::route(link, end, prefix, choices).with_ranks(ranks);
+    ask(ctx, file, &question, lent)
 }
 
 /// What the program `plan` prints.
@@ -271,8 +321,8 @@ impl<'a> Opened<'a> {
         Answer::Part { offset, bytes }
     }
 
-    /// A call that computes: rows 1 to 13 leave all that was lent, otherwise
-    /// the work area holds the distances.
+    /// A call that computes: a row other than 14 leaves all that was lent,
+    /// otherwise the work area holds the distances.
     fn compute(&self, question: &Question, lent: &Buffers) -> Outcome {
         let mut left = lent.clone();
         if let Some(refusal) = self.refusal(&inputs(question, lent)) {
@@ -295,8 +345,10 @@ impl<'a> Opened<'a> {
     /// Whether the distances stand in the work area after a refusal that was
     /// known without a search. With the sound order that is never so.
     fn filled_all_the_same(&self, refusal: &Refusal) -> bool {
-        let question_row = (11..=13).contains(&refusal.number);
-        refusal.number == 14 || question_row && self.ctx.has(Fault::FilledBeforeQuestion)
+        let question_row = [11, 15, 12, 13].contains(&refusal.number);
+        refusal.number == 14
+            || question_row && self.ctx.has(Fault::FilledBeforeQuestion)
+            || refusal.number == 15 && self.ctx.has(Fault::FifteenFills)
     }
 
     /// Whether a fault leaves the work area as it was.
@@ -320,7 +372,7 @@ impl<'a> Opened<'a> {
         }
     }
 
-    /// The answer to a question that rows 1 to 13 let pass.
+    /// The answer to a question that all rows but 14 let pass.
     fn answer(&self, question: &Question, route_buffer: &mut [u8]) -> Answer {
         let workings = self.workings();
         let link_end = |link, end| workings.network.link_end(self.ctx, link, end);
@@ -332,46 +384,66 @@ impl<'a> Opened<'a> {
                 }
                 None => Answer::Set(0),
             },
-            Question::LinkRepair { link, end } => match link_end(*link, *end) {
-                Some(link_end) => self.repair(repair::link_repair(workings, &link_end)),
-                None => self.repair(Repair::None),
-            },
-            Question::PrefixRepair { link, end, prefix } => match link_end(*link, *end) {
-                Some(link_end) => self.repair(repair::prefix_repair(workings, &link_end, *prefix)),
-                None => self.repair(Repair::None),
-            },
-            Question::Route { link, end, prefix, choices } => match link_end(*link, *end) {
-                Some(link_end) => self.played(&link_end, *prefix, choices, route_buffer),
-                None => self.repair(Repair::None),
-            },
+            Question::LinkRepair { ranks, link, end } => {
+                let ranks = self.ranks(ranks, Fault::LinkRepairAscending);
+                let repaired = |link_end| repair::link_repair(workings, &link_end, ranks);
+                self.repair(ranks, link_end(*link, *end).map_or(Repair::None, repaired))
+            }
+            Question::PrefixRepair { ranks, link, end, prefix } => {
+                let ranks = self.ranks(ranks, Fault::PrefixRepairAscending);
+                let repaired =
+                    |link_end| repair::prefix_repair(workings, &link_end, *prefix, ranks);
+                self.repair(ranks, link_end(*link, *end).map_or(Repair::None, repaired))
+            }
+            Question::Route { ranks, link, end, prefix, choices } => {
+                let ranks = self.ranks(ranks, Fault::RouteAscending);
+                match link_end(*link, *end) {
+                    Some(link_end) => self.played(ranks, &link_end, *prefix, choices, route_buffer),
+                    None => self.repair(ranks, Repair::None),
+                }
+            }
             _ => Answer::Done,
         }
     }
 
-    fn repair(&self, repair: Repair) -> Answer {
+    /// The ranks that a call goes by: those lent to it, unless a fault drops them.
+    fn ranks<'r>(&self, lent: &'r [u8], dropped: Fault) -> &'r [u8] {
+        if self.ctx.has(dropped) { &ASCENDING } else { lent }
+    }
+
+    fn repair(&self, ranks: &[u8], repair: Repair) -> Answer {
         match repair {
             Repair::Unreachable => Answer::Unreachable,
             Repair::Untouched => Answer::Untouched,
             Repair::None => refused(self.ctx, &Refusal::new(Cause::NoPair, 0)),
-            Repair::Pair(pair) => Answer::Pair(pair),
+            Repair::Pair(pair) => self.late_refusal(ranks).unwrap_or(Answer::Pair(pair)),
         }
+    }
+
+    /// What a fault makes row 15 say where there is a pair already.
+    fn late_refusal(&self, ranks: &[u8]) -> Option<Answer> {
+        let late = self.ctx.has(Fault::RanksTriedForPair);
+        let refusal = ranks::row(self.ctx, ranks).filter(|_| late)?;
+        Some(refused(self.ctx, &refusal))
     }
 
     /// Plays the route of a prefix's repair and writes it. Any answer but a
     /// pair is passed on and writes nothing.
     fn played(
         &self,
+        ranks: &[u8],
         link_end: &LinkEnd,
         prefix: u64,
         choices: &[u8],
         route_buffer: &mut [u8],
     ) -> Answer {
-        let repair = repair::prefix_repair(self.workings(), link_end, prefix);
-        let Repair::Pair(pair) = repair else {
+        let repair = repair::prefix_repair(self.workings(), link_end, prefix, ranks);
+        let answer = self.repair(ranks, repair);
+        let (Repair::Pair(pair), Answer::Pair(_)) = (repair, &answer) else {
             if self.ctx.has(Fault::NothingPlayedWrites) {
                 write_route(route_buffer, &[link_end.s]);
             }
-            return self.repair(repair);
+            return answer;
         };
         let routers = route::play(self.workings(), link_end, prefix, &pair, choices);
         write_route(route_buffer, &routers);
@@ -402,24 +474,23 @@ fn refused(ctx: &Context, refusal: &Refusal) -> Answer {
 
 /// What a question has inputs for. With it `Opened::refusal` tells the cause of
 /// a refusal, which is no part of an answer; tests count the causes they met.
-pub fn inputs(question: &Question, lent: &Buffers) -> Inputs {
-    let work = Some(lent.work.len());
+pub fn inputs<'q>(question: &'q Question, lent: &Buffers) -> Inputs<'q> {
+    let computing = Inputs { work: Some(lent.work.len()), ..Inputs::default() };
+    let ranks = question.ranks();
     match question {
-        Question::Distances => Inputs { work, ..Inputs::default() },
-        Question::Space { link, end, .. } | Question::LinkRepair { link, end } => {
-            Inputs { work, link_end: Some((*link, *end)), ..Inputs::default() }
+        Question::Distances => computing,
+        Question::Space { link, end, .. } | Question::LinkRepair { link, end, .. } => {
+            Inputs { ranks, link_end: Some((*link, *end)), ..computing }
         }
-        Question::PrefixRepair { link, end, prefix } => Inputs {
-            work,
-            link_end: Some((*link, *end)),
-            prefix: Some(*prefix),
-            ..Inputs::default()
-        },
+        Question::PrefixRepair { link, end, prefix, .. } => {
+            Inputs { ranks, link_end: Some((*link, *end)), prefix: Some(*prefix), ..computing }
+        }
         Question::Route { link, end, prefix, .. } => Inputs {
-            work,
+            ranks,
             route: Some(lent.route.len()),
             link_end: Some((*link, *end)),
             prefix: Some(*prefix),
+            ..computing
         },
         _ => Inputs::default(),
     }

@@ -22,7 +22,7 @@
 //! strings have numbers: 0 is empty, 1 is the byte 1, 2 is 128 times the byte
 //! 1, 3 is the bytes 0, 1, 2 and so on to 127, 4 is 255, 254, 253 and so on
 //! down to 128. After the questions of a section come those whose link, end or
-//! prefix is just too large.
+//! prefix is just too large. The repairs and routes have one table of ranks.
 
 use crate::answer::{Answer, Buffers, Opened, Question};
 use crate::distance::UNREACHABLE;
@@ -64,10 +64,9 @@ pub fn enough() -> Buffers {
 }
 
 /// The lines of some sections, with a newline after each.
-pub fn lines(ctx: &Context, file: &[u8], sections: &[Section]) -> String {
-    let opened = Opened::new(ctx, file);
-    let mut batch =
-        Batch { opened, head: Head::of(Bytes(file)), lent: enough(), text: String::new() };
+pub fn lines(ctx: &Context, file: &[u8], ranks: &[u8], sections: &[Section]) -> String {
+    let (opened, head) = (Opened::new(ctx, file), Head::of(Bytes(file)));
+    let mut batch = Batch { opened, head, ranks, lent: enough(), text: String::new() };
     if matches!(batch.opened.ask(&Question::Load, &batch.lent).answer, Answer::Refused { .. }) {
         // The counts of a refused file mean nothing: one question of each kind.
         batch.head = Head { routers: 0, links: 0, prefixes: 0 };
@@ -89,6 +88,7 @@ pub fn lines(ctx: &Context, file: &[u8], sections: &[Section]) -> String {
 struct Batch<'a> {
     opened: Opened<'a>,
     head: Head,
+    ranks: &'a [u8],
     lent: Buffers,
     text: String,
 }
@@ -156,22 +156,23 @@ impl Batch<'_> {
 
     fn links(&mut self) {
         for (link, end) in self.link_ends() {
-            self.ask(&format!("link-repair {link} {end}"), &Question::LinkRepair { link, end });
+            let question = Question::link_repair(link, end).with_ranks(self.ranks);
+            self.ask(&format!("link-repair {link} {end}"), &question);
         }
     }
 
     fn prefixes(&mut self) {
         for (link, end, prefix) in self.link_end_prefixes() {
-            let label = format!("prefix-repair {link} {end} {prefix}");
-            self.ask(&label, &Question::PrefixRepair { link, end, prefix });
+            let question = Question::prefix_repair(link, end, prefix).with_ranks(self.ranks);
+            self.ask(&format!("prefix-repair {link} {end} {prefix}"), &question);
         }
     }
 
     fn routes(&mut self) {
         for (link, end, prefix) in self.link_end_prefixes() {
             for (string, choices) in choice_strings().into_iter().enumerate() {
-                let label = format!("route {link} {end} {prefix} {string}");
-                self.ask(&label, &Question::Route { link, end, prefix, choices });
+                let question = Question::route(link, end, prefix, &choices).with_ranks(self.ranks);
+                self.ask(&format!("route {link} {end} {prefix} {string}"), &question);
             }
         }
     }

@@ -7,6 +7,7 @@ use crate::file;
 use crate::generate::{self, Family};
 use crate::network::Network;
 use crate::random::Random;
+use crate::ranks::ASCENDING;
 use crate::space::Space;
 use crate::text;
 use crate::words;
@@ -43,6 +44,9 @@ oracle [OPTION ...] COMMAND
 
   --work CELLS                     cells of the work area lent to `ask`
   --buffer BYTES                   bytes of the route buffer lent to `ask`
+  --ranks RANK,RANK,RANK,RANK      the ranks of the classes 0 to 3 for the repairs
+                                   and routes of `ask` and `batch`; 0,1,2,3 if none
+                                   are given
   --left                           `ask` prints the lent buffers after the call
   --fault NAME                     turns on a fault
 ";
@@ -51,6 +55,7 @@ oracle [OPTION ...] COMMAND
 struct Options {
     ctx: Context,
     lent: Buffers,
+    ranks: Vec<u8>,
     show_left: bool,
 }
 
@@ -67,7 +72,8 @@ pub fn run(arguments: &[String], input: &mut dyn Read) -> Result<Vec<u8>, String
         ("plan", []) => Ok(plan_text(&options.ctx, &bytes(input)?).into_bytes()),
         ("batch", names) => {
             let sections = sections(names)?;
-            Ok(batch::lines(&options.ctx, &bytes(input)?, &sections).into_bytes())
+            let file = bytes(input)?;
+            Ok(batch::lines(&options.ctx, &file, &options.ranks, &sections).into_bytes())
         }
         ("ask", words) => ask_words(&options, words, input),
         ("random", [family, routers, seed]) => {
@@ -97,6 +103,7 @@ pub fn run(arguments: &[String], input: &mut dyn Read) -> Result<Vec<u8>, String
 fn options(arguments: &[String]) -> Result<(Options, &[String]), String> {
     let mut faults = Vec::new();
     let mut lent = batch::enough();
+    let mut ranks = ASCENDING.to_vec();
     let mut show_left = false;
     let mut words = arguments;
     while let [option, rest @ ..] = words {
@@ -113,6 +120,10 @@ fn options(arguments: &[String]) -> Result<(Options, &[String]), String> {
                 lent.route = vec![lent.route[0]; length(bytes)?];
                 rest
             }
+            ("--ranks", [table, rest @ ..]) => {
+                ranks = table.split(',').map(byte).collect::<Result<Vec<u8>, String>>()?;
+                rest
+            }
             ("--fault", [name, rest @ ..]) => {
                 faults.push(Fault::named(name).ok_or(format!("`{name}` is no fault"))?);
                 rest
@@ -125,7 +136,7 @@ fn options(arguments: &[String]) -> Result<(Options, &[String]), String> {
             _ => break,
         };
     }
-    Ok((Options { ctx: Context::with(&faults), lent, show_left }, words))
+    Ok((Options { ctx: Context::with(&faults), lent, ranks, show_left }, words))
 }
 
 fn make(input: &mut dyn Read) -> Result<Vec<u8>, String> {
@@ -154,7 +165,7 @@ fn sized(routers: &str, links: &str, prefixes: &str, seed: &str) -> Result<Vec<u
 }
 
 fn ask_words(options: &Options, words: &[&str], input: &mut dyn Read) -> Result<Vec<u8>, String> {
-    let question = question(words)?;
+    let question = question(words)?.with_ranks(&options.ranks);
     let file = match question {
         Question::Size { .. } => Vec::new(),
         _ => bytes(input)?,
@@ -182,14 +193,12 @@ fn question(words: &[&str]) -> Result<Question, String> {
         ("extended-p", [link, end]) => space(Space::ExtendedP, *link, *end),
         ("q", [link, end]) => space(Space::Q, *link, *end),
         ("size", [set]) => Question::Size { set: *set },
-        ("link-repair", [link, end]) => Question::LinkRepair { link: *link, end: *end },
-        ("prefix-repair", [link, end, prefix]) => {
-            Question::PrefixRepair { link: *link, end: *end, prefix: *prefix }
-        }
+        ("link-repair", [link, end]) => Question::link_repair(*link, *end),
+        ("prefix-repair", [link, end, prefix]) => Question::prefix_repair(*link, *end, *prefix),
         ("route", [link, end, prefix, choices @ ..]) => {
             let choices = choices.iter().map(|choice| byte(&choice.to_string()));
             let choices = choices.collect::<Result<Vec<u8>, String>>()?;
-            Question::Route { link: *link, end: *end, prefix: *prefix, choices }
+            Question::route(*link, *end, *prefix, &choices)
         }
         _ => return Err(format!("`{}` is no question\n\n{USAGE}", words.join(" "))),
     };

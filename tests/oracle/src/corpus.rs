@@ -8,6 +8,7 @@ use crate::file::{BLOCK, LARGEST, write};
 use crate::generate::{self, Family};
 use crate::network::Network;
 use crate::random::Random;
+use crate::ranks::{ASCENDING, Arrangement, WRONG, arrangements};
 use crate::row::Cause;
 use crate::space::Space;
 use crate::worked;
@@ -213,8 +214,9 @@ pub fn questions(network: &Network, random: &mut Random) -> Vec<(Question, Buffe
     asked
 }
 
-/// Every question about an accepted file with numbers in range. A route is
-/// asked for with three strings of choices.
+/// Every question about an accepted file with numbers in range. A repair is
+/// asked for with the ranks ascending and with two other arrangements, a route
+/// with one of these and three strings of choices.
 pub fn valid_questions(network: &Network, random: &mut Random) -> Vec<Question> {
     let (links, prefixes) = (network.links.len() as u64, network.prefixes.len() as u64);
     let mut questions = vec![Question::Load, Question::Plan, Question::Distances];
@@ -227,80 +229,116 @@ pub fn valid_questions(network: &Network, random: &mut Random) -> Vec<Question> 
             link,
             end,
         }));
-        questions.push(Question::LinkRepair { link, end });
+        let link_repair = Question::link_repair(link, end);
+        questions.extend(some_ranks(random).map(|ranks| link_repair.clone().with_ranks(&ranks)));
         for prefix in 0..prefixes {
-            questions.push(Question::PrefixRepair { link, end, prefix });
+            let prefix_repair = Question::prefix_repair(link, end, prefix);
+            let tables = some_ranks(random);
+            questions.extend(tables.map(|ranks| prefix_repair.clone().with_ranks(&ranks)));
             let short = random.below(4);
             let long = 2 * usize::from(network.routers);
             for count in [0, short, long] {
                 let choices = random.bytes(count);
-                questions.push(Question::Route { link, end, prefix, choices });
+                let route = Question::route(link, end, prefix, &choices);
+                questions.push(route.with_ranks(&random.pick(&tables)));
             }
         }
     }
     questions
 }
 
-/// Questions with buffers and numbers just inside and just outside.
+/// The ranks ascending, and two arrangements more.
+fn some_ranks(random: &mut Random) -> [Arrangement; 3] {
+    let arrangements = arrangements();
+    [ASCENDING, random.pick(&arrangements), random.pick(&arrangements)]
+}
+
+/// Questions with buffers, ranks and numbers just inside and just outside.
 fn questions_at_limits(network: &Network, random: &mut Random) -> Vec<(Question, Buffers)> {
-    let (links, prefixes) = (network.links.len() as u64, network.prefixes.len() as u64);
     let cells = usize::from(network.routers) * usize::from(network.routers);
-    let bytes = 2 * usize::from(network.routers);
-    let enough = marked(cells, bytes);
-    let mut asked = Vec::new();
-    for link in [links, links.saturating_add(1), u64::MAX] {
-        asked.push((Question::LinkEntry { link }, enough.clone()));
-    }
-    for prefix in [prefixes, prefixes.saturating_add(1), u64::MAX] {
-        asked.push((Question::PrefixEntry { prefix }, enough.clone()));
-    }
-    // Every mixture of numbers in range and out of it.
-    let last = |count: u64| count.saturating_sub(1);
-    for link in [0, last(links), links, u64::MAX] {
+    let enough = marked(cells, 2 * usize::from(network.routers));
+    let mut questions = numbers_at_limits(network, random);
+    questions.extend(every_kind_of_ranks());
+    let mut asked: Vec<(Question, Buffers)> =
+        questions.into_iter().map(|question| (question, enough.clone())).collect();
+    asked.extend(lengths_at_limits(network, random));
+    asked
+}
+
+/// Every mixture of numbers in range and out of it, with ranks of both kinds.
+fn numbers_at_limits(network: &Network, random: &mut Random) -> Vec<Question> {
+    let (links, prefixes) = (network.links.len() as u64, network.prefixes.len() as u64);
+    let too_large = |count: u64| [count, count.saturating_add(1), u64::MAX];
+    let mut questions: Vec<Question> = Vec::new();
+    questions.extend(too_large(links).map(|link| Question::LinkEntry { link }));
+    questions.extend(too_large(prefixes).map(|prefix| Question::PrefixEntry { prefix }));
+    let about = |count: u64| [0, count.saturating_sub(1), count, u64::MAX];
+    for link in about(links) {
         for end in [0, 1, 2, u64::MAX] {
-            for question in link_questions(link, end) {
-                asked.push((question, enough.clone()));
-            }
-            for prefix in [0, last(prefixes), prefixes, u64::MAX] {
-                for question in prefix_questions(link, end, prefix) {
-                    asked.push((question, enough.clone()));
-                }
-            }
+            let mixture = any_questions(link, end, &about(prefixes));
+            questions.extend(wrongly_ranked_too(mixture, random));
         }
     }
-    // Every mixture of buffer lengths, for a question in range and one out.
+    questions
+}
+
+/// Every mixture of buffer lengths, for a question in range and one out, with
+/// ranks of both kinds.
+fn lengths_at_limits(network: &Network, random: &mut Random) -> Vec<(Question, Buffers)> {
+    let (links, prefixes) = (network.links.len(), network.prefixes.len());
+    let cells = usize::from(network.routers) * usize::from(network.routers);
+    let bytes = 2 * usize::from(network.routers);
+    let mut asked = Vec::new();
     for cells in [0, cells - 1, cells, cells + 3] {
         for bytes in [0, bytes - 1, bytes, bytes + 3] {
-            let lent = marked(cells, bytes);
-            let link = random.below(network.links.len()) as u64;
-            let end = random.below(2) as u64;
-            let prefix = random.below(network.prefixes.len()) as u64;
-            asked.push((Question::Distances, lent.clone()));
-            for link in [link, links] {
-                for question in link_questions(link, end) {
-                    asked.push((question, lent.clone()));
-                }
-                for prefix in [prefix, prefixes] {
-                    for question in prefix_questions(link, end, prefix) {
-                        asked.push((question, lent.clone()));
-                    }
-                }
+            let (link, end) = (random.below(links) as u64, random.below(2) as u64);
+            let prefix = random.below(prefixes) as u64;
+            let mut questions = vec![Question::Distances];
+            for link in [link, links as u64] {
+                questions.extend(any_questions(link, end, &[prefix, prefixes as u64]));
             }
+            let questions = wrongly_ranked_too(questions, random).into_iter();
+            asked.extend(questions.map(|question| (question, marked(cells, bytes))));
         }
     }
     asked
 }
 
-fn link_questions(link: u64, end: u64) -> Vec<Question> {
-    let spaces = Space::ALL.iter().map(|space| Question::Space { space: *space, link, end });
-    spaces.chain([Question::LinkRepair { link, end }]).collect()
+/// Every arrangement and every kind of wrong table, for each call that takes
+/// ranks.
+fn every_kind_of_ranks() -> Vec<Question> {
+    let arrangements = arrangements();
+    let tables: Vec<&[u8]> = arrangements.iter().map(|ranks| &ranks[..]).chain(WRONG).collect();
+    let questions = any_questions(0, 0, &[0]).into_iter().filter(|each| each.ranks().is_some());
+    let ranked = |question: Question| {
+        tables.iter().map(|ranks| question.clone().with_ranks(ranks)).collect::<Vec<Question>>()
+    };
+    questions.flat_map(ranked).collect()
 }
 
-fn prefix_questions(link: u64, end: u64, prefix: u64) -> Vec<Question> {
-    vec![
-        Question::PrefixRepair { link, end, prefix },
-        Question::Route { link, end, prefix, choices: vec![1, 2, 3, 4, 5, 6, 7, 8] },
-    ]
+/// The questions as they are, and then those that take ranks with wrong ones.
+pub fn wrongly_ranked_too(mut questions: Vec<Question>, random: &mut Random) -> Vec<Question> {
+    let takes_ranks = questions.iter().filter(|question| question.ranks().is_some());
+    let wrongly = takes_ranks.cloned().map(|question| question.with_ranks(random.pick(&WRONG)));
+    let wrongly: Vec<Question> = wrongly.collect();
+    questions.extend(wrongly);
+    questions
+}
+
+/// Each call about a link and an end, the prefix calls with each of some prefixes.
+fn any_questions(link: u64, end: u64, prefixes: &[u64]) -> Vec<Question> {
+    let about_prefixes = prefixes.iter().flat_map(|prefix| prefix_questions(link, end, *prefix));
+    link_questions(link, end).into_iter().chain(about_prefixes).collect()
+}
+
+fn link_questions(link: u64, end: u64) -> Vec<Question> {
+    let spaces = Space::ALL.iter().map(|space| Question::Space { space: *space, link, end });
+    spaces.chain([Question::link_repair(link, end)]).collect()
+}
+
+fn prefix_questions(link: u64, end: u64, prefix: u64) -> [Question; 2] {
+    let choices = [1, 2, 3, 4, 5, 6, 7, 8];
+    [Question::prefix_repair(link, end, prefix), Question::route(link, end, prefix, &choices)]
 }
 
 /// One question of each kind, with buffers that are enough and with none.
@@ -313,8 +351,7 @@ fn questions_of_refused(random: &mut Random) -> Vec<(Question, Buffers)> {
         Question::PrefixEntry { prefix: number },
         Question::Distances,
     ];
-    questions.extend(link_questions(number, 0));
-    questions.extend(prefix_questions(number, 0, number));
+    questions.extend(wrongly_ranked_too(any_questions(number, 0, &[number]), random));
     let lend = |question: Question| [(question.clone(), marked(5, 5)), (question, marked(0, 0))];
     questions.into_iter().flat_map(lend).collect()
 }

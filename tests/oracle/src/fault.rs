@@ -4,7 +4,7 @@
 //! the answers differ. So the test shows that it would notice such a planner.
 //! With no fault turned on the program follows document 01.
 
-use crate::row::Cause;
+use crate::row::{self, Cause};
 
 listed! {
     /// A number that a row compares something with.
@@ -27,6 +27,9 @@ listed! {
         LinkEntry: "the number of a link entry is below L",
         PrefixEntry: "the number of a prefix entry is below the count of prefixes",
         FirstHopCost: "the cost from S to a first hop is below 65,535",
+        LeastRanks: "there are at least four ranks",
+        MostRanks: "there are at most four ranks",
+        Rank: "a rank is at most 3",
     }
 }
 
@@ -36,9 +39,10 @@ macro_rules! faults {
         #[derive(Clone, Copy, Debug, PartialEq, Eq, PartialOrd, Ord, Hash)]
         pub enum Fault {
             $(#[doc = $words] $value,)+
-            /// The row of this number (1 to 14) is not tried.
+            /// The row of this number (1 to 15) is not tried.
             RowDropped(u8),
-            /// This row and the next one (1 to 13) are tried in the other order.
+            /// This row (any but 14) and the one tried next are tried in the
+            /// other order.
             RowsSwapped(u8),
             /// The row (2, 5, 6, 7, 8 or 9) returns the last such place, not the first.
             LastSuch(u8),
@@ -72,7 +76,7 @@ faults! {
     // The wrong planners of "How far each contract reaches", c.
     SoundFileTurnedDown: "a file that no row refuses is refused as 1",
     FourteenBeforeSearch: "where a pair is to be searched for, the answer is 14 at once",
-    FourteenAlways: "every repair and route question that rows 1 to 13 let pass is 14",
+    FourteenAlways: "every repair and route question that all other rows let pass is 14",
     EveryPrefixUntouched: "every reachable prefix is called untouched",
     EveryPrefixUnreachable: "every prefix is called unreachable",
     AlwaysSamePair: "every search names the pair 3, 2 of ring 4",
@@ -107,10 +111,10 @@ faults! {
     RoundTooFew: "paths of N - 1 hops are not looked at",
     OnlyForthRelaxed: "distances use links from a to b only",
     UnreachableWraps: "the unreachable distance plus a cost wraps round",
-    FilledBeforeQuestion: "the distances are written before rows 11 to 13 are tried",
+    FilledBeforeQuestion: "the distances are written before rows 11, 15, 12 and 13 are tried",
     UntouchedLeavesWorkArea: "untouched and unreachable leave the work area as it was",
     FourteenLeavesWorkArea: "14 leaves the work area as it was",
-    RefusalTouchesBuffers: "a refusal by rows 1 to 13 clears the first cell and the first byte",
+    RefusalTouchesBuffers: "a refusal by any row but 14 clears the first cell and the first byte",
 
     // Walks and spaces.
     UnreachableAvoids: "a router that cannot be reached counts as avoided to",
@@ -144,6 +148,29 @@ faults! {
     PrefixRepairTowardsE: "a prefix repair is the link's own repair",
     EndpointMayBeS: "S is allowed as endpoint",
     EndpointMayBeE: "E is allowed as endpoint",
+
+    // Ranks: the table's use. That row 15 takes a wrong table, or comes at another
+    // place, is said by rows, causes and limits too.
+    ClassOfRank: "the table is read the other way: it maps a rank to its class",
+    RankOfNextClass: "a class has the rank of the class after it, the last that of the first",
+    RankOfTurnedClass: "class 1 has the rank of class 2, and the reverse",
+    HighestRankFirst: "the highest rank is preferred",
+    ClassBeforeRank: "the class is compared before the rank",
+    RankToldAsClass: "the answer tells the rank for the class",
+    LinkRepairAscending: "a link repair has the ranks ascending, whatever is lent",
+    PrefixRepairAscending: "a prefix repair has the ranks ascending, whatever is lent",
+    RouteAscending: "a route has the ranks ascending, whatever is lent",
+    PlanDescending: "the plan has the ranks descending",
+
+    // Ranks: row 15.
+    RanksInSetOf32: "row 15 looks a rank up in 32 bits, which 32 and 64 go round",
+    RanksInSetOf64: "row 15 looks a rank up in 64 bits, which 64 goes round",
+    RanksJudgedBySum: "row 15 takes four ranks whose sum is 6 modulo 256",
+    RanksTriedFirst: "row 15 is tried before all other rows",
+    RanksTriedLast: "row 15 is tried after row 13",
+    RanksTriedForPair: "row 15 is tried only where there is a pair to tell",
+    FifteenFills: "15 leaves the distances in the work area",
+    FifteenReturnsFour: "15 returns 4, the ranks needed",
 
     // Played routes.
     DeliveryLast: "delivery stands after the next routers",
@@ -181,13 +208,54 @@ impl Fault {
         Fault::PairsOfEveryNeighbour,
     ];
 
+    /// The ways to take ranks wrongly.
+    pub const OF_RANKS: [Fault; 31] = [
+        Fault::ClassOfRank,
+        Fault::RankOfNextClass,
+        Fault::RankOfTurnedClass,
+        Fault::HighestRankFirst,
+        Fault::ClassBeforeRank,
+        Fault::RankToldAsClass,
+        Fault::LinkRepairAscending,
+        Fault::PrefixRepairAscending,
+        Fault::RouteAscending,
+        Fault::PlanDescending,
+        Fault::RanksInSetOf32,
+        Fault::RanksInSetOf64,
+        Fault::RanksJudgedBySum,
+        Fault::RanksTriedFirst,
+        Fault::RanksTriedLast,
+        Fault::RanksTriedForPair,
+        Fault::FifteenFills,
+        Fault::FifteenReturnsFour,
+        Fault::RowDropped(15),
+        Fault::RowsSwapped(11),
+        Fault::RowsSwapped(15),
+        Fault::CauseIgnored(Cause::RanksShort),
+        Fault::CauseIgnored(Cause::RanksLong),
+        Fault::CauseIgnored(Cause::RankOver),
+        Fault::CauseIgnored(Cause::RankTwice),
+        Fault::LimitLoose(Limit::LeastRanks),
+        Fault::LimitLoose(Limit::MostRanks),
+        Fault::LimitLoose(Limit::Rank),
+        Fault::LimitTight(Limit::LeastRanks),
+        Fault::LimitTight(Limit::MostRanks),
+        Fault::LimitTight(Limit::Rank),
+    ];
+
+    /// The faults that no link repair, prefix repair or route shows while the
+    /// ranks ascend: a pair whose endpoint is S or E, or whose tunnel crosses the
+    /// link from E to S, then stands behind a serving pair of a lower class.
+    pub const BEHIND_OTHERS: [Fault; 3] =
+        [Fault::EndpointMayBeS, Fault::EndpointMayBeE, Fault::OnlySToETested];
+
     /// Every fault.
     pub fn all() -> Vec<Fault> {
         let mut all = Fault::PLAIN.to_vec();
-        all.extend((1..=14).map(Fault::RowDropped));
-        all.extend((1..=13).map(Fault::RowsSwapped));
+        all.extend(row::ORDER.map(Fault::RowDropped));
+        all.extend(row::ORDER.into_iter().filter(|row| *row != 14).map(Fault::RowsSwapped));
         all.extend([2, 5, 6, 7, 8, 9].map(Fault::LastSuch));
-        let causes = Cause::ALL.iter().filter(|cause| cause.row() < 14);
+        let causes = Cause::ALL.iter().filter(|cause| cause.row() != 14);
         all.extend(causes.map(|cause| Fault::CauseIgnored(*cause)));
         all.extend(Limit::ALL.iter().map(|limit| Fault::LimitLoose(*limit)));
         all.extend(Limit::ALL.iter().map(|limit| Fault::LimitTight(*limit)));
@@ -210,7 +278,9 @@ impl Fault {
     pub fn words(self) -> String {
         match self {
             Fault::RowDropped(row) => format!("row {row} is not tried"),
-            Fault::RowsSwapped(row) => format!("row {} is tried before row {row}", row + 1),
+            Fault::RowsSwapped(row) => {
+                format!("row {} is tried before row {row}", row::next(row).unwrap_or(row))
+            }
             Fault::LastSuch(row) => format!("row {row} returns the last such place"),
             Fault::CauseIgnored(cause) => {
                 format!("row {} does not look at: {}", cause.row(), cause.words())
@@ -221,13 +291,6 @@ impl Fault {
             Fault::KeysSwapped(key) => format!("keys {key} and {} change places", key + 1),
             plain => plain.plain_words().unwrap_or_default().to_string(),
         }
-    }
-
-    /// Whether the fault changes no answer of any call. In every accepted
-    /// network a serving pair whose endpoint is S or E stands behind another
-    /// serving pair of a lower class, so allowing such endpoints is not seen.
-    pub fn never_seen(self) -> bool {
-        matches!(self, Fault::EndpointMayBeS | Fault::EndpointMayBeE)
     }
 }
 

@@ -22,6 +22,7 @@ pub mod network;
 pub mod page;
 pub mod plan;
 pub mod random;
+pub mod ranks;
 pub mod repair;
 pub mod route;
 pub mod row;

@@ -2,6 +2,7 @@
 
 use crate::answer::Opened;
 use crate::fault::Fault;
+use crate::ranks::ASCENDING;
 use crate::repair::{Repair, link_repair};
 use crate::row::Inputs;
 use crate::workings::Workings;
@@ -31,13 +32,14 @@ pub fn text(opened: &Opened) -> String {
 }
 
 /// The fields: link, end, S, E, n, y, class, tunnel cost. For 14 each of the
-/// last four is the word `none`.
+/// last four is the word `none`. The ranks ascend.
 fn line(workings: &Workings, link: u64, end: u64) -> String {
     let ctx = &workings.ctx;
     let Some(link_end) = workings.network.link_end(ctx, link, end) else {
         return String::new();
     };
-    let own_repair = match link_repair(workings, &link_end) {
+    let ranks = if ctx.has(Fault::PlanDescending) { [3, 2, 1, 0] } else { ASCENDING };
+    let own_repair = match link_repair(workings, &link_end, &ranks) {
         Repair::Pair(pair) => {
             let (mut n, mut y) = (pair.first_hop, pair.endpoint);
             if ctx.has(Fault::PlanHopAndEndpointSwapped) {

@@ -4,6 +4,7 @@
 use crate::distance::plus;
 use crate::fault::Fault;
 use crate::network::LinkEnd;
+use crate::ranks;
 use crate::space::{first_hops_unless, q_target};
 use crate::walk::Walks;
 use crate::workings::Workings;
@@ -20,7 +21,7 @@ pub struct Pair {
     pub tunnel_cost: u32,
 }
 
-/// The answer to a repair question that rows 1 to 13 let pass.
+/// The answer to a repair question that all rows but 14 let pass.
 #[derive(Clone, Copy, Debug, PartialEq, Eq)]
 pub enum Repair {
     Unreachable,
@@ -30,8 +31,8 @@ pub enum Repair {
     Pair(Pair),
 }
 
-/// A serving pair with its five keys, the first deciding: class, D(S,y), y,
-/// tunnel cost, n.
+/// A serving pair with its five keys, the first deciding: the rank of its class,
+/// D(S,y), y, tunnel cost, n.
 #[derive(Clone, Copy, Debug, PartialEq, Eq)]
 pub struct Candidate {
     pub keys: [u32; 5],
@@ -39,14 +40,14 @@ pub struct Candidate {
 }
 
 /// The link's own repair: the target is E.
-pub fn link_repair(workings: &Workings, link_end: &LinkEnd) -> Repair {
-    search(workings, link_end, workings.to_router(q_target(workings, link_end)))
+pub fn link_repair(workings: &Workings, link_end: &LinkEnd, ranks: &[u8]) -> Repair {
+    search(workings, link_end, workings.to_router(q_target(workings, link_end)), ranks)
 }
 
 /// The repair for a prefix: unreachable, then untouched, then a pair or 14.
-pub fn prefix_repair(workings: &Workings, link_end: &LinkEnd, prefix: u64) -> Repair {
+pub fn prefix_repair(workings: &Workings, link_end: &LinkEnd, prefix: u64, ranks: &[u8]) -> Repair {
     let walks = workings.to_prefix(prefix);
-    if let Some(wrong) = wrong_prefix_repair(workings, link_end, walks) {
+    if let Some(wrong) = wrong_prefix_repair(workings, link_end, walks, ranks) {
         return wrong;
     }
     if !walks.reachable_from(link_end.s) {
@@ -54,18 +55,18 @@ pub fn prefix_repair(workings: &Workings, link_end: &LinkEnd, prefix: u64) -> Re
     } else if !walks.takes(link_end.s, link_end.s_to_e()) {
         Repair::Untouched
     } else {
-        search(workings, link_end, walks)
+        search(workings, link_end, walks, ranks)
     }
 }
 
 /// The first serving pair, or none.
-fn search(workings: &Workings, link_end: &LinkEnd, target: &Walks) -> Repair {
+fn search(workings: &Workings, link_end: &LinkEnd, target: &Walks, ranks: &[u8]) -> Repair {
     if let Some(wrong) = wrong_search(workings) {
         return wrong;
     }
     // No two pairs have the same five keys. Where a fault drops a key, the
     // last of the equal pairs is taken.
-    let serving = serving(workings, link_end, target).into_iter().rev();
+    let serving = serving(workings, link_end, target, ranks).into_iter().rev();
     match serving.min_by_key(|candidate| ordered(workings, candidate.keys)) {
         Some(first) => Repair::Pair(first.pair),
         None if workings.ctx.has(Fault::RowDropped(14)) => {
@@ -75,11 +76,17 @@ fn search(workings: &Workings, link_end: &LinkEnd, target: &Walks) -> Repair {
     }
 }
 
-/// Every pair that serves the target, with its keys.
-pub fn serving(workings: &Workings, link_end: &LinkEnd, target: &Walks) -> Vec<Candidate> {
+/// Every pair that serves the target, with its keys. Which pairs serve does not
+/// depend on the ranks.
+pub fn serving(
+    workings: &Workings,
+    link_end: &LinkEnd,
+    target: &Walks,
+    ranks: &[u8],
+) -> Vec<Candidate> {
     let pairs = pairs(workings, link_end).into_iter();
     let serving = pairs.filter(|(n, y)| serves(workings, link_end, target, *n, *y));
-    serving.map(|(n, y)| candidate(workings, link_end, target, n, y)).collect()
+    serving.map(|pair| candidate(workings, link_end, target, ranks, pair)).collect()
 }
 
 /// Every pair (n, y).
@@ -109,14 +116,17 @@ fn candidate(
     workings: &Workings,
     link_end: &LinkEnd,
     target: &Walks,
-    n: usize,
-    y: usize,
+    ranks: &[u8],
+    (n, y): (usize, usize),
 ) -> Candidate {
+    let ctx = &workings.ctx;
     let class = class(workings, link_end, target, n, y);
+    let rank = ranks::of_class(ctx, ranks, class);
+    let class = if ctx.has(Fault::RankToldAsClass) { rank } else { class };
     let tunnel_cost = tunnel_cost(workings, link_end.s, n, y);
     let from_s = workings.distances.between(link_end.s, y);
     Candidate {
-        keys: [class, from_s, number(y), tunnel_cost, number(n)],
+        keys: [rank, from_s, number(y), tunnel_cost, number(n)],
         pair: Pair { first_hop: n, endpoint: y, class, tunnel_cost },
     }
 }
@@ -174,11 +184,16 @@ fn number(router: usize) -> u32 {
 }
 
 /// What a planner with a fault answers to a prefix repair question.
-fn wrong_prefix_repair(workings: &Workings, link_end: &LinkEnd, walks: &Walks) -> Option<Repair> {
+fn wrong_prefix_repair(
+    workings: &Workings,
+    link_end: &LinkEnd,
+    walks: &Walks,
+    ranks: &[u8],
+) -> Option<Repair> {
     let ctx = &workings.ctx;
     let reachable = walks.reachable_from(link_end.s);
     let touched = walks.takes(link_end.s, link_end.s_to_e());
-    let no_pair = || search(workings, link_end, walks) == Repair::None;
+    let no_pair = || search(workings, link_end, walks, ranks) == Repair::None;
     if ctx.has(Fault::FourteenAlways) {
         Some(Repair::None)
     } else if ctx.has(Fault::EveryPrefixUnreachable) {
@@ -192,7 +207,7 @@ fn wrong_prefix_repair(workings: &Workings, link_end: &LinkEnd, walks: &Walks) -
     } else if ctx.has(Fault::UntouchedBeforeUnreachable) && !reachable {
         Some(Repair::Untouched)
     } else if ctx.has(Fault::PrefixRepairTowardsE) && touched {
-        Some(link_repair(workings, link_end))
+        Some(link_repair(workings, link_end, ranks))
     } else {
         None
     }

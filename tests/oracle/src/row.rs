@@ -1,9 +1,11 @@
 //! The table "What turns a question away": its rows, their causes, their
 //! order, and the rows 10 to 13, which look at a question's other inputs.
-//! The rows 1 to 9, which look at the file, are in `file::rows`.
+//! The rows 1 to 9, which look at the file, are in `file::rows`, and row 15 is
+//! in `ranks`.
 
 use crate::fault::{Context, Fault, Limit};
 use crate::file::Head;
+use crate::ranks;
 
 listed! {
     /// One cause of a row. A row applies when one of its causes does.
@@ -43,6 +45,10 @@ listed! {
         RouterTwice: "a prefix names a router twice",
         WorkAreaShort: "the work area is shorter than N x N",
         RouteBufferShort: "the route buffer is shorter than 2 x N",
+        RanksShort: "there are fewer than four ranks",
+        RanksLong: "there are more than four ranks",
+        RankOver: "a rank is over 3",
+        RankTwice: "a rank stands twice",
         LinkNumberOver: "the question's link is not below L",
         EndOver: "the question's end is above 1",
         PrefixNumberOver: "the question's prefix is not below their count",
@@ -82,6 +88,7 @@ impl Cause {
             Cause::RouterTwice => 9,
             Cause::WorkAreaShort => 10,
             Cause::RouteBufferShort => 11,
+            Cause::RanksShort | Cause::RanksLong | Cause::RankOver | Cause::RankTwice => 15,
             Cause::LinkNumberOver | Cause::EndOver => 12,
             Cause::PrefixNumberOver => 13,
             Cause::NoPair => 14,
@@ -114,38 +121,58 @@ pub fn first_cause(ctx: &Context, causes: &[(Cause, bool)]) -> Option<Cause> {
         .map(|(cause, _)| *cause)
 }
 
-/// The rows 1 to 13 in the order in which they are tried. Row 14 is not among
+/// All rows in the order in which they are tried.
+pub const ORDER: [u8; 15] = [1, 2, 3, 4, 5, 6, 7, 8, 9, 10, 11, 15, 12, 13, 14];
+
+/// The row that is tried after this one, if there is one.
+pub fn next(row: u8) -> Option<u8> {
+    let place = ORDER.iter().position(|other| *other == row)?;
+    ORDER.get(place + 1).copied()
+}
+
+/// The rows in the order in which they are tried. Row 14, the last, is not among
 /// them: it is known only after the search.
 pub fn order(ctx: &Context) -> Vec<u8> {
-    let mut rows: Vec<u8> = (1..=13).collect();
-    for first in 1..=12 {
-        if ctx.has(Fault::RowsSwapped(first)) {
-            rows.swap(usize::from(first) - 1, usize::from(first));
+    let known_before = ORDER.len() - 1;
+    let mut rows = ORDER[..known_before].to_vec();
+    for place in 1..known_before {
+        if ctx.has(Fault::RowsSwapped(ORDER[place - 1])) {
+            rows.swap(place - 1, place);
         }
     }
-    rows.retain(|row| !ctx.has(Fault::RowDropped(*row)));
+    for (fault, place) in [(Fault::RanksTriedFirst, 0), (Fault::RanksTriedLast, known_before - 1)] {
+        if ctx.has(fault) {
+            rows.retain(|row| *row != 15);
+            rows.insert(place, 15);
+        }
+    }
+    let late = ctx.has(Fault::RanksTriedForPair);
+    rows.retain(|row| !ctx.has(Fault::RowDropped(*row)) && !(late && *row == 15));
     rows
 }
 
 /// What a call has inputs for besides the file. "A call tries only the rows it
 /// has inputs for": an input that is absent leaves its row untried.
 #[derive(Clone, Copy, Debug, Default)]
-pub struct Inputs {
+pub struct Inputs<'a> {
     /// Cells of the work area.
     pub work: Option<usize>,
     /// Bytes of the route buffer.
     pub route: Option<usize>,
+    /// The ranks of the classes.
+    pub ranks: Option<&'a [u8]>,
     /// The link's number and the end.
     pub link_end: Option<(u64, u64)>,
     /// The prefix's number.
     pub prefix: Option<u64>,
 }
 
-/// One of the rows 10 to 13.
+/// One of the rows 10 to 13 and 15.
 pub fn question_row(ctx: &Context, row: u8, head: &Head, inputs: &Inputs) -> Option<Refusal> {
     match row {
         10 => inputs.work.and_then(|cells| work_area(ctx, head, cells)),
         11 => inputs.route.and_then(|bytes| route_buffer(ctx, head, bytes)),
+        15 => inputs.ranks.and_then(|table| ranks::row(ctx, table)),
         12 => inputs.link_end.and_then(|(link, end)| link_and_end(ctx, head, link, end)),
         13 => inputs.prefix.and_then(|prefix| prefix_number(ctx, head, prefix)),
         _ => None,

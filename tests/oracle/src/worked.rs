@@ -1,5 +1,6 @@
 //! The hand-worked networks of document 01, networks of the source documents
-//! that their text determines, and networks with links under maintenance.
+//! that their text determines, networks in which ranks matter, and networks with
+//! links under maintenance.
 
 use crate::network::Network;
 
@@ -185,6 +186,37 @@ pub fn maintenance() -> Vec<(&'static str, Network)> {
     ]
 }
 
+/// For link 0, end 0, each class has a serving pair: 0 by router 2, 1 by router
+/// 3, and 2 and 3 by a tunnel from each of these two to the other.
+pub fn four_classes() -> Network {
+    Network::of_routers(4)
+        .link(0, 1, 4, 4)
+        .link(0, 2, 3, 3)
+        .link(2, 1, 3, 3)
+        .link(0, 3, 3, 3)
+        .link(3, 1, 5, 5)
+        .prefix(&[(1, 0)])
+}
+
+/// For link 0, end 0, only neighbours serve: router 2 in class 0 and router 3 in
+/// class 1. A tunnel from one to the other crosses the link from E to S.
+pub fn neighbours_only() -> Network {
+    Network::of_routers(4)
+        .link(0, 1, 2, 1)
+        .link(0, 2, 1, 100)
+        .link(2, 1, 1, 100)
+        .link(0, 3, 1, 100)
+        .link(3, 1, 2, 100)
+        .prefix(&[(1, 0)])
+}
+
+/// Ring 3 with link 0 costing 9 both ways, so that S avoids to E.
+pub fn ring_3_dear_link() -> Network {
+    let mut network = ring(3);
+    (network.links[0].forth, network.links[0].back) = (9, 9);
+    network
+}
+
 /// All of them with their names.
 pub fn all() -> Vec<(&'static str, Network)> {
     let mut all = vec![
@@ -201,6 +233,9 @@ pub fn all() -> Vec<(&'static str, Network)> {
         ("figure 1, B-C costs 4", figure_1(4)),
         ("topology 1", topology_1()),
         ("topology 2", topology_2()),
+        ("four classes", four_classes()),
+        ("neighbours only", neighbours_only()),
+        ("ring 3, link 0 costs 9", ring_3_dear_link()),
         ("grid 3 by 3 with prefix", grid(3, 3).prefix(&[(8, 0)]).prefix(&[(2, 2), (5, 1), (8, 0)])),
     ];
     all.extend(maintenance());

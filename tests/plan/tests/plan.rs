@@ -3,14 +3,14 @@
 //! `README.md` and `docs/SPECIFICATION.md` say that it prints.
 
 use oracle::answer::plan_text;
-use oracle::fault::Context;
+use oracle::fault::{Context, Fault};
 use oracle::file::{LARGEST, write};
 use oracle::generate::{self, Family};
 use oracle::page;
 use oracle::random::Random;
 use oracle::stored;
 use oracle::stored::cases::{Case, Cases};
-use oracle::worked::ring_4_with_prefix;
+use oracle::worked::{four_classes, ring_4_with_prefix};
 use std::collections::BTreeSet;
 use std::io::{ErrorKind, Write};
 use std::process::{Child, Command, Stdio};
@@ -79,6 +79,21 @@ fn every_network_of_the_cases() {
     assert!(!texts.is_empty());
     assert!(texts.iter().all(|text| text.starts_with("plan ")));
     assert!(texts.iter().any(|text| text.contains(" none none none none\n")));
+}
+
+/// The ranks ascend: a plan by descending ones has another text where a link has
+/// pairs of several classes.
+#[test]
+fn the_ranks_ascend() {
+    let descending = Context::with(&[Fault::PlanDescending]);
+    let other = |case: &&Case| plan_text(&descending, &case.file) != expected(&case.file);
+    let networks = cases().networks;
+    let ranked: Vec<&Case> = networks.iter().filter(other).collect();
+    assert!(ranked.iter().any(|case| case.name == "four_classes"));
+    for case in ranked {
+        assert_eq!(printed(&case.file), expected(&case.file), "{}", case.name);
+    }
+    assert!(printed(&write(&four_classes())).contains("\n0 0 0 1 2 2 0 3\n"));
 }
 
 #[test]

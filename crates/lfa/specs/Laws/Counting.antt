@@ -1,13 +1,15 @@
--- Lists made by counting up: their length, their members, their elements.
+-- Lists made by counting up: their length, their members, their elements. How many numbers have a property.
 -- Assumes nothing.
 use Prim.Native.Nat.{ℕ, zero, suc, _+_, _-_, _≤_, _<_, min}
 use mathlib.Core.Path.{_≡_, refl, sym, ap, _∙_}
+use mathlib.Core.Logic.{_↔_}
+use mathlib.Core.Bool.{Bool, true, false, true≢false}
 use mathlib.Core.List.{map, List·Memᴰ}
 use native.Mathlib.Omega.{arith}
 use native.Mathlib.Nat.{zero-add, not-suc-le-zero, le-of-suc-le-suc}
 use lib.ListN.{getD, length, take, drop, length-map, length-take, length-drop}
 use lib.Seq.{getD-take, getD-drop, ext-getD}
-use Rattle.lfa.specs.Lists.{countUp, below}
+use Rattle.lfa.specs.Lists.{countUp, below, one, count, HowMany, nothing, one-more, no-more}
 use Rattle.lfa.specs.Laws.List.{map-gives, below-mem}
 
 pub length-counted : (i n : ℕ) → length (countUp i n) ≡ n
@@ -58,3 +60,23 @@ module _ {A : Type 0} (f : ℕ → A) where
       let j : i < min m (n - k) = omega arith in
       getD-take m (drop k (map f (below n))) i (f 0) (omega arith) ∙ getD-drop k (map f (below n)) i (f 0) ∙ map-below-at f (f 0) n (k + i) (omega arith)
       ∙ sym (map-below-at (λ i. f (k + i)) (f 0) (min m (n - k)) i j)
+
+-- ---- how many have a property
+
+-- as many as pass a test that decides it
+pub counted-holds : {P : ℕ → Type 0} (p : ℕ → Bool) (n : ℕ) → ((k : ℕ) → k < n → (p k ≡ true) ↔ P k) → HowMany P n (count p n)
+unfolding count
+counted-holds p zero decides = nothing
+counted-holds {P} p (suc n) decides = go (p n) refl (counted-holds p n (λ k h. decides k (omega arith)))
+  where
+    go : (b : Bool) → p n ≡ b → HowMany P n (count p n) → HowMany P (suc n) (one b + count p n)
+    go true e rest = let z : 1 + count p n ≡ suc (count p n) = omega arith in rw z (one-more (decides n (omega arith) .0 e) rest)
+    go false e rest = let z : 0 + count p n ≡ count p n = omega arith in rw z (no-more (λ h. true≢false (sym (decides n (omega arith) .1 h) ∙ e)) rest)
+
+-- and not another number of them
+pub holds-once : {P : ℕ → Type 0} {n k m : ℕ} → HowMany P n k → HowMany P n m → k ≡ m
+holds-once nothing nothing = refl
+holds-once (one-more h a) (one-more h′ b) = ap suc (holds-once a b)
+holds-once (one-more h a) (no-more f b) = absurd (f h)
+holds-once (no-more f a) (one-more h b) = absurd (f h)
+holds-once (no-more f a) (no-more f′ b) = holds-once a b

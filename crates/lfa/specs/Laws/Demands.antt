@@ -20,9 +20,11 @@ use Rattle.lfa.specs.Laws.Repair.{SearchMeans, PrefixMeans, unreachable-
 use Rattle.lfa.specs.Laws.Serve.{far-serves}
 use Rattle.lfa.specs.Laws.Demand1.{the-demand-1}
 use Rattle.lfa.specs.Laws.HasThis.{sound, least-costs, named, has-this, serves-it, first-repair, repaired, crossing-searched}
-use Rattle.lfa.specs.Laws.Replies.{computes, link-answer, link-has-link, link-meaning, prefix-has-link, prefix-meaning, Tells, prefix-tells, has-buffer, space-has-link, prefix-has-prefix, route-has-prefix, nothing-written, prefix-tells-same, pair-found, played-named}
+use Rattle.lfa.specs.Laws.Replies.{computes, link-answer, link-has-link, link-meaning, prefix-has-link, prefix-meaning, Tells, prefix-tells, has-buffer, space-has-link, prefix-has-prefix, route-has-prefix, nothing-written, prefix-tells-same, pair-found, searched-first, played-named}
 use Rattle.lfa.specs.Laws.Options.{are-options}
 use Rattle.lfa.specs.Laws.Point1.{put-at-65535, point-1}
+use Rattle.lfa.specs.Laws.Ranks.{ascending-arranged}
+use Rattle.lfa.specs.Laws.Point2.{ranks-lent, point-2}
 use Rattle.lfa.specs.Laws.PosedWhen.{posed-when}
 
 -- ---- demand 2
@@ -40,17 +42,19 @@ the-demand-2 q p = record {
     size = space-size (N q) (Hops q) (D q) (linkAsked q) (sound q p) (named q p (space-has-link (q .call) s c)) s;
   };
   link-repair-first = λ c t r.
-      first-repair q p (link-has-link q p c) _ (subst (SearchMeans (N q) (Hops q) (D q) (linkAsked q) (router (linkAsked q .far))) (answer-chosen (linkFound q) t (sym (link-answer q p c) ∙ r)) (link-meaning q p c));
+      first-repair q p (link-has-link q p c) _ (subst (SearchMeans (N q) (Hops q) (D q) (linkAsked q) (q .ranks) (router (linkAsked q .far))) (answer-chosen (linkFound q) t (sym (link-answer q p c) ∙ r)) (link-meaning q p c));
   prefix-repair-first = λ c t r.
       let h = prefix-has-prefix (q .call) c in
-      let f = subst (PrefixMeans (N q) (Hops q) (D q) (linkAsked q) (prefixAsked q)) (answer-chosen (prefixFound q) t (sym (computes q p c) ∙ r)) (prefix-meaning q p h) in
+      let f = subst (PrefixMeans (N q) (Hops q) (D q) (linkAsked q) (q .ranks) (prefixAsked q)) (answer-chosen (prefixFound q) t (sym (computes q p c) ∙ r)) (prefix-meaning q p h) in
       (f .0, first-repair q p (prefix-has-link q p h) _ (f .1));
-  unreachable-when = λ h. both (prefix-tells q p h .is-unreached) (unreachable-when (N q) (Hops q) (D q) (linkAsked q) (prefixAsked q) (prefixFound q) (prefix-meaning q p h));
-  untouched-when = λ h. both (prefix-tells q p h .is-untouched) (untouched-when (N q) (Hops q) (D q) (linkAsked q) (prefixAsked q) (prefixFound q) (prefix-meaning q p h));
+  unreachable-when = λ h. both (prefix-tells q p h .is-unreached) (unreachable-when (q .ranks) (N q) (Hops q) (D q) (linkAsked q) (prefixAsked q) (prefixFound q) (prefix-meaning q p h));
+  untouched-when = λ h. both (prefix-tells q p h .is-untouched) (untouched-when (q .ranks) (N q) (Hops q) (D q) (linkAsked q) (prefixAsked q) (prefixFound q) (prefix-meaning q p h));
   write-nothing = λ h a. nothing-written q p (has-buffer (q .call) h) (either (prefix-tells q p (route-has-prefix (q .call) (has-buffer (q .call) h))) a);
   options-are = λ to x. are-options (N q) (Hops q) (D q) to (sound q p .within) x;
   route-14 = λ c. both (prefix-tells q p (route-has-prefix (q .call) c) .is-14) (turned (prefix-tells-same q p c .is-14));
-  route-named = λ c t r. played-named q p c (pair-found q p c r);
+  route-named = λ c t r.
+      let found = pair-found q p c r in
+      (first-repair q p (prefix-has-link q p (route-has-prefix (q .call) c)) _ (searched-first q p c found), played-named q p c found);
 }
   where
     both : {A B C : Type 0} → A ↔ B → B ↔ C → A ↔ C
@@ -78,7 +82,7 @@ unfolding computed
 the-demand-3 q p = record {
   prefix-repaired = λ c may.
       let h = prefix-has-prefix (q .call) c in
-      rw (computes q p c) (repaired q p (prefix-has-link q p h) (prefixAsked q) (prefixFound q) (crossing-searched (N q) (Hops q) (D q) (linkAsked q) (prefixAsked q) may (prefixFound q) (prefix-meaning q p h)));
+      rw (computes q p c) (repaired q p (prefix-has-link q p h) (prefixAsked q) (prefixFound q) (crossing-searched (q .ranks) (N q) (Hops q) (D q) (linkAsked q) (prefixAsked q) may (prefixFound q) (prefix-meaning q p h)));
   link-repaired = link;
   link-has-this = λ c t r.
       let f = link c .is-repair t r in
@@ -91,4 +95,4 @@ the-demand-3 q p = record {
 -- ---- the demands
 
 pub demands : Demands
-demands = record { demand-1 = the-demand-1; demand-2 = the-demand-2; demand-3 = the-demand-3; put-at-65535 = put-at-65535; point-1 = point-1; posed-when = posed-when }
+demands = record { demand-1 = the-demand-1; demand-2 = the-demand-2; demand-3 = the-demand-3; put-at-65535 = put-at-65535; point-1 = point-1; ranks-lent = ranks-lent; ascending-arranged = ascending-arranged; point-2 = λ q. point-2 q (the-demand-3 q); posed-when = posed-when }

@@ -11,7 +11,7 @@ use native.Mathlib.Omega.{arith}
 use Rattle.lfa.specs.Lists.{select, anyOf, memberOf}
 use Rattle.lfa.specs.File.{Bytes, byteAt, blocksIn, blocksNeeded, linksOf, prefixesOf, checkGood, blockGood, linkGood, linkNew, prefixGood, routersNew}
 use Rattle.lfa.specs.Question.{Question, Call, load, fill, space, linkRepair, prefixRepair, route, aFile, inputsOf, inputNumber, hasInput, loading}
-use Rattle.lfa.specs.Refusal.{FileApplies, FileRow, badLength, badCheck, badHead, badBlockCount, badBlock, badLink, parallelLink, badPrefix, routerTwice, fileReturned, fileRows, EarlyRow, shortArea, shortBuffer, noSuchLink, noSuchPrefix, Row, ofFile, early, noPair, returned, entryOf, questionRows, allRows, tries, rowsTried, Decided, decided, firstRow, inFile, orLater, earlyRows, fileRefusal, refusalOf, Accepted}
+use Rattle.lfa.specs.Refusal.{FileApplies, FileRow, badLength, badCheck, badHead, badBlockCount, badBlock, badLink, parallelLink, badPrefix, routerTwice, fileReturned, fileRows, EarlyRow, shortArea, shortBuffer, badRanks, noSuchLink, noSuchPrefix, Row, ofFile, early, noPair, returned, entryOf, questionRows, allRows, tries, rowsTried, Decided, decided, firstRow, inFile, orLater, earlyRows, fileRefusal, refusalOf, Accepted}
 use Rattle.lfa.specs.Laws.List.{select-gives, select-make}
 use Rattle.lfa.specs.Laws.FirstFailing.{none-failing, all-passing, unless-none, unless-good}
 use Rattle.lfa.specs.Laws.File.Passes.{AreBytes, Passes}
@@ -92,6 +92,7 @@ early-row-listed : (r : EarlyRow) → List·Memᴰ r earlyRows
 unfolding earlyRows
 early-row-listed shortArea = search (first-listed, List·Memᴰ·tail) depth 8
 early-row-listed shortBuffer = search (first-listed, List·Memᴰ·tail) depth 8
+early-row-listed badRanks = search (first-listed, List·Memᴰ·tail) depth 8
 early-row-listed noSuchLink = search (first-listed, List·Memᴰ·tail) depth 8
 early-row-listed noSuchPrefix = search (first-listed, List·Memᴰ·tail) depth 8
 

@@ -66,7 +66,7 @@ module _ (q : Question) (p : Posed q) (l : HasInput q aLink) (to : Target) (n y 
 
 module _ (q : Question) (p : Posed q) (l : HasInput q aLink) (to : Target) where
   -- the pair that a search puts first is a repair
-  pub first-repair : {t : Told} → IsFirstPair (N q) (Hops q) (D q) (linkAsked q) to t → IsRepair q to t
+  pub first-repair : {t : Told} → IsFirstPair (N q) (Hops q) (D q) (linkAsked q) (q .ranks) to t → IsRepair q to t
   unfolding toldOf
   first-repair {t} f =
       let p′ = f .pair in
@@ -81,7 +81,7 @@ module _ (q : Question) (p : Posed q) (l : HasInput q aLink) (to : Target) where
             rw (tells-told (D q) (linkAsked q) to r told) (f .earliest r is s);
       }
 
-  pub repaired : (o : Outcome) → SearchMeans (N q) (Hops q) (D q) (linkAsked q) to o → Repaired q to (repairAnswer o)
+  pub repaired : (o : Outcome) → SearchMeans (N q) (Hops q) (D q) (linkAsked q) (q .ranks) to o → Repaired q to (repairAnswer o)
   unfolding repairAnswer entryOf
   repaired prefixUnreachable f = absurd f
   repaired prefixUntouched f = absurd f
@@ -93,16 +93,16 @@ module _ (q : Question) (p : Posed q) (l : HasInput q aLink) (to : Target) where
   repaired (serving t) f =
       record {
         repair-or-14 = inl (t, refl);
-        is-repair = λ t′ e. first-repair (subst (SearchMeans (N q) (Hops q) (D q) (linkAsked q) to) (answer-chosen (serving t) t′ e) f);
+        is-repair = λ t′ e. first-repair (subst (SearchMeans (N q) (Hops q) (D q) (linkAsked q) (q .ranks) to) (answer-chosen (serving t) t′ e) f);
         exactly = (λ e. absurd (let z : _≡_ {A = ℕ} 0 1 = cc in omega arith), λ e. absurd (e (f .pair) (f .is-pair) (has-it f)));
       }
     where
-      has-it : (f : IsFirstPair (N q) (Hops q) (D q) (linkAsked q) to t) → HasThis q to (f .pair .hop .router) (f .pair .endpoint)
+      has-it : (f : IsFirstPair (N q) (Hops q) (D q) (linkAsked q) (q .ranks) to t) → HasThis q to (f .pair .hop .router) (f .pair .endpoint)
       has-it f = has-this q p l to (f .pair .hop .router) (f .pair .endpoint) (sound q p .within .to (f .is-pair .first-hop .joined)) (f .is-pair .end-in) (f .serves)
 
 -- of a prefix whose traffic may cross the link, the repair is that of the search
-pub crossing-searched : (n : ℕ) (hops : List Arc) (d : ℕ → ℕ → ℕ) (q : Protected) (to : Target) → MayCross hops d q to → (o : Outcome) → PrefixMeans n hops d q to o → SearchMeans n hops d q to o
-crossing-searched n hops d q to may prefixUnreachable f = omega (arith, may .step .finite)
-crossing-searched n hops d q to may prefixUntouched f = absurd (f .1 may)
-crossing-searched n hops d q to may noneServes f = f .1
-crossing-searched n hops d q to may (serving t) f = f .1
+pub crossing-searched : (ranks : List ℕ) (n : ℕ) (hops : List Arc) (d : ℕ → ℕ → ℕ) (q : Protected) (to : Target) → MayCross hops d q to → (o : Outcome) → PrefixMeans n hops d q ranks to o → SearchMeans n hops d q ranks to o
+crossing-searched ranks n hops d q to may prefixUnreachable f = omega (arith, may .step .finite)
+crossing-searched ranks n hops d q to may prefixUntouched f = absurd (f .1 may)
+crossing-searched ranks n hops d q to may noneServes f = f .1
+crossing-searched ranks n hops d q to may (serving t) f = f .1

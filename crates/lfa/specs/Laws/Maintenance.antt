@@ -17,9 +17,10 @@ use Rattle.lfa.specs.Walk.{avoids}
 use Rattle.lfa.specs.Space.{underMaintenance, Protected, protectedBy, protected, isFirst, hopOver, firstHops, FirstHop, Space, pSpace, extendedP, qSpace, inSpace, spaceOf, setOf}
 use Rattle.lfa.specs.Repair.{Pair, isEndpoint, pairsOf, pairs, serves, mayCross, classOf, toldOf, pairKey, choose, firstPair, Outcome, prefixUnreachable, prefixUntouched, noneServes, serving, outcomeOf, linkOutcome, prefixOutcome}
 use Rattle.lfa.specs.Question.{Question, Call, load, fill, space, linkRepair, prefixRepair, route, withoutMaintenance, LooksAtFirstHops, Buffer, workArea, routeBuffer, lent, HasInput, networkAsked, linkAsked, prefixAsked, withDistances, linkFound, prefixFound, searched, ifNone}
-use Rattle.lfa.specs.Refusal.{Row, ofFile, early, noPair, Decided, decided, returned, firstRow, rowsTried, refusalOf}
+use Rattle.lfa.specs.Refusal.{Row, ofFile, early, noPair, Decided, returned, tries, allRows, rowsTried, refusalOf}
 use Rattle.lfa.specs.Answer.{Answer, set, refusal, routeFor, routePlayed, routeAnswer, repairAnswer, computed, answerTo, writtenTo, exitBy, exitOf}
 use Rattle.lfa.specs.Route.{routeOf}
+use Rattle.lfa.specs.Laws.Rows.{same-decides}
 use Rattle.lfa.specs.Laws.Causes.{early-numbers}
 use Rattle.lfa.specs.Laws.Replies.{has-buffer}
 use Rattle.lfa.specs.Demands.{Hops, D, IsNeighbour, SameReply}
@@ -63,28 +64,28 @@ module _ (q : Protected) (at : q .maintenance ≡ underMaintenance) where
 
 -- ---- what is found
 
-module _ (n : ℕ) (hops : List Arc) (d : ℕ → ℕ → ℕ) (q : Protected) (same : firstHops q hops ≡ firstHops (unlimited q) hops) where
+module _ (ranks : List ℕ) (n : ℕ) (hops : List Arc) (d : ℕ → ℕ → ℕ) (q : Protected) (same : firstHops q hops ≡ firstHops (unlimited q) hops) where
   pairs-same : pairs q n hops ≡ pairs (unlimited q) n hops
   unfolding pairs pairsOf isEndpoint unlimited
   pairs-same = ap (λ (fs : List FirstHop). flat (map (pairsOf q n) fs)) same
 
-  first-same : (to : Target) → firstPair n hops d q to ≡ firstPair n hops d (unlimited q) to
+  first-same : (to : Target) → firstPair ranks n hops d q to ≡ firstPair ranks n hops d (unlimited q) to
   unfolding firstPair serves pairKey toldOf classOf unlimited
-  first-same to = ap (λ (ps : List _). choose (pairKey d q to) (select (serves n hops d q to) ps)) pairs-same
+  first-same to = ap (λ (ps : List _). choose (pairKey ranks d q to) (select (serves n hops d q to) ps)) pairs-same
 
   outcome-same : (to : Target) (o : Option Pair) → outcomeOf d q to o ≡ outcomeOf d (unlimited q) to o
   unfolding outcomeOf toldOf classOf unlimited
   outcome-same to none = refl
   outcome-same to (some p) = refl
 
-  search-same : (to : Target) → outcomeOf d q to (firstPair n hops d q to) ≡ outcomeOf d (unlimited q) to (firstPair n hops d (unlimited q) to)
-  search-same to = outcome-same to (firstPair n hops d q to) ∙ ap (outcomeOf d (unlimited q) to) (first-same to)
+  search-same : (to : Target) → outcomeOf d q to (firstPair ranks n hops d q to) ≡ outcomeOf d (unlimited q) to (firstPair ranks n hops d (unlimited q) to)
+  search-same to = outcome-same to (firstPair ranks n hops d q to) ∙ ap (outcomeOf d (unlimited q) to) (first-same to)
 
-  link-same : linkOutcome n hops d q ≡ linkOutcome n hops d (unlimited q)
+  link-same : linkOutcome ranks n hops d q ≡ linkOutcome ranks n hops d (unlimited q)
   unfolding linkOutcome unlimited
   link-same = search-same (router (q .far))
 
-  prefix-same : (to : Target) → prefixOutcome n hops d q to ≡ prefixOutcome n hops d (unlimited q) to
+  prefix-same : (to : Target) → prefixOutcome ranks n hops d q to ≡ prefixOutcome ranks n hops d (unlimited q) to
   unfolding prefixOutcome mayCross unlimited
   prefix-same to = ap (outcome (ltb (towards d to (q .near)) unreachable) (mayCross n hops d q to)) (search-same to)
     where
@@ -101,11 +102,6 @@ unfolding spaceOf inSpace unlimited
 both-same n hops d q = (refl, refl)
 
 -- ---- what is answered, and what is left in the buffers
-
-first-row-same : {R : Type 0} (v w : R → Option ℕ) → ((r : R) → v r ≡ w r) → (rows : List R) → firstRow v rows ≡ firstRow w rows
-unfolding firstRow
-first-row-same v w h [] = refl
-first-row-same v w h (r ∷ rows) = ap₂ (λ (o : Option ℕ) (rest : Option (Decided _)). elim o [ some k ↦ some (decided r k) | none ↦ rest ]) (h r) (first-row-same v w h rows)
 
 module _ (q : Question) (at : q .maintenance ≡ underMaintenance) where
   abbrev pub other : Question
@@ -132,11 +128,11 @@ module _ (q : Question) (at : q .maintenance ≡ underMaintenance) where
 
   link-found-same : InService → linkFound q ≡ linkFound other
   unfolding linkFound withDistances networkAsked withoutMaintenance
-  link-found-same small = link-same _ _ _ (linkAsked q) (same-hops small) ∙ sym (ap (linkOutcome (networkAsked q .routers) (Hops q) _) asked-unlimited)
+  link-found-same small = link-same _ _ _ _ (linkAsked q) (same-hops small) ∙ sym (ap (linkOutcome (q .ranks) (networkAsked q .routers) (Hops q) _) asked-unlimited)
 
   prefix-found-same : InService → prefixFound q ≡ prefixFound other
   unfolding prefixFound withDistances networkAsked prefixAsked withoutMaintenance
-  prefix-found-same small = prefix-same _ _ _ (linkAsked q) (same-hops small) _ ∙ sym (ap (λ (r : Protected). prefixOutcome (networkAsked q .routers) (Hops q) (D q) r (prefixAsked q)) asked-unlimited)
+  prefix-found-same small = prefix-same _ _ _ _ (linkAsked q) (same-hops small) _ ∙ sym (ap (λ (r : Protected). prefixOutcome (q .ranks) (networkAsked q .routers) (Hops q) (D q) r (prefixAsked q)) asked-unlimited)
 
   -- what each call searches for and computes
   searched-same : (c : Call) → (LooksAtFirstHops c → InService) → searched q c ≡ searched other c
@@ -167,7 +163,7 @@ module _ (q : Question) (at : q .maintenance ≡ underMaintenance) where
     where
       go : (s : Space) → (LooksAtFirstHops (space s) → InService) → spaceOf s (networkAsked q .routers) (Hops q) (D q) (linkAsked q) ≡ spaceOf s (networkAsked q .routers) (Hops q) (D q) (unlimited (linkAsked q))
       go pSpace small = both-same _ _ _ _ .0
-      go extendedP small = extended-same _ _ _ (linkAsked q) (same-hops (small tt))
+      go extendedP small = extended-same (q .ranks) _ _ _ (linkAsked q) (same-hops (small tt))
       go qSpace small = both-same _ _ _ _ .1
   computed-same linkRepair small = unfold computed in ap repairAnswer (link-found-same (small tt))
   computed-same prefixRepair small = unfold computed in ap repairAnswer (prefix-found-same (small tt))
@@ -181,8 +177,8 @@ module _ (q : Question) (at : q .maintenance ≡ underMaintenance) where
   returned-same small noPair = ap (λ (o : Option Outcome). ifNone o 0) (searched-same (q .call) small)
 
   refusal-same : (LooksAtFirstHops (q .call) → InService) → refusalOf q ≡ refusalOf other
-  unfolding refusalOf withoutMaintenance
-  refusal-same small = first-row-same (returned q) (returned other) (returned-same small) (rowsTried (q .call))
+  unfolding refusalOf rowsTried withoutMaintenance
+  refusal-same small = same-decides (returned q) (returned other) (tries (q .call)) allRows (λ r m t. returned-same small r)
 
   -- The answer and each buffer: the rows decide alike, what is computed is the same, and so is what is written.
   pub reply-same : (LooksAtFirstHops (q .call) → InService) → SameReply q other

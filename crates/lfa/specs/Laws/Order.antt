@@ -2,7 +2,7 @@
 -- is chosen from a list comes first in it.
 -- Assumes nothing.
 use Prim.Native.Nat.{ℕ, _<_}
-use mathlib.Core.Path.{_≡_, refl, sym, _∙_}
+use mathlib.Core.Path.{_≡_, refl, sym, ap₂, _∙_}
 use mathlib.Core.Logic.{_⊎_, inl, inr}
 use mathlib.Core.Bool.{Bool, true, false, _&&_, false≢true, true≢false}
 use mathlib.Core.Option.{Option, none, some}
@@ -11,7 +11,7 @@ use native.Mathlib.Omega.{arith}
 use native.Mathlib.Nat.{lt-trans}
 use lib.Dec.{eqb, ltb}
 use borrow.Author.Tests.{ltb-true, ltb-false, lt-ltb, eqb-true, eq-eqb}
-use Rattle.lfa.specs.Repair.{First, Pair, Keys, key, by-class, by-distance, by-endpoint, by-tunnel, by-hop, noLater, earlier, choose}
+use Rattle.lfa.specs.Repair.{First, Pair, Keys, key, by-rank, by-distance, by-endpoint, by-tunnel, by-hop, noLater, earlier, choose}
 use Rattle.lfa.specs.Laws.Test.{and-left, and-right, and-make, or-cases, or-left, or-right, or-false-left, or-false-right, and-false, decide}
 
 -- ---- lists of keys
@@ -48,6 +48,14 @@ later-trans (less h) (less k) = less (lt-trans h k)
 later-trans (less h) (same e s) = less (rw e at h)
 later-trans (same e r) (less k) = less (rw (← e) at k)
 later-trans (same e r) (same e′ s) = same (e ∙ e′) (later-trans r s)
+
+-- two lists neither of which is later are the same
+pub later-both : {a b : List ℕ} → NoLater a b → NoLater b a → a ≡ b
+later-both ended ended = refl
+later-both (less h) (less k) = absurd (omega (arith, h, k))
+later-both (less h) (same e r) = absurd (omega (arith, h, e))
+later-both (same e r) (less k) = absurd (omega (arith, e, k))
+later-both (same e r) (same e′ s) = ap₂ _∷_ e (later-both r s)
 
 pub later-total : (a b : List ℕ) → noLater a b ≡ false → NoLater b a
 unfolding noLater
@@ -99,31 +107,35 @@ module _ (k : Pair → List ℕ) where
 -- ---- the five clauses
 
 -- keys that agree one by one are the same
-keysMade : (first endpoint class cost distance : ℕ) → Keys
-keysMade n y k c r = record { told = record { first = n; endpoint = y; class = k; cost = c }; distance = r }
+keysMade : (rank distance endpoint cost first : ℕ) → Keys
+keysMade k s y c n = record { rank = k; distance = s; endpoint = y; cost = c; first = n }
 
-same-keys : (a b : Keys) → a .told .first ≡ b .told .first → a .told .endpoint ≡ b .told .endpoint → a .told .class ≡ b .told .class → a .told .cost ≡ b .told .cost → a .distance ≡ b .distance → a ≡ b
+same-keys : (a b : Keys) → a .rank ≡ b .rank → a .distance ≡ b .distance → a .endpoint ≡ b .endpoint → a .cost ≡ b .cost → a .first ≡ b .first → a ≡ b
 unfolding keysMade
 same-keys a b e₁ e₂ e₃ e₄ e₅ =
-    let e : keysMade (a .told .first) (a .told .endpoint) (a .told .class) (a .told .cost) (a .distance) ≡ keysMade (b .told .first) (b .told .endpoint) (b .told .class) (b .told .cost) (b .distance) = cc in
+    let e : keysMade (a .rank) (a .distance) (a .endpoint) (a .cost) (a .first) ≡ keysMade (b .rank) (b .distance) (b .endpoint) (b .cost) (b .first) = cc in
     e
 
 -- The list of keys comes no later exactly when one of the five clauses holds or all keys are the same: key by key, the first that
 -- differs is the clause.
 pub key-first : (a b : Keys) → NoLater (key a) (key b) → First a b
 unfolding key
-key-first a b (less h) = inl (by-class h)
+key-first a b (less h) = inl (by-rank h)
 key-first a b (same e₁ (less h)) = inl (by-distance e₁ h)
 key-first a b (same e₁ (same e₂ (less h))) = inl (by-endpoint e₁ e₂ h)
 key-first a b (same e₁ (same e₂ (same e₃ (less h)))) = inl (by-tunnel e₁ e₂ e₃ h)
 key-first a b (same e₁ (same e₂ (same e₃ (same e₄ (less h))))) = inl (by-hop e₁ e₂ e₃ e₄ h)
-key-first a b (same e₁ (same e₂ (same e₃ (same e₄ (same e₅ r))))) = inr (same-keys a b e₅ e₃ e₁ e₄ e₂)
+key-first a b (same e₁ (same e₂ (same e₃ (same e₄ (same e₅ r))))) = inr (same-keys a b e₁ e₂ e₃ e₄ e₅)
 
 pub first-key : (a b : Keys) → First a b → NoLater (key a) (key b)
 unfolding key
-first-key a b (inl (by-class h)) = less h
+first-key a b (inl (by-rank h)) = less h
 first-key a b (inl (by-distance e₁ h)) = same e₁ (less h)
 first-key a b (inl (by-endpoint e₁ e₂ h)) = same e₁ (same e₂ (less h))
 first-key a b (inl (by-tunnel e₁ e₂ e₃ h)) = same e₁ (same e₂ (same e₃ (less h)))
 first-key a b (inl (by-hop e₁ e₂ e₃ e₄ h)) = same e₁ (same e₂ (same e₃ (same e₄ (less h))))
 first-key a b (inr e) = rw e (later-refl (key b))
+
+-- two keys neither of which comes before the other are the same
+pub first-both : (a b : Keys) → First a b → First b a → key a ≡ key b
+first-both a b f g = later-both (first-key a b f) (first-key b a g)

@@ -5,18 +5,19 @@ use Prim.Native.Nat.{ℕ, _<_}
 use mathlib.Core.Path.{_≡_, refl, sym, ap, _∙_, subst}
 use mathlib.Core.Logic.{_⊎_, inl, inr, _↔_}
 use mathlib.Core.Option.{Option, none, some}
-use mathlib.Core.List.{List, [], _∷_, map, List·Memᴰ, List·Memᴰ·cases-cons, List·Memᴰ·not-nil}
+use mathlib.Core.List.{List, _∷_, map, List·Memᴰ, List·Memᴰ·cases-cons, List·Memᴰ·not-nil}
 use native.Mathlib.Omega.{arith}
 use Rattle.lfa.specs.File.{byteAt}
 use Rattle.lfa.specs.Space.{underMaintenance, Protected, FirstHop, IsFirstHop}
 use Rattle.lfa.specs.Question.{Question, loading, filling, askSpace, askLink, askPrefix, askRoute, withoutMaintenance, LooksAtFirstHops, Buffer, workArea, routeBuffer, lent, HasInput, networkAsked, linkAsked}
-use Rattle.lfa.specs.Refusal.{Row, EarlyRow, early, Decided, earlyRows, tries, returned, fileRefusal, orLater, earlyRefusal, Posed}
+use Rattle.lfa.specs.Refusal.{Row, early, Decided, earlyRows, tries, returned, fileRefusal, orLater, earlyRefusal, Accepted, Posed}
 use Rattle.lfa.specs.Answer.{exitOf}
 use Rattle.lfa.specs.Demands.{Hops, IsNeighbour, PutAt65535, SameReply, Point1}
-use Rattle.lfa.specs.Laws.Rows.{SameOn, nowhere, same-also, same-decides}
+use Rattle.lfa.specs.Laws.Rows.{same-decides}
+use Rattle.lfa.specs.Laws.List.{map-gives}
 use Rattle.lfa.specs.Laws.Causes.{early-numbers}
 use Rattle.lfa.specs.Laws.Asked.{posed-work}
-use Rattle.lfa.specs.Laws.HasThis.{sound}
+use Rattle.lfa.specs.Laws.Accepted.{accepted-sound}
 use Rattle.lfa.specs.Laws.Turned.{early-turned-away, early-posed}
 use Rattle.lfa.specs.Laws.Maintenance.{unlimited, asked-unlimited, limit-asked, reply-same, InService}
 
@@ -30,7 +31,7 @@ one-more {q} {head} {rest} at others member = either (List·Memᴰ·cases-cons m
 
 pub put-at-65535 : PutAt65535
 unfolding loading filling askSpace askLink askPrefix askRoute
-put-at-65535 b area buffer l e p choices s q =
+put-at-65535 b area buffer l e p ranks choices s q =
     one-more refl (one-more refl (one-more refl (one-more refl (one-more refl (one-more refl (λ n. absurd (List·Memᴰ·not-nil n)))))))
 
 module _ (q : Question) (at : q .maintenance ≡ underMaintenance) (bytes : (i : ℕ) → byteAt (q .file) i < 256) where
@@ -41,19 +42,21 @@ module _ (q : Question) (at : q .maintenance ≡ underMaintenance) (bytes : (i :
   )
 
   -- no cost is above 65,535
-  before : Posed q → (f : FirstHop) → IsFirstHop (Hops q) (linkAsked (withoutMaintenance q)) f ↔ IsNeighbour q f
-  before p f = subst (λ (r : Protected). IsFirstHop (Hops q) r f ↔ IsNeighbour q f) (sym (asked-unlimited q at)) (unfold unlimited in
-      (λ is. (is .joined, is .not-far), λ n. record { joined = n .0; not-far = n .1; in-service = omega (arith, sound q p .capped (n .0)) }))
+  before : Accepted (q .file) → (f : FirstHop) → IsFirstHop (Hops q) (linkAsked (withoutMaintenance q)) f ↔ IsNeighbour q f
+  unfolding networkAsked
+  before a f = subst (λ (r : Protected). IsFirstHop (Hops q) r f ↔ IsNeighbour q f) (sym (asked-unlimited q at)) (unfold unlimited in
+      (λ is. (is .joined, is .not-far), λ n. record { joined = n .0; not-far = n .1; in-service = omega (arith, accepted-sound (q .file) a .capped (n .0)) }))
 
-  -- rows 1 to 13 do not look at first hops
-  same-on : (rows : List EarlyRow) → SameOn (returned (withoutMaintenance q)) (returned q) (map early rows)
+  -- the rows before 14 do not look at first hops
+  same-on : (r : Row) → List·Memᴰ r (map early earlyRows) → returned (withoutMaintenance q) r ≡ returned q r
   unfolding returned withoutMaintenance
-  same-on [] = nowhere
-  same-on (r ∷ rows) = same-also (early-numbers _ _ _ q (q .call) (q .file) (q .choices) 65536 r) (same-on rows)
+  same-on r m =
+      let g = map-gives early earlyRows m in
+      subst (λ (r : Row). returned (withoutMaintenance q) r ≡ returned q r) (sym (g .2)) (early-numbers _ _ _ q (q .call) (q .file) (q .choices) 65536 (g .0))
 
   early-same : earlyRefusal (withoutMaintenance q) ≡ earlyRefusal q
   unfolding earlyRefusal withoutMaintenance
-  early-same = ap (orLater (fileRefusal (q .file))) (same-decides (returned (withoutMaintenance q)) (returned q) (tries (q .call)) (same-on earlyRows))
+  early-same = ap (orLater (fileRefusal (q .file))) (same-decides (returned (withoutMaintenance q)) (returned q) (tries (q .call)) (map early earlyRows) (λ r m t. same-on r m))
 
   -- turned away before the search, or posed
   decided-early : (o : Option (Decided Row)) → earlyRefusal q ≡ o → (LooksAtFirstHops (q .call) → Posed q → InService q at) → SameReply q (withoutMaintenance q)

@@ -4,14 +4,16 @@ use Prim.Native.Nat.{ℕ, _≤_, _<_}
 use mathlib.Core.Path.{_≡_, refl}
 use mathlib.Core.Logic.{_⊎_, inl, inr, _↔_}
 use mathlib.Core.Bool.{true, false}
-use mathlib.Core.List.{List·Memᴰ}
+use mathlib.Core.List.{List, List·Memᴰ}
 use native.Mathlib.Omega.{arith}
 use lib.Dec.{leb}
 use borrow.Author.Tests.{leb-true, leb-false}
 use Rattle.lfa.specs.File.{byteAt, linksOf, networkOf}
+use Rattle.lfa.specs.Ranks.{Arrangement, isArrangement}
 use Rattle.lfa.specs.Question.{Question, networkAsked}
-use Rattle.lfa.specs.Refusal.{EarlyRow, shortArea, shortBuffer, noSuchLink, noSuchPrefix, EarlyApplies, Row, ofFile, early, noPair, Applies, entryOf, tries, triesEarly, rowsTried, Accepted, Posed}
+use Rattle.lfa.specs.Refusal.{EarlyRow, shortArea, shortBuffer, badRanks, noSuchLink, noSuchPrefix, EarlyApplies, Row, ofFile, early, noPair, Applies, entryOf, tries, triesEarly, rowsTried, Accepted, Posed}
 use Rattle.lfa.specs.Laws.Test.{decide}
+use Rattle.lfa.specs.Laws.Ranks.{arrangement-gives, no-arrangement}
 use Rattle.lfa.specs.Laws.FileRows.{tries-file, tried-rows}
 use Rattle.lfa.specs.Laws.Accepted.{link-count, prefix-count}
 
@@ -23,6 +25,14 @@ at-most a b h = go (decide (leb a b))
     go (inl t) = leb-true a b t
     go (inr t) = absurd (h (leb-false a b t))
 
+-- a table is an arrangement unless it is none
+stable : (ranks : List ℕ) → ((Arrangement ranks → ⊥) → ⊥) → Arrangement ranks
+stable ranks h = go (decide (isArrangement ranks))
+  where
+    go : (isArrangement ranks ≡ true) ⊎ (isArrangement ranks ≡ false) → Arrangement ranks
+    go (inl t) = arrangement-gives ranks t
+    go (inr t) = absurd (h (no-arrangement ranks .0 t))
+
 -- ---- row by row: the only place where the fields are taken apart or put together
 
 -- no early row that the call tries applies
@@ -33,6 +43,7 @@ pub posed-passes : (q : Question) → Posed q → NoEarlyRow q
 unfolding tries entryOf networkAsked networkOf
 posed-passes q p shortArea v t a = let h = p .area t in omega (arith, a .0)
 posed-passes q p shortBuffer v t a = let h = p .buffer t in omega (arith, a .0)
+posed-passes q p badRanks v t a = a .0 (p .ranks t)
 posed-passes q p noSuchLink v t a = go (a .0)
   where
     go : (linksOf (q .file) ≤ q .link) ⊎ (1 < q .end) → ⊥
@@ -46,6 +57,7 @@ passes-posed q accepted passes = record {
   file = accepted;
   area = λ t. at-most _ _ (λ s. passes shortArea _ t (s, refl));
   buffer = λ t. at-most _ _ (λ s. passes shortBuffer _ t (s, refl));
+  ranks = λ t. stable (q .ranks) (λ no. passes badRanks _ t (no, refl));
   link = λ t. rw (link-count (q .file) accepted) (at-most _ _ (λ s. passes noSuchLink _ t (inl (omega (arith, s)), refl)));
   end = λ t. at-most _ _ (λ s. passes noSuchLink _ t (inr s, refl));
   prefix = λ t. rw (prefix-count (q .file) accepted) (at-most _ _ (λ s. passes noSuchPrefix _ t (omega (arith, s), refl)));

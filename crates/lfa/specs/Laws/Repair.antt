@@ -12,6 +12,7 @@ use borrow.Author.Tests.{ltb-true, ltb-false, lt-ltb, le-ltb, eqb-true, eqb-fals
 use Rattle.lfa.specs.Network.{Arc, Target, router}
 use Rattle.lfa.specs.Distance.{unreachable, towards}
 use Rattle.lfa.specs.Space.{Protected}
+use Rattle.lfa.specs.Ranks.{classes}
 use Rattle.lfa.specs.Repair.{Pair, IsPair, Serves, MayCross, mayCross, HasClass, neighbour-downstream, neighbour-other, tunnel-downstream, tunnel-other, orElse, classOf, Told, Tells, toldOf, keysOf, First, firstPair, Outcome, prefixUnreachable, prefixUntouched, noneServes, serving, outcomeOf, linkOutcome, prefixOutcome}
 use Rattle.lfa.specs.Laws.Target.{towards-most}
 use Rattle.lfa.specs.Laws.Bound.{Sound}
@@ -37,6 +38,13 @@ class-once p (neighbour-other e h) = rw (eq-eqb _ _ e, le-ltb _ _ h)
 class-once p (tunnel-downstream e h) = rw (ne-eqb _ _ e, lt-ltb _ _ h)
 class-once p (tunnel-other e h) = rw (ne-eqb _ _ e, le-ltb _ _ h)
 
+-- there are four classes
+pub class-few : {d : ℕ → ℕ → ℕ} {q : Protected} {to : Target} {n y k : ℕ} → HasClass d q to n y k → k < classes
+class-few (neighbour-downstream e h) = omega arith
+class-few (neighbour-other e h) = omega arith
+class-few (tunnel-downstream e h) = omega arith
+class-few (tunnel-other e h) = omega arith
+
 -- What is computed of a pair is what a repair tells of it, and nothing else is.
 module _ (d : ℕ → ℕ → ℕ) (q : Protected) (to : Target) (p : Pair) where
   pub told-tells : Tells d q to p (toldOf d q to p)
@@ -60,40 +68,40 @@ module _ (n : ℕ) (hops : List Arc) (d : ℕ → ℕ → ℕ) (q : Protected) w
   NoneServes to = (p : Pair) → IsPair n hops q p → Serves hops d q to (p .hop .router) (p .endpoint) → ⊥
 
   -- what is told is of a pair that serves, and is first of those that do
-  pub record IsFirstPair (to : Target) (t : Told) : Type 0 where
+  pub record IsFirstPair (ranks : List ℕ) (to : Target) (t : Told) : Type 0 where
     pub pair : Pair
     pub is-pair : IsPair n hops q pair
     pub serves : Serves hops d q to (pair .hop .router) (pair .endpoint)
-    pub earliest : (p : Pair) → IsPair n hops q p → Serves hops d q to (p .hop .router) (p .endpoint) → First (keysOf d q t) (keysOf d q (toldOf d q to p))
+    pub earliest : (p : Pair) → IsPair n hops q p → Serves hops d q to (p .hop .router) (p .endpoint) → First (keysOf ranks d q t) (keysOf ranks d q (toldOf d q to p))
     pub told-is : t ≡ toldOf d q to pair
 
   -- what a search for a pair means
-  abbrev pub SearchMeans : Target → Outcome → Type 0
-  SearchMeans to prefixUnreachable = ⊥
-  SearchMeans to prefixUntouched = ⊥
-  SearchMeans to noneServes = NoneServes to
-  SearchMeans to (serving t) = IsFirstPair to t
+  abbrev pub SearchMeans : (ranks : List ℕ) → Target → Outcome → Type 0
+  SearchMeans ranks to prefixUnreachable = ⊥
+  SearchMeans ranks to prefixUntouched = ⊥
+  SearchMeans ranks to noneServes = NoneServes to
+  SearchMeans ranks to (serving t) = IsFirstPair ranks to t
 
   -- what a prefix repair's outcome means
-  abbrev pub PrefixMeans : Target → Outcome → Type 0
-  PrefixMeans to prefixUnreachable = unreachable ≤ towards d to (q .near)
-  PrefixMeans to prefixUntouched = (towards d to (q .near) < unreachable) × (MayCross hops d q to → ⊥)
-  PrefixMeans to noneServes = MayCross hops d q to × NoneServes to
-  PrefixMeans to (serving t) = MayCross hops d q to × IsFirstPair to t
+  abbrev pub PrefixMeans : (ranks : List ℕ) → Target → Outcome → Type 0
+  PrefixMeans ranks to prefixUnreachable = unreachable ≤ towards d to (q .near)
+  PrefixMeans ranks to prefixUntouched = (towards d to (q .near) < unreachable) × (MayCross hops d q to → ⊥)
+  PrefixMeans ranks to noneServes = MayCross hops d q to × NoneServes to
+  PrefixMeans ranks to (serving t) = MayCross hops d q to × IsFirstPair ranks to t
 
 module _ (n : ℕ) (hops : List Arc) (d : ℕ → ℕ → ℕ) (q : Protected) (sound : Sound n hops) (named : Named hops q) where
   -- the outcome of the search is what was chosen
-  pub search-means : (to : Target) → SearchMeans n hops d q to (outcomeOf d q to (firstPair n hops d q to))
+  pub search-means : (ranks : List ℕ) (to : Target) → SearchMeans n hops d q ranks to (outcomeOf d q to (firstPair ranks n hops d q to))
   unfolding outcomeOf
-  search-means to = go (firstPair n hops d q to) (best n hops d q to sound)
+  search-means ranks to = go (firstPair ranks n hops d q to) (best n hops d q to sound ranks)
     where
-      go : (o : Option Pair) → Best n hops d q to sound o → SearchMeans n hops d q to (outcomeOf d q to o)
+      go : (o : Option Pair) → Best n hops d q to sound ranks o → SearchMeans n hops d q ranks to (outcomeOf d q to o)
       go none f = f
       go (some p) f = record { pair = p; is-pair = f .0; serves = f .1; earliest = f .2; told-is = refl }
 
-  pub link-means : SearchMeans n hops d q (router (q .far)) (linkOutcome n hops d q)
+  pub link-means : (ranks : List ℕ) → SearchMeans n hops d q ranks (router (q .far)) (linkOutcome ranks n hops d q)
   unfolding linkOutcome
-  link-means = search-means (router (q .far))
+  link-means ranks = search-means ranks (router (q .far))
 
   -- whether traffic from S may cross the link is decided
   pub may-gives : (to : Target) → mayCross n hops d q to ≡ true → MayCross hops d q to
@@ -104,42 +112,42 @@ module _ (n : ℕ) (hops : List Arc) (d : ℕ → ℕ → ℕ) (q : Protected) (
   unfolding mayCross
   may-make to r = let g = sound .falls d to in crosses-make n hops d to (g .0) (sound .within) (g .1) (sound .within .from (named .outward)) r
 
-  pub prefix-means : (to : Target) → PrefixMeans n hops d q to (prefixOutcome n hops d q to)
+  pub prefix-means : (ranks : List ℕ) (to : Target) → PrefixMeans n hops d q ranks to (prefixOutcome ranks n hops d q to)
   unfolding prefixOutcome
-  prefix-means to = reach (ltb (towards d to (q .near)) unreachable) refl
+  prefix-means ranks to = reach (ltb (towards d to (q .near)) unreachable) refl
     where
       searched : Outcome
-      searched = outcomeOf d q to (firstPair n hops d q to)
+      searched = outcomeOf d q to (firstPair ranks n hops d q to)
 
       crossing : (b : Bool) → Outcome
       crossing b = elim b [ false ↦ prefixUntouched | true ↦ searched ]
 
-      found : MayCross hops d q to → (o : Outcome) → SearchMeans n hops d q to o → PrefixMeans n hops d q to o
+      found : MayCross hops d q to → (o : Outcome) → SearchMeans n hops d q ranks to o → PrefixMeans n hops d q ranks to o
       found x prefixUnreachable f = absurd f
       found x prefixUntouched f = absurd f
       found x noneServes f = (x, f)
       found x (serving t) f = (x, f)
 
-      cross : towards d to (q .near) < unreachable → (b : Bool) → mayCross n hops d q to ≡ b → PrefixMeans n hops d q to (crossing b)
-      cross f true e = found (may-gives to e) searched (search-means to)
+      cross : towards d to (q .near) < unreachable → (b : Bool) → mayCross n hops d q to ≡ b → PrefixMeans n hops d q ranks to (crossing b)
+      cross f true e = found (may-gives to e) searched (search-means ranks to)
       cross f false e = (f, λ r. true≢false (sym (may-make to r) ∙ e))
 
-      reach : (b : Bool) → ltb (towards d to (q .near)) unreachable ≡ b → PrefixMeans n hops d q to (elim b as (λ _. Outcome) [ false ↦ prefixUnreachable | true ↦ crossing (mayCross n hops d q to) ])
+      reach : (b : Bool) → ltb (towards d to (q .near)) unreachable ≡ b → PrefixMeans n hops d q ranks to (elim b as (λ _. Outcome) [ false ↦ prefixUnreachable | true ↦ crossing (mayCross n hops d q to) ])
       reach true e = cross (ltb-true _ _ e) (mayCross n hops d q to) refl
       reach false e = ltb-false _ _ e
 
 -- ---- unreachable and untouched
 
-module _ (n : ℕ) (hops : List Arc) (d : ℕ → ℕ → ℕ) (q : Protected) (to : Target) where
+module _ (ranks : List ℕ) (n : ℕ) (hops : List Arc) (d : ℕ → ℕ → ℕ) (q : Protected) (to : Target) where
   -- the outcome is unreachable exactly when D(S,p) is
-  pub unreachable-when : (o : Outcome) → PrefixMeans n hops d q to o → (o ≡ prefixUnreachable) ↔ (towards d to (q .near) ≡ unreachable)
+  pub unreachable-when : (o : Outcome) → PrefixMeans n hops d q ranks to o → (o ≡ prefixUnreachable) ↔ (towards d to (q .near) ≡ unreachable)
   unreachable-when prefixUnreachable f = (λ e. omega (arith, towards-most d to (q .near)), λ e. refl)
   unreachable-when prefixUntouched f = (λ e. cc, λ e. absurd (omega (arith, f .0)))
   unreachable-when noneServes f = (λ e. cc, λ e. absurd (omega (arith, f .0 .step .finite)))
   unreachable-when (serving t) f = (λ e. cc, λ e. absurd (omega (arith, f .0 .step .finite)))
 
   -- and untouched exactly when D(S,p) is finite and no walk from S crosses the link from S to E
-  pub untouched-when : (o : Outcome) → PrefixMeans n hops d q to o → (o ≡ prefixUntouched) ↔ ((towards d to (q .near) < unreachable) × (MayCross hops d q to → ⊥))
+  pub untouched-when : (o : Outcome) → PrefixMeans n hops d q ranks to o → (o ≡ prefixUntouched) ↔ ((towards d to (q .near) < unreachable) × (MayCross hops d q to → ⊥))
   untouched-when prefixUnreachable f = (λ e. absurd (let z : _≡_ {A = ℕ} 0 1 = cc in omega arith), λ r. absurd (omega (arith, r .0)))
   untouched-when prefixUntouched f = (λ e. f, λ r. refl)
   untouched-when noneServes f = (λ e. absurd (let z : _≡_ {A = ℕ} 0 1 = cc in omega arith), λ r. absurd (r .1 (f .0)))

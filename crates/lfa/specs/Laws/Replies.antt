@@ -12,7 +12,7 @@ use Rattle.lfa.specs.Space.{Space}
 use Rattle.lfa.specs.Repair.{Serves, Told, Outcome, prefixUnreachable, prefixUntouched, noneServes, serving}
 use Rattle.lfa.specs.Route.{routeOf}
 use Rattle.lfa.specs.Question.{Question, Call, load, fill, space, linkRepair, prefixRepair, route, askPrefix, toPrefixRepair, routeBuffer, aLink, aPrefix, lent, Input, inputsOf, inputNumber, hasInput, HasInput, networkAsked, linkAsked, prefixAsked, withDistances, linkFound, prefixFound}
-use Rattle.lfa.specs.Refusal.{EarlyRow, shortArea, shortBuffer, noSuchLink, noSuchPrefix, EarlyApplies, entryOf, tries, triesEarly, Posed}
+use Rattle.lfa.specs.Refusal.{EarlyRow, shortArea, shortBuffer, badRanks, noSuchLink, noSuchPrefix, EarlyApplies, entryOf, tries, triesEarly, Posed}
 use Rattle.lfa.specs.Answer.{refused, Answer, untouched, unreached, repair, repairAnswer, routeAnswer, routeFor, routePlayed, computed, answerTo, routeAfter}
 use Rattle.lfa.specs.Demands.{N, Hops, D, RouteNamed}
 use Rattle.lfa.specs.Laws.PosedWhen.{posed-passes, passes-posed}
@@ -39,9 +39,9 @@ module _ (q : Question) (p : Posed q) where
   unfolding hasInput inputsOf inputNumber memberOf anyOf
   link-has-link c = has aLink c refl
 
-  pub link-meaning : q .call ≡ linkRepair → SearchMeans (N q) (Hops q) (D q) (linkAsked q) (router (linkAsked q .far)) (linkFound q)
+  pub link-meaning : q .call ≡ linkRepair → SearchMeans (N q) (Hops q) (D q) (linkAsked q) (q .ranks) (router (linkAsked q .far)) (linkFound q)
   unfolding linkFound withDistances
-  link-meaning c = link-means (N q) (Hops q) (D q) (linkAsked q) (sound q p) (named q p (link-has-link c))
+  link-meaning c = link-means (N q) (Hops q) (D q) (linkAsked q) (sound q p) (named q p (link-has-link c)) (q .ranks)
 
   -- the prefix repair, and the route
   pub prefix-has-link : HasInput q aPrefix → HasInput q aLink
@@ -56,9 +56,9 @@ module _ (q : Question) (p : Posed q) where
       go prefixRepair h = refl
       go route h = refl
 
-  pub prefix-meaning : HasInput q aPrefix → PrefixMeans (N q) (Hops q) (D q) (linkAsked q) (prefixAsked q) (prefixFound q)
+  pub prefix-meaning : HasInput q aPrefix → PrefixMeans (N q) (Hops q) (D q) (linkAsked q) (q .ranks) (prefixAsked q) (prefixFound q)
   unfolding prefixFound withDistances
-  prefix-meaning h = prefix-means (N q) (Hops q) (D q) (linkAsked q) (sound q p) (named q p (prefix-has-link h)) (prefixAsked q)
+  prefix-meaning h = prefix-means (N q) (Hops q) (D q) (linkAsked q) (sound q p) (named q p (prefix-has-link h)) (q .ranks) (prefixAsked q)
 
 -- what an answer tells of what was found
 pub record Tells (answer : Answer) (o : Outcome) : Type 0 where
@@ -122,6 +122,7 @@ prefix-row : (q : Question) (r : EarlyRow) (v : ℕ) → triesEarly prefixRepair
 unfolding toPrefixRepair tries entryOf hasInput inputsOf inputNumber memberOf anyOf
 prefix-row q shortArea v t a = (refl, a)
 prefix-row q shortBuffer v t a = absurd (false≢true t)
+prefix-row q badRanks v t a = (refl, a)
 prefix-row q noSuchLink v t a = (refl, a)
 prefix-row q noSuchPrefix v t a = (refl, a)
 
@@ -147,8 +148,8 @@ module _ (q : Question) (p : Posed q) (c : q .call ≡ route) where
   pair-found {t} r = answer-chosen (prefixFound q) t (sym (posed-answer (toPrefixRepair q) prefix-posed) ∙ r)
 
   module _ {t : Told} (found : prefixFound q ≡ serving t) where
-    searched-first : IsFirstPair (N q) (Hops q) (D q) (linkAsked q) (prefixAsked q) t
-    searched-first = subst (PrefixMeans (N q) (Hops q) (D q) (linkAsked q) (prefixAsked q)) found (prefix-meaning q p (route-has-prefix (q .call) c)) .1
+    pub searched-first : IsFirstPair (N q) (Hops q) (D q) (linkAsked q) (q .ranks) (prefixAsked q) t
+    searched-first = subst (PrefixMeans (N q) (Hops q) (D q) (linkAsked q) (q .ranks) (prefixAsked q)) found (prefix-meaning q p (route-has-prefix (q .call) c)) .1
 
     -- the route of the pair that was found
     abbrev pub Played : List ℕ

@@ -119,22 +119,19 @@ module _ {R : Type 0} (value : R → Option ℕ) (tried : R → Bool) where
   unfolding select firstRow
   decides-after after r v passed t a = passed-over (r ∷ after) passed ∙ rw (t) (rw (a, firstRow))
 
--- two ways to compute what rows return, alike on a list of rows
-pub data SameOn {R : Type 0} (v w : R → Option ℕ) : List R → Type 0 where
-  nowhere : SameOn v w []
-  same-also : {r : R} {rows : List R} → v r ≡ w r → SameOn v w rows → SameOn v w (r ∷ rows)
+-- two ways to compute what rows return decide alike, where they are alike on the rows that are tried
+module _ {R : Type 0} (v w : R → Option ℕ) (tried : R → Bool) where
+  pub same-decides : (rows : List R) → ((r : R) → List·Memᴰ r rows → tried r ≡ true → v r ≡ w r) → firstRow v (select tried rows) ≡ firstRow w (select tried rows)
+  unfolding select firstRow
+  same-decides [] same = refl
+  same-decides (r ∷ rows) same = go (tried r) refl (same-decides rows (λ s m. same s (List·Memᴰ·tail m)))
+    where
+      here : (o : Option ℕ) → firstRow v (select tried rows) ≡ firstRow w (select tried rows) →
+          _≡_ {A = Option (Decided R)} (elim o as (λ _. Option (Decided R)) [ some x ↦ some (decided r x) | none ↦ firstRow v (select tried rows) ])
+          (elim o as (λ _. Option (Decided R)) [ some x ↦ some (decided r x) | none ↦ firstRow w (select tried rows) ])
+      here (some x) f = refl
+      here none f = f
 
-pub same-decides : {R : Type 0} (v w : R → Option ℕ) (tried : R → Bool) {rows : List R} → SameOn v w rows → firstRow v (select tried rows) ≡ firstRow w (select tried rows)
-unfolding select firstRow
-same-decides v w tried nowhere = refl
-same-decides {R} v w tried (same-also {r} {rows} e rest) = go (tried r) (same-decides v w tried rest)
-  where
-    here : (o : Option ℕ) → firstRow v (select tried rows) ≡ firstRow w (select tried rows) →
-        _≡_ {A = Option (Decided R)} (elim o as (λ _. Option (Decided R)) [ some x ↦ some (decided r x) | none ↦ firstRow v (select tried rows) ])
-        (elim o as (λ _. Option (Decided R)) [ some x ↦ some (decided r x) | none ↦ firstRow w (select tried rows) ])
-    here (some x) f = refl
-    here none f = f
-
-    go : (b : Bool) → firstRow v (select tried rows) ≡ firstRow w (select tried rows) → firstRow v (keepIf b r (select tried rows)) ≡ firstRow w (keepIf b r (select tried rows))
-    go true f = rw e (here (w r) f)
-    go false f = f
+      go : (b : Bool) → tried r ≡ b → firstRow v (select tried rows) ≡ firstRow w (select tried rows) → firstRow v (keepIf b r (select tried rows)) ≡ firstRow w (keepIf b r (select tried rows))
+      go true t f = rw (same r (List·Memᴰ·head refl) t) (here (w r) f)
+      go false t f = f

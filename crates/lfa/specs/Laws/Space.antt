@@ -1,18 +1,18 @@
 -- The spaces hold just the routers that document 01 puts there: bit r is one exactly when router r is a member.
 -- Assumes nothing.
-use Prim.Native.Nat.{ℕ, zero, suc, _+_, _^_, _<_}
-use mathlib.Core.Path.{_≡_, refl, sym, _∙_}
+use Prim.Native.Nat.{ℕ, _^_, _<_}
+use mathlib.Core.Path.{_≡_, _∙_}
 use mathlib.Core.Logic.{_↔_}
-use mathlib.Core.Bool.{Bool, true, false, true≢false}
-use native.Mathlib.Omega.{arith}
+use mathlib.Core.Bool.{true}
 use native.Mathlib.Nat.{lt-of-lt-of-le}
 use lib.Pow.{pow-mono}
 use mathlib.Core.List.{List, List·Memᴰ}
-use Rattle.lfa.specs.Lists.{one, count, HowMany, nothing, one-more, no-more}
+use Rattle.lfa.specs.Lists.{HowMany}
 use Rattle.lfa.specs.Network.{Arc, router}
 use Rattle.lfa.specs.Walk.{Avoids, avoids}
 use Rattle.lfa.specs.Space.{Protected, FirstHop, firstHops, Space, pSpace, extendedP, qSpace, NeighbourAvoids, Member, inSpace, setOf, spaceOf, has, sizeOf}
 use Rattle.lfa.specs.Laws.List.{any-gives, any-make}
+use Rattle.lfa.specs.Laws.Counting.{counted-holds}
 use Rattle.lfa.specs.Laws.Bound.{Sound}
 use Rattle.lfa.specs.Laws.Avoid.{Named, avoids-gives, avoids-make}
 use Rattle.lfa.specs.Laws.Pair.{firsts-give, firsts-make}
@@ -51,19 +51,7 @@ module _ (n : ℕ) (hops : List Arc) (d : ℕ → ℕ → ℕ) (q : Protected) (
 
   -- The size of a space is the number of its members: its ones are the routers that pass the test.
   pub space-size : (s : Space) → HowMany (Member s hops d q) n (sizeOf (spaceOf s n hops d q))
-  unfolding spaceOf count
+  unfolding spaceOf
   space-size s =
       let small : setOf n (inSpace s n hops d q) < 2 ^ 64 = lt-of-lt-of-le (setOf-lt n (inSpace s n hops d q)) (pow-mono (sound .few)) in
-      rw (← size-ones (setOf n (inSpace s n hops d q)) small, ones-setOf n (inSpace s n hops d q)) (counted n (λ r h. h))
-    where
-      counted : (k : ℕ) → ((r : ℕ) → r < k → r < n) → HowMany (Member s hops d q) k (count (inSpace s n hops d q) k)
-      counted zero h = nothing
-      counted (suc k) h = go (inSpace s n hops d q k) refl (counted k (λ r l. h r (omega arith)))
-        where
-          go : (b : Bool) → inSpace s n hops d q k ≡ b → HowMany (Member s hops d q) k (count (inSpace s n hops d q) k) → HowMany (Member s hops d q) (suc k) (one b + count (inSpace s n hops d q) k)
-          go true e rest =
-              let z : 1 + count (inSpace s n hops d q) k ≡ suc (count (inSpace s n hops d q) k) = omega arith in
-              rw z (one-more (in-gives s k (h k (omega arith)) e) rest)
-          go false e rest =
-              let z : 0 + count (inSpace s n hops d q) k ≡ count (inSpace s n hops d q) k = omega arith in
-              rw z (no-more (λ m. true≢false (sym (in-make s k m) ∙ e)) rest)
+      rw (← size-ones (setOf n (inSpace s n hops d q)) small, ones-setOf n (inSpace s n hops d q)) (counted-holds (inSpace s n hops d q) n (λ r h. (in-gives s r h, in-make s r)))

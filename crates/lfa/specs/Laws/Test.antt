@@ -32,6 +32,11 @@ pub not-make : (a : Bool) → (a ≡ true → ⊥) → not a ≡ true
 not-make true f = absurd (f refl)
 not-make false f = refl
 
+-- a test fails unless it passes
+pub fails-make : (a : Bool) → (a ≡ true → ⊥) → a ≡ false
+fails-make true f = absurd (f refl)
+fails-make false f = refl
+
 pub not-of : (a : Bool) → a ≡ false → not a ≡ true
 not-of a e = rw e
 

@@ -44,6 +44,12 @@ enum-told c = search needs
 numbered-requires-5 : tie.Need-numbered-requires-5
 numbered-requires-5 c κs = search needs
 
+enum-told-2 : tie.Need-enum-told-2
+enum-told-2 c = search needs
+
+numbered-requires-6 : tie.Need-numbered-requires-6
+numbered-requires-6 c κs = search needs
+
 returns : tie.Need-returns
 unfolding refusalAnswer rowOf faultOf
 returns c = rw (c .before .before .refusal .given .1) (c .file-row .ensures)
@@ -68,6 +74,10 @@ returns-6 : tie.Need-returns-6
 unfolding refusalAnswer rowOf refusal entryOf
 returns-6 c = rw (c .before .enum-told .given .1) (c .numbered5 .ensures)
 
+returns-7 : tie.Need-returns-7
+unfolding refusalAnswer rowOf refusal entryOf
+returns-7 c = rw (c .before .enum-told2 .given .1) (c .numbered6 .ensures)
+
 pub question-row-spec : {M : Type 1} → statement M
 question-row-spec =
     tie.close
@@ -84,9 +94,12 @@ question-row-spec =
     numbered-requires-4
     enum-told
     numbered-requires-5
+    enum-told-2
+    numbered-requires-6
     returns
     returns-2
     returns-3
     returns-4
     returns-5
-    returns-6)
+    returns-6
+    returns-7)

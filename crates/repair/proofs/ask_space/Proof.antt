@@ -6,6 +6,7 @@ use mathlib.Core.List.{[]}
 use native.Mathlib.Omega.{arith}
 use lib.ListN.{length}
 use Rattle.lfa.specs.File.{byteAt}
+use Rattle.lfa.specs.Ranks.{isArrangement}
 use Rattle.lfa.specs.Question.{Question, askSpace}
 use Rattle.search.specs.Spaces.{spaceNamed}
 use Rattle.rows.specs.Rows.{callOf, questionAbout}
@@ -24,8 +25,8 @@ abbrev asked : tie.After-pose → Question
 asked l = let a = l .before .before .before .before .args in askSpace (spaceNamed (a .which)) (a .file .now) (length (a .work .now)) (a .link) (a .end)
 
 judged : (l : tie.After-pose) → Judges (asked l) (l .pose .result .turned) (l .pose .result .network) (l .before .before .before .before .args .work .now) (l .pose .last .1 .1 .0)
-unfolding askSpace questionAbout callOf
-judged l = l .pose .ensures _ []
+unfolding askSpace questionAbout callOf isArrangement
+judged l = l .pose .ensures _ [] [] refl
 
 bytes : (l : tie.After-pose) (i : ℕ) → byteAt (asked l .file) i < 256
 unfolding askSpace byteAt

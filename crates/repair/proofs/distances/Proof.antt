@@ -7,6 +7,7 @@ use native.Mathlib.Omega.{arith}
 use lib.ListN.{length}
 use Rattle.lfa.specs.File.{byteAt}
 use Rattle.lfa.specs.Space.{pSpace}
+use Rattle.lfa.specs.Ranks.{isArrangement}
 use Rattle.lfa.specs.Question.{Question, filling}
 use Rattle.rows.specs.Rows.{callOf, questionAbout}
 use Rattle.repair.specs.Answer.{filledAnswer, Judges}
@@ -24,8 +25,8 @@ abbrev asked : tie.After-pose → Question
 asked l = let a = l .before .before .before .before .args in filling (a .file .now) (length (a .work .now))
 
 judged : (l : tie.After-pose) → Judges (asked l) (l .pose .result .turned) (l .pose .result .network) (l .before .before .before .before .args .work .now) (l .pose .last .1 .1 .0)
-unfolding filling questionAbout callOf
-judged l = l .pose .ensures pSpace []
+unfolding filling questionAbout callOf isArrangement
+judged l = l .pose .ensures pSpace [] [] refl
 
 bytes : (l : tie.After-pose) (i : ℕ) → byteAt (asked l .file) i < 256
 unfolding filling byteAt

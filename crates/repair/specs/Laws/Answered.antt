@@ -4,7 +4,7 @@ use Prim.Native.Nat.{ℕ, _<_}
 use mathlib.Core.Path.{_≡_, refl, sym, ap, _∙_}
 use mathlib.Core.List.{List}
 use Rattle.lfa.specs.Lists.{memberOf, anyOf}
-use Rattle.lfa.specs.File.{byteAt, networkOf}
+use Rattle.lfa.specs.File.{byteAt}
 use Rattle.lfa.specs.Space.{Space}
 use Rattle.lfa.specs.Repair.{Outcome}
 use Rattle.lfa.specs.Question.{Question, Call, fill, space, linkRepair, prefixRepair, workArea, lent, inputsOf, inputNumber, hasInput, networkAsked}
@@ -40,13 +40,13 @@ module _ {q : Question} {turned : Turned} {network : Network} {area after : List
       let p = ready-posed j bytes ready in
       by-call c (ap set (e ∙ space-searched p (ready-taken j bytes ready) area (j .cells-are) (j .limit-is) (area-filled j bytes ready) (space-has-link (q .call) s c) (has q p (lent workArea) c refl) s))
 
-  pub link-answered : q .call ≡ linkRepair → {o : Outcome} → o ≡ linkBy network (q .link) (q .end) after → Answered q (repairAnswer o) area after
+  pub link-answered : q .call ≡ linkRepair → {o : Outcome} → o ≡ linkBy network (q .ranks) (q .link) (q .end) after → Answered q (repairAnswer o) area after
   unfolding computed hasInput inputsOf inputNumber memberOf anyOf
   link-answered c e =
       let p = ready-posed j bytes ready in
       by-call c (ap repairAnswer (e ∙ link-searched p (ready-taken j bytes ready) area (j .cells-are) (j .limit-is) (area-filled j bytes ready) (link-has-link q p c) (has q p (lent workArea) c refl)))
 
-  pub prefix-answered : q .call ≡ prefixRepair → {o : Outcome} → o ≡ prefixBy network (q .link) (q .end) (q .prefix) after → Answered q (repairAnswer o) area after
+  pub prefix-answered : q .call ≡ prefixRepair → {o : Outcome} → o ≡ prefixBy network (q .ranks) (q .link) (q .end) (q .prefix) after → Answered q (repairAnswer o) area after
   unfolding computed hasInput inputsOf inputNumber memberOf anyOf
   prefix-answered c e =
       let p = ready-posed j bytes ready in

@@ -79,16 +79,16 @@ module _ {q : Question} (p : Posed q) {network : Network} (t : Taken (q .file) n
     unfolding withDistances
     space-searched s = space-found (asking has-area) s ∙ of-network (λ n hops d r. spaceOf s n hops d r)
 
-    pub link-searched : linkBy network (q .link) (q .end) after ≡ linkFound q
+    pub link-searched : linkBy network (q .ranks) (q .link) (q .end) after ≡ linkFound q
     unfolding linkFound withDistances
-    link-searched = link-found (asking has-area) ∙ of-network (λ n hops d r. linkOutcome n hops d r)
+    link-searched = link-found (asking has-area) (q .ranks) ∙ of-network (λ n hops d r. linkOutcome (q .ranks) n hops d r)
 
-    pub prefix-searched : HasInput q aPrefix → prefixBy network (q .link) (q .end) (q .prefix) after ≡ prefixFound q
+    pub prefix-searched : HasInput q aPrefix → prefixBy network (q .ranks) (q .link) (q .end) (q .prefix) after ≡ prefixFound q
     unfolding prefixFound withDistances prefixAsked networkAsked
     prefix-searched has-prefix =
         let x-in : q .prefix < network .prefixes = rw (prefixes-are t, ← prefix-count (q .file) (t .is-accepted)) (p .prefix has-prefix) in
         let to = slotsIn (network .at) (network .own) (8 * q .prefix) (getD (network .attached) (q .prefix) 0) in
         let net = networkOf (q .file) in
-        prefix-found (asking has-area) (q .prefix) (prefix-cell t (q .prefix) x-in) (prefix-slots t (q .prefix) x-in refl)
-        ∙ of-network (λ n hops d r. prefixOutcome n hops d r to)
-        ∙ ap (λ (to : lfa.Target). prefixOutcome (net .routers) (arcs net) (distanceIn (distances net)) (linkAsked q) to) (prefix-target t (q .prefix) x-in refl)
+        prefix-found (asking has-area) (q .ranks) (q .prefix) (prefix-cell t (q .prefix) x-in) (prefix-slots t (q .prefix) x-in refl)
+        ∙ of-network (λ n hops d r. prefixOutcome (q .ranks) n hops d r to)
+        ∙ ap (λ (to : lfa.Target). prefixOutcome (q .ranks) (net .routers) (arcs net) (distanceIn (distances net)) (linkAsked q) to) (prefix-target t (q .prefix) x-in refl)

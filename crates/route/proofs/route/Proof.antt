@@ -1,4 +1,4 @@
--- `route::route` meets its contract. Rows 1 to 13 are tried first; without a pair the answer of the prefix repair is passed on, and with
+-- `route::route` meets its contract. The rows before 14 are tried first; without a pair the answer of the prefix repair is passed on, and with
 -- one the route that the choice bytes name is played.
 -- Assumes nothing.
 use Prim.Native.Nat.{ℕ, _<_}
@@ -24,20 +24,23 @@ use borrow.Author.Needs.{needs}
 use Rattle.route.proofs.route.Statement.{statement}
 use Rattle.route.proofs.route.Tie as tie
 
+arranged-requires : tie.Need-arranged-requires
+arranged-requires c κs = search needs
+
 pose-requires : tie.Need-pose-requires
 pose-requires c κs = search needs
 
 -- the question, what `pose` tells of it, and its bytes
 abbrev asked : tie.After-pose → Question
-asked l = let a = l .before .before .before .before .before .before .args in askRoute (a .file .now) (length (a .work .now)) (length (a .buffer .now)) (a .link) (a .end) (a .prefix) (a .choices .now)
+asked l = let a = l .before .before .before .before .before .before .before .before .args in askRoute (a .file .now) (length (a .work .now)) (length (a .buffer .now)) (a .ranks .now) (a .link) (a .end) (a .prefix) (a .choices .now)
 
-judged : (l : tie.After-pose) → Judges (asked l) (l .pose .result .turned) (l .pose .result .network) (l .before .before .before .before .before .before .args .work .now) (l .pose .last .1 .1 .0)
+judged : (l : tie.After-pose) → Judges (asked l) (l .pose .result .turned) (l .pose .result .network) (l .before .before .before .before .before .before .before .before .args .work .now) (l .pose .last .1 .1 .0)
 unfolding askRoute questionAbout callOf
-judged l = l .pose .ensures pSpace _
+judged l = l .pose .ensures pSpace _ _ (sym (l .before .before .arranged .ensures))
 
 bytes : (l : tie.After-pose) (i : ℕ) → byteAt (asked l .file) i < 256
 unfolding askRoute byteAt
-bytes l i = omega (arith, l .before .before .before .before .before .shared-slice-known .given i)
+bytes l i = omega (arith, l .before .before .before .before .before .before .before .shared-slice-known .given i)
 
 enum-known-turned : tie.Need-enum-known-turned
 enum-known-turned c = search needs
@@ -132,7 +135,7 @@ returns-3 c =
     let ready = e .enum-told .given .1 in
     let way = TheRoute (judged (posed e)) (bytes (posed e)) ready refl (paired z) in
     let went = c .before .before .play .ensures _ (played-route (judged (posed e)) (bytes (posed e)) ready refl (paired z) (n .repairing .ensures _ _) (w .wide .ensures)) in
-    let lent = posed e .before .before .before .before .before .before .args .buffer .now in
+    let lent = posed e .before .before .before .before .before .before .before .before .args .buffer .now in
     record {
       answered = area-left (judged (posed e)) (bytes (posed e)) ready (ap played (went .0) ∙ route-answered (judged (posed e)) (bytes (posed e)) ready refl (paired z));
       buffer-is = went .1 ∙ ap (λ (k : ℕ). way ++ drop k lent) (went .0) ∙ buffer-written (judged (posed e)) (bytes (posed e)) ready refl (paired z) lent;
@@ -142,6 +145,7 @@ pub route-spec : {M : Type 1} → statement M
 route-spec =
     tie.close
     (tie.spec
+    arranged-requires
     pose-requires
     enum-known-turned
     same-length

@@ -45,20 +45,25 @@ or-row-requires-3 c κs = search needs
 or-row-requires-4 : tie.Need-or-row-requires-4
 or-row-requires-4 c κs = search needs
 
+or-row-requires-5 : tie.Need-or-row-requires-5
+or-row-requires-5 c κs = search needs
+
 returns : tie.Need-returns
 unfolding rowDecided questionAbout inputsIn earlyRows tries entryOf sizedReturned
-returns c = λ b s choices.
+returns c = λ b s choices ranks e.
     let row11 = c .before in
-    let row12 = row11 .before .before in
+    let row15 = row11 .before .before in
+    let row12 = row15 .before in
     let row13 = row12 .before in
     let w = row13 .before .before .before in
     let a = w .before .before .args in
     let has = w .before .inputs-of .ensures s in
     found-first _ _
-    (row-before _ _ _ (c .or-row4 .ensures) (sym (has-area (a .asked .call) s)) (ap (λ (k : ℕ). unless (leb (k * k) (a .area)) (k * k)) (w .wide .ensures)) refl
-    (row-before _ _ _ (row11 .or-row3 .ensures) (ap (λ (i : Inputs). i .buffer) has) (ap (λ (k : ℕ). unless (leb (2 * k) (a .asked .buffer)) (2 * k)) (w .wide .ensures)) refl
+    (row-before _ _ _ (c .or-row5 .ensures) (sym (has-area (a .asked .call) s)) (ap (λ (k : ℕ). unless (leb (k * k) (a .area)) (k * k)) (w .wide .ensures)) refl
+    (row-before _ _ _ (row11 .or-row4 .ensures) (ap (λ (i : Inputs). i .buffer) has) (ap (λ (k : ℕ). unless (leb (2 * k) (a .asked .buffer)) (2 * k)) (w .wide .ensures)) refl
+    (row-before _ _ _ (row15 .or-row3 .ensures) (ap (λ (i : Inputs). i .ranks) has) (ap (λ (t : Bool). unless t 0) (sym e)) refl
     (row-before _ _ _ (row12 .or-row2 .ensures) (ap (λ (i : Inputs). i .link) has) (ap (λ (t : Bool). unless t (a .links)) (row13 .before .before .named .ensures)) refl
-    (row-before _ _ _ (row13 .or-row .ensures) (ap (λ (i : Inputs). i .prefix) has) refl refl no-row))))
+    (row-before _ _ _ (row13 .or-row .ensures) (ap (λ (i : Inputs). i .prefix) has) refl refl no-row)))))
 
 pub first-row-spec : {M : Type 1} → statement M
 first-row-spec =
@@ -73,4 +78,5 @@ first-row-spec =
     or-row-requires-2
     or-row-requires-3
     or-row-requires-4
+    or-row-requires-5
     returns)

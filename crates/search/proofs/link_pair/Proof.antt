@@ -23,8 +23,8 @@ returns-2 : tie.Need-returns-2
 unfolding linkBy
 returns-2 c =
     let e = c .before .before .before .before .before .before .before .before .before .before .before .before in
-    let a = e .before .before .args in
-    let found = c .link-found .ensures ∙ ap (λ (q : Protected). linkIf (searchable (a .t1 .routers) (a .t1 .links) q (length (a .dist .now))) (a .t1 .routers) (hopsOf (a .t1)) q (a .dist .now)) (c .before .before .before .before .before .before .protect .ensures) in
+    let a = e .before .before .before .args in
+    let found = c .link-found .ensures ∙ ap (λ (q : Protected). linkIf (a .ranks .now) (searchable (a .t1 .routers) (a .t1 .links) q (length (a .dist .now))) (a .t1 .routers) (hopsOf (a .t1)) q (a .dist .now)) (c .before .before .before .before .before .before .protect .ensures) in
     rw (lt-ltb _ _ (e .if1 .left)) found
 
 pub link-pair-spec : {M : Type 1} → statement M

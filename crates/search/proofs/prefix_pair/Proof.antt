@@ -43,10 +43,10 @@ unfolding prefixBy
 returns-3 c =
     let w = c .before .before .before .before .before .before .before .before .before .before .before .before .before .before .before .before .before in
     let e = w .before .before in
-    let a = e .before .before .before .args in
+    let a = e .before .before .before .before .args in
     let target = c .before .before .before .before .before .before .before .before .before .before .before .before .before .towards-prefix .ensures ∙ ap (λ (k : ℕ). prefixColumn (a .t1 .routers) (a .t1 .at) (a .t1 .own) (8 * a .prefix) k (a .dist .now)) (w .wide .ensures) in
     let found = c .prefix-found .ensures
-    ∙ ap₂ (λ (q : Protected) (l : List ℕ). prefixIf (searchable (a .t1 .routers) (a .t1 .links) q (length (a .dist .now))) (a .t1 .routers) (hopsOf (a .t1)) q (a .dist .now) l) (c .before .before .before .before .before .before .before .protect .ensures) target in
+    ∙ ap₂ (λ (q : Protected) (l : List ℕ). prefixIf (a .ranks .now) (searchable (a .t1 .routers) (a .t1 .links) q (length (a .dist .now))) (a .t1 .routers) (hopsOf (a .t1)) q (a .dist .now) l) (c .before .before .before .before .before .before .before .protect .ensures) target in
     rw (lt-ltb _ _ (e .before .if1 .left), lt-ltb _ _ (e .if2 .left)) found
 
 pub prefix-pair-spec : {M : Type 1} → statement M

@@ -45,18 +45,18 @@ module _ {network : Network} {l e : ℕ} {area : List ℕ} (a : Asking network l
   unfolding spaceBy spaceIf
   space-found s = rw (searched, spaceIf) (space-known n (hopsOf network) (protectedOf network l e) area (a .known) s)
 
-  pub link-found : linkBy network l e area ≡ linkOutcome n (hopsOf network) d (protectedOf network l e)
+  pub link-found : (ranks : List ℕ) → linkBy network ranks l e area ≡ linkOutcome ranks n (hopsOf network) d (protectedOf network l e)
   unfolding linkBy linkIf linkOutcome
-  link-found =
+  link-found ranks =
       let q = protectedOf network l e in
       let known = a .known in
       let to-far = column.router-known n area (known .sound .few) (known .long) (q .far) (far-in n (hopsOf network) q area known) refl in
-      rw (searched, linkIf) (pair-known n (hopsOf network) q area known (router (q .far)) _ to-far)
+      rw (searched, linkIf) (pair-known ranks n (hopsOf network) q area known (router (q .far)) _ to-far)
 
-  pub prefix-found : (x : ℕ) → x < 128 → SlotsWithin n (8 * x) (getD (network .attached) x 0) (network .at) →
-      prefixBy network l e x area ≡ prefixOutcome n (hopsOf network) d (protectedOf network l e) (slotsIn (network .at) (network .own) (8 * x) (getD (network .attached) x 0))
+  pub prefix-found : (ranks : List ℕ) (x : ℕ) → x < 128 → SlotsWithin n (8 * x) (getD (network .attached) x 0) (network .at) →
+      prefixBy network ranks l e x area ≡ prefixOutcome ranks n (hopsOf network) d (protectedOf network l e) (slotsIn (network .at) (network .own) (8 * x) (getD (network .attached) x 0))
   unfolding prefixBy prefixIf
-  prefix-found x x-in slots =
+  prefix-found ranks x x-in slots =
       let known = a .known in
       let to-prefix = column.prefix-known n area (known .sound .few) (known .long) (network .at) (network .own) (8 * x) (getD (network .attached) x 0) slots refl in
-      rw (searched, lt-ltb x 128 x-in, prefixIf) (prefix-known n (hopsOf network) (protectedOf network l e) area known _ _ to-prefix)
+      rw (searched, lt-ltb x 128 x-in, prefixIf) (prefix-known ranks n (hopsOf network) (protectedOf network l e) area known _ _ to-prefix)

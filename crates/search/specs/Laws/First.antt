@@ -7,6 +7,7 @@ use mathlib.Core.Option.{Option, none, some}
 use mathlib.Core.List.{List, [], _∷_, map}
 use Rattle.lfa.specs.Network.{Target}
 use Rattle.lfa.specs.Space.{Protected}
+use Rattle.lfa.specs.Ranks.{rankOf}
 use Rattle.lfa.specs.Repair.{Pair, classOf, toldOf, key, pairKey, noLater, earlier, choose, outcomeOf}
 use Rattle.lfa.specs.Laws.Order.{later-gives, later-make, later-trans, later-total}
 use Rattle.order.specs.declared.Ordered.{Ordered}
@@ -66,11 +67,11 @@ unfolding firstOf earlierOf firstFrom
 first-from [] = refl
 first-from (k ∷ l) = first-front k l
 
-module _ (d : ℕ → ℕ → ℕ) (q : Protected) (target : Target) where
+module _ (ranks : List ℕ) (d : ℕ → ℕ → ℕ) (q : Protected) (target : Target) where
   -- a pair of the definitions, as the code holds it
   unfoldable pub orderedFor : Pair → Ordered
   orderedFor p = record {
-    key = classOf d q target p;
+    rank = rankOf ranks (classOf d q target p);
     distance = d (q .near) (p .endpoint);
     pair = record { first = p .hop .router; endpoint = p .endpoint; class = classOf d q target p; cost = p .hop .cost + d (p .hop .router) (p .endpoint) };
   }
@@ -79,7 +80,7 @@ module _ (d : ℕ → ℕ → ℕ) (q : Protected) (target : Target) where
   found none = none
   found (some p) = some (orderedFor p)
 
-  earlier-found : (p : Pair) (o : Option Pair) → found (earlier (pairKey d q target) p o) ≡ front (orderedFor p) (found o)
+  earlier-found : (p : Pair) (o : Option Pair) → found (earlier (pairKey ranks d q target) p o) ≡ front (orderedFor p) (found o)
   unfolding found earlier front pairKey key toldOf orderedFor
   earlier-found p none = refl
   earlier-found p (some r) = go (noLater (keysIn (orderedFor p)) (keysIn (orderedFor r)))
@@ -88,10 +89,10 @@ module _ (d : ℕ → ℕ → ℕ) (q : Protected) (target : Target) where
       go true = refl
       go false = refl
 
-  choose-found : (ps : List Pair) → found (choose (pairKey d q target) ps) ≡ firstFrom (map orderedFor ps)
+  choose-found : (ps : List Pair) → found (choose (pairKey ranks d q target) ps) ≡ firstFrom (map orderedFor ps)
   unfolding choose firstFrom found
   choose-found [] = refl
-  choose-found (p ∷ ps) = earlier-found p (choose (pairKey d q target) ps) ∙ ap (front (orderedFor p)) (choose-found ps)
+  choose-found (p ∷ ps) = earlier-found p (choose (pairKey ranks d q target) ps) ∙ ap (front (orderedFor p)) (choose-found ps)
 
   outcome-found : (o : Option Pair) → outcomeFor (found o) ≡ outcomeOf d q target o
   unfolding outcomeOf found orderedFor toldOf
@@ -100,5 +101,5 @@ module _ (d : ℕ → ℕ → ℕ) (q : Protected) (target : Target) where
 
   -- The first of some pairs, tried one after the other, gives the outcome of the pair that is chosen from them: the keys are the same, and
   -- what is told of a pair is part of what is held.
-  pub first-chosen : (ps : List Pair) → outcomeFor (firstOf none (map orderedFor ps)) ≡ outcomeOf d q target (choose (pairKey d q target) ps)
-  first-chosen ps = ap outcomeFor (first-from (map orderedFor ps) ∙ sym (choose-found ps)) ∙ outcome-found (choose (pairKey d q target) ps)
+  pub first-chosen : (ps : List Pair) → outcomeFor (firstOf none (map orderedFor ps)) ≡ outcomeOf d q target (choose (pairKey ranks d q target) ps)
+  first-chosen ps = ap outcomeFor (first-from (map orderedFor ps) ∙ sym (choose-found ps)) ∙ outcome-found (choose (pairKey ranks d q target) ps)

@@ -37,7 +37,7 @@ use Rattle.metric.specs.Laws.Select.{and-reorder, select-select, select-map, ma
 use Rattle.search.specs.Laws.First.{orderedFor, first-chosen}
 use Rattle.search.specs.Laws.Known.{near-in, hop-in, avoided-known, avoiding-known, space-known, near-held, crosses-may}
 
-module _ (n : ℕ) (hops : List Arc) (q : Protected) (area : List ℕ) (known : Known n hops q area) (target : Target) (l : List ℕ) (e : l ≡ column n (towards (held n area) target)) where
+module _ (ranks : List ℕ) (n : ℕ) (hops : List Arc) (q : Protected) (area : List ℕ) (known : Known n hops q area) (target : Target) (l : List ℕ) (e : l ≡ column n (towards (held n area) target)) where
   abbrev d : ℕ → ℕ → ℕ
   d = held n area
 
@@ -79,7 +79,7 @@ module _ (n : ℕ) (hops : List Arc) (q : Protected) (area : List ℕ) (known : 
     same-to z k = rw e (column-at n (towards d target) z k)
 
     -- what is held of it is what the definitions say of the pair: D(n,y) is finite, so that the tunnel cost is no more than a real one
-    pair-serves : (y : ℕ) → y < n → avoids n hops d (router y) (q .number) (f .router) ≡ true → orderedAt n area (q .near) l f y ≡ orderedFor d q target (withEnd y)
+    pair-serves : (y : ℕ) → y < n → avoids n hops d (router y) (q .number) (f .router) ≡ true → orderedAt ranks n area (q .near) l f y ≡ orderedFor ranks d q target (withEnd y)
     unfolding orderedAt orderedFor classOf avoids
     pair-serves y k t =
         let m = f .router in
@@ -92,32 +92,32 @@ module _ (n : ℕ) (hops : List Arc) (q : Protected) (area : List ℕ) (known : 
         let m-y : cellIn n area m y ≡ d m y = cell-known n area m y m-in k (known .sound .few) (known .long) refl in
         rw (near-y, m-y, w, same-to y k, same-to (q .near) (near-in n hops q area known))
 
-    hop-serves : pairsOver n q area l mask f ≡ map (orderedFor d q target) (select (serves n hops d q target) (pairsOf q n f))
+    hop-serves : pairsOver ranks n q area l mask f ≡ map (orderedFor ranks d q target) (select (serves n hops d q target) (pairsOf q n f))
     unfolding pairsOver hopPairs pairsOf serves
     hop-serves =
         let test : ℕ → Bool = λ y. isEndpoint q y && serves n hops d q target (withEnd y) in
-        ap (map (orderedAt n area (q .near) l f)) (select-same (mayEnd (bitAnd mask (avoidedFrom n q area (f .router))) (q .near) (q .far)) test (below n) (λ y k. ends-serve y (below-mem n y k)))
-        ∙ map-same (orderedAt n area (q .near) l f) (λ y. orderedFor d q target (withEnd y)) (select test (below n)) (λ y k. by y (select-gives test (below n) k))
-        ∙ sym (map-map (orderedFor d q target) withEnd (select test (below n)))
-        ∙ ap (map (orderedFor d q target)) (sym (select-map (serves n hops d q target) withEnd (select (isEndpoint q) (below n)) ∙ ap (map withEnd) (select-select (λ y. serves n hops d q target (withEnd y)) (isEndpoint q) (below n))))
+        ap (map (orderedAt ranks n area (q .near) l f)) (select-same (mayEnd (bitAnd mask (avoidedFrom n q area (f .router))) (q .near) (q .far)) test (below n) (λ y k. ends-serve y (below-mem n y k)))
+        ∙ map-same (orderedAt ranks n area (q .near) l f) (λ y. orderedFor ranks d q target (withEnd y)) (select test (below n)) (λ y k. by y (select-gives test (below n) k))
+        ∙ sym (map-map (orderedFor ranks d q target) withEnd (select test (below n)))
+        ∙ ap (map (orderedFor ranks d q target)) (sym (select-map (serves n hops d q target) withEnd (select (isEndpoint q) (below n)) ∙ ap (map withEnd) (select-select (λ y. serves n hops d q target (withEnd y)) (isEndpoint q) (below n))))
       where
-        by : (y : ℕ) → List·Memᴰ y (below n) × ((isEndpoint q y && serves n hops d q target (withEnd y)) ≡ true) → orderedAt n area (q .near) l f y ≡ orderedFor d q target (withEnd y)
+        by : (y : ℕ) → List·Memᴰ y (below n) × ((isEndpoint q y && serves n hops d q target (withEnd y)) ≡ true) → orderedAt ranks n area (q .near) l f y ≡ orderedFor ranks d q target (withEnd y)
         by y k = pair-serves y (below-mem n y (k .0)) (and-left _ _ (and-right (isEndpoint q y) _ (k .1)))
 
   -- The pairs that the search tries are the serving pairs, in the same order.
-  tried : pairsTried n q area l mask (firstHops q hops) ≡ map (orderedFor d q target) (select (serves n hops d q target) (pairs q n hops))
+  tried : pairsTried ranks n q area l mask (firstHops q hops) ≡ map (orderedFor ranks d q target) (select (serves n hops d q target) (pairs q n hops))
   unfolding pairsTried pairs
   tried =
-      ap flat (map-same (pairsOver n q area l mask) (λ f. map (orderedFor d q target) (select (serves n hops d q target) (pairsOf q n f))) (firstHops q hops) hop-serves)
-      ∙ sym (ap (map (orderedFor d q target)) (select-flat (serves n hops d q target) (pairsOf q n) (firstHops q hops)) ∙ map-flat (orderedFor d q target) (λ f. select (serves n hops d q target) (pairsOf q n f)) (firstHops q hops))
+      ap flat (map-same (pairsOver ranks n q area l mask) (λ f. map (orderedFor ranks d q target) (select (serves n hops d q target) (pairsOf q n f))) (firstHops q hops) hop-serves)
+      ∙ sym (ap (map (orderedFor ranks d q target)) (select-flat (serves n hops d q target) (pairsOf q n) (firstHops q hops)) ∙ map-flat (orderedFor ranks d q target) (λ f. select (serves n hops d q target) (pairsOf q n f)) (firstHops q hops))
 
   -- The first of them gives document 01's outcome.
-  pub pair-known : pairFor n hops q area l ≡ outcomeOf d q target (firstPair n hops d q target)
+  pub pair-known : pairFor ranks n hops q area l ≡ outcomeOf d q target (firstPair ranks n hops d q target)
   unfolding pairFor firstServing firstPair
-  pair-known = ap (λ (os : List Ordered). outcomeFor (firstOf none os)) tried ∙ first-chosen d q target (select (serves n hops d q target) (pairs q n hops))
+  pair-known = ap (λ (os : List Ordered). outcomeFor (firstOf none os)) tried ∙ first-chosen ranks d q target (select (serves n hops d q target) (pairs q n hops))
 
   -- Of a prefix, unreachable and untouched come first.
-  pub prefix-known : prefixFor n hops q area l ≡ prefixOutcome n hops d q target
+  pub prefix-known : prefixFor ranks n hops q area l ≡ prefixOutcome ranks n hops d q target
   unfolding prefixFor prefixOutcome
   prefix-known = same (ap (λ (v : ℕ). ltb v unreachable) (near-held n hops q area known target l e)) (crosses-may n hops q area known target l e) pair-known
     where

@@ -55,15 +55,18 @@ fn answer(words: &[OsString]) -> Result<Vec<u8>, Failure> {
 
 fn link(asked: &Asked) -> Result<String, Failure> {
     let (link, end) = (asked.number(1)?, asked.number(2)?);
+    let ranks = asked.ranks()?;
     let file = file(asked)?;
-    let pair = planner::link_repair(&file.bytes, &mut [0; WORK_CELLS], link, end);
+    let pair = planner::link_repair(&file.bytes, &mut [0; WORK_CELLS], &ranks, link, end);
     or_no_pair(&file, (link, end), pair.map(line::<Pair>))
 }
 
 fn prefix(asked: &Asked) -> Result<String, Failure> {
     let (link, end, prefix) = (asked.number(1)?, asked.number(2)?, asked.number(3)?);
+    let ranks = asked.ranks()?;
     let file = file(asked)?;
-    let repair = planner::prefix_repair(&file.bytes, &mut [0; WORK_CELLS], link, end, prefix);
+    let mut work = [0; WORK_CELLS];
+    let repair = planner::prefix_repair(&file.bytes, &mut work, &ranks, link, end, prefix);
     let repair = repair.map(|repair| match repair {
         Repair::Unreachable => UNREACHABLE.to_string(),
         Repair::Untouched => UNTOUCHED.to_string(),
@@ -74,11 +77,12 @@ fn prefix(asked: &Asked) -> Result<String, Failure> {
 
 fn route(asked: &Asked) -> Result<String, Failure> {
     let (link, end, prefix) = (asked.number(1)?, asked.number(2)?, asked.number(3)?);
-    let choices = asked.choices()?;
+    let (choices, ranks) = (asked.choices()?, asked.ranks()?);
     let mut work = [0; WORK_CELLS];
     let mut route = [0; ROUTE_BYTES];
     let file = file(asked)?;
-    let played = planner::route(&file.bytes, &mut work, link, end, prefix, &choices, &mut route);
+    let bytes = &file.bytes;
+    let played = planner::route(bytes, &mut work, &ranks, link, end, prefix, &choices, &mut route);
     let played = played.map(|played| match played {
         Played::Unreachable => UNREACHABLE.to_string(),
         Played::Untouched => UNTOUCHED.to_string(),

@@ -1,6 +1,7 @@
 //! The words of a command line: which command they name, and what is wrong with them.
 
 use super::Failure;
+use planner::ASCENDING_RANKS;
 use std::ffi::{OsStr, OsString};
 use std::path::Path;
 
@@ -17,6 +18,9 @@ planner tells where packets go in the moment after a link drops.
   planner make TEXT FILE                makes the network file of a text
   planner --help                        this text
 
+  --ranks RANKS                         after link, prefix or route: which class
+                                        of pairs comes first
+
 FILE is a network file and TEXT the readable text of one. The word - stands for
 standard input, and for standard output as the FILE of make.
 
@@ -28,6 +32,13 @@ first router, END 1 for its second: that router is S, which has to send packets
 elsewhere, and the other one is E. A CHOICE is a number from 0 to 255. Each
 router takes the next one modulo the number of equal hops that it has; after
 the last, 0.
+
+RANKS are the ranks of the classes 0, 1, 2 and 3, with commas between: 0, 1, 2
+and 3, each once, in any order. The pair whose class has the lowest rank comes
+first. A pair of class 0 or 1 needs no tunnel, one of class 2 or 3 does; with 0
+and 2 its endpoint is closer to the target than S. Without --ranks they are
+0,1,2,3; with 2,3,0,1 tunnels come first. They never change whether there is a
+repair.
 
 A text has one thing in a line, and # starts a comment:
 
@@ -74,33 +85,76 @@ struct Form {
     words: &'static [&'static str],
     /// Whether choices may follow.
     choices: bool,
+    /// Whether ranks may be given.
+    ranks: bool,
 }
 
+/// The option that gives ranks, and what follows it.
+const RANKS: &str = "--ranks";
+
 const FORMS: [Form; 6] = [
-    Form { name: "link", words: &["FILE", "LINK", "END"], choices: false },
-    Form { name: "prefix", words: &["FILE", "LINK", "END", "PREFIX"], choices: false },
-    Form { name: "route", words: &["FILE", "LINK", "END", "PREFIX"], choices: true },
-    Form { name: "spaces", words: &["FILE", "LINK", "END"], choices: false },
-    Form { name: "text", words: &["FILE"], choices: false },
-    Form { name: "make", words: &["TEXT", "FILE"], choices: false },
+    form("link", &["FILE", "LINK", "END"]).with_ranks(),
+    form("prefix", &["FILE", "LINK", "END", "PREFIX"]).with_ranks(),
+    form("route", &["FILE", "LINK", "END", "PREFIX"]).with_choices().with_ranks(),
+    form("spaces", &["FILE", "LINK", "END"]),
+    form("text", &["FILE"]),
+    form("make", &["TEXT", "FILE"]),
 ];
 
+const fn form(name: &'static str, words: &'static [&'static str]) -> Form {
+    Form { name, words, choices: false, ranks: false }
+}
+
 impl Form {
+    const fn with_choices(self) -> Form {
+        Form { choices: true, ..self }
+    }
+
+    const fn with_ranks(self) -> Form {
+        Form { ranks: true, ..self }
+    }
+
     /// How the command is used.
     fn usage(&self) -> String {
         let choices = if self.choices { " [CHOICE ...]" } else { "" };
-        format!("planner {} {}{choices}", self.name, self.words.join(" "))
+        let ranks = if self.ranks { " [--ranks RANKS]" } else { "" };
+        format!("planner {} {}{choices}{ranks}", self.name, self.words.join(" "))
     }
 
     fn failure(&self, wrong: &str) -> Failure {
         Failure::Usage(format!("{wrong}\nusage: {}", self.usage()))
+    }
+
+    /// Takes the option with the ranks, if it is there, out of the words after the command's name.
+    fn without_ranks<'a>(
+        &self,
+        words: &'a [OsString],
+    ) -> Result<(Vec<&'a OsStr>, Option<&'a OsStr>), Failure> {
+        let mut others: Vec<&OsStr> = words.iter().map(OsString::as_os_str).collect();
+        let Some(place) = others.iter().position(|word| *word == RANKS) else {
+            return Ok((others, None));
+        };
+        if !self.ranks {
+            let wrong = format!("{RANKS} is for link, prefix and route; leave it out");
+            return Err(self.failure(&wrong));
+        }
+        others.remove(place);
+        if place == others.len() {
+            return Err(self.failure(&format!("RANKS is missing after {RANKS}")));
+        }
+        let ranks = others.remove(place);
+        if ranks == RANKS || others.contains(&OsStr::new(RANKS)) {
+            return Err(self.failure(&format!("{RANKS} is given twice; give it once")));
+        }
+        Ok((others, Some(ranks)))
     }
 }
 
 /// A command with as many words as it takes.
 pub struct Asked<'a> {
     form: &'static Form,
-    words: &'a [OsString],
+    words: Vec<&'a OsStr>,
+    ranks: Option<&'a OsStr>,
 }
 
 impl<'a> Asked<'a> {
@@ -116,6 +170,7 @@ impl<'a> Asked<'a> {
                 "`{name}` is no command; the commands are {names}, and --help says more"
             )));
         };
+        let (words, ranks) = form.without_ranks(words)?;
         if let Some(missing) = form.words.get(words.len()) {
             return Err(form.failure(&format!("{missing} is missing")));
         }
@@ -126,7 +181,7 @@ impl<'a> Asked<'a> {
             Some(word) if !form.choices => {
                 Err(form.failure(&format!("`{}` is one word too many", word.to_string_lossy())))
             }
-            _ => Ok(Asked { form, words }),
+            _ => Ok(Asked { form, words, ranks }),
         }
     }
 
@@ -137,7 +192,7 @@ impl<'a> Asked<'a> {
 
     /// The word at a place of the form.
     pub fn word(&self, place: usize) -> &'a OsStr {
-        &self.words[place]
+        self.words[place]
     }
 
     /// The word at a place of the form, as a number.
@@ -149,18 +204,37 @@ impl<'a> Asked<'a> {
 
     /// The words after those of the form, as choice bytes.
     pub fn choices(&self) -> Result<Vec<u8>, Failure> {
-        let most = u8::MAX.into();
-        let choice = |word: &OsString| {
-            let number = number(word, most).and_then(|number| number.try_into().ok());
-            number.ok_or_else(|| self.no_number("CHOICE", word, most))
+        let choice = |word: &&OsStr| {
+            byte(word).ok_or_else(|| self.no_number("CHOICE", word, u8::MAX.into()))
         };
         self.words[self.form.words.len()..].iter().map(choice).collect()
+    }
+
+    /// The ranks that are given, or ascending ones. Whether they are an arrangement is for the
+    /// planner to say.
+    pub fn ranks(&self) -> Result<Vec<u8>, Failure> {
+        let Some(given) = self.ranks else {
+            return Ok(ASCENDING_RANKS.to_vec());
+        };
+        let given = given.to_string_lossy();
+        let ranks = given.split(',').map(|rank| byte(rank.as_ref())).collect::<Option<Vec<u8>>>();
+        ranks.ok_or_else(|| {
+            self.form.failure(&format!(
+                "RANKS is `{given}`, expected numbers from 0 to 255 with commas and no spaces \
+                 between, as in 2,3,0,1"
+            ))
+        })
     }
 
     fn no_number(&self, what: &str, word: &OsStr, most: u64) -> Failure {
         let word = word.to_string_lossy();
         self.form.failure(&format!("{what} is `{word}`, expected a number from 0 to {most}"))
     }
+}
+
+/// A word as a number from 0 to 255.
+fn byte(word: &OsStr) -> Option<u8> {
+    number(word, u8::MAX.into()).and_then(|number| number.try_into().ok())
 }
 
 /// A word as a number from 0 to `most`.

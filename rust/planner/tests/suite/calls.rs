@@ -81,17 +81,17 @@ fn asked(file: &[u8], question: &Question, lent: &mut Buffers) -> Option<Answer>
             call(file, work, number(link), number(end)).map(|set| Answer::Set(set.0))
         }
         Question::Size { set } => Ok(Answer::Size(Set(set).size())),
-        Question::LinkRepair { link, end } => {
-            planner::link_repair(file, work, number(link), number(end)).map(pair)
+        Question::LinkRepair { ref ranks, link, end } => {
+            planner::link_repair(file, work, ranks, number(link), number(end)).map(pair)
         }
-        Question::PrefixRepair { link, end, prefix } => {
+        Question::PrefixRepair { ref ranks, link, end, prefix } => {
             let (link, end, prefix) = (number(link), number(end), number(prefix));
-            planner::prefix_repair(file, work, link, end, prefix).map(repair)
+            planner::prefix_repair(file, work, ranks, link, end, prefix).map(repair)
         }
-        Question::Route { link, end, prefix, ref choices } => {
+        Question::Route { ref ranks, link, end, prefix, ref choices } => {
             let (link, end, prefix) = (number(link), number(end), number(prefix));
             let route = &mut lent.route;
-            planner::route(file, work, link, end, prefix, choices, route).map(played)
+            planner::route(file, work, ranks, link, end, prefix, choices, route).map(played)
         }
         Question::Plan => return None,
     };

@@ -239,6 +239,7 @@ fn help() {
     for name in ["link", "prefix", "route", "spaces", "text", "make"] {
         assert!(help.contains(&format!("planner {name} ")), "{name}");
     }
+    assert!(help.contains("--ranks RANKS "));
     assert!(help.lines().all(|line| line.len() <= 80));
     assert_eq!(answers(&["link", "--help"], &[]), help);
     assert_eq!(fails(&[], &[], 2), format!("planner: no command is given\n\n{help}"));
@@ -249,8 +250,8 @@ fn wrong_words() {
     let no_command = "planner: `lnk` is no command; the commands are link, prefix, route, spaces, \
                       text, make, and --help says more\n";
     assert_eq!(fails(&["lnk", "-", "0", "0"], &[], 2), no_command);
-    let link = "usage: planner link FILE LINK END\n";
-    let route = "usage: planner route FILE LINK END PREFIX [CHOICE ...]\n";
+    let link = "usage: planner link FILE LINK END [--ranks RANKS]\n";
+    let route = "usage: planner route FILE LINK END PREFIX [CHOICE ...] [--ranks RANKS]\n";
     for (words, wrong, usage) in [
         (&["link"][..], "FILE is missing", link),
         (&["link", "-"], "LINK is missing", link),
@@ -260,7 +261,7 @@ fn wrong_words() {
         (
             &["prefix", "-", "0", "0"],
             "PREFIX is missing",
-            "usage: planner prefix FILE LINK END PREFIX\n",
+            "usage: planner prefix FILE LINK END PREFIX [--ranks RANKS]\n",
         ),
         (&["route", "-", "0", "0"], "PREFIX is missing", route),
         (&["text"], "FILE is missing", "usage: planner text FILE\n"),
@@ -286,7 +287,7 @@ fn numbers_that_are_none() {
         (["0", "0", "0", "256"], "CHOICE is `256`, expected a number from 0 to 255".to_string()),
         (["0", "0", "0", "one"], "CHOICE is `one`, expected a number from 0 to 255".to_string()),
     ] {
-        let usage = "usage: planner route FILE LINK END PREFIX [CHOICE ...]\n";
+        let usage = "usage: planner route FILE LINK END PREFIX [CHOICE ...] [--ranks RANKS]\n";
         let words = [&["route", "-"], &words[..]].concat();
         assert_eq!(fails(&words, &[], 2), format!("planner: {wrong}\n{usage}"));
     }

@@ -8,6 +8,7 @@ mod files;
 mod limits;
 mod outputs;
 mod pages;
+mod ranks;
 mod refusals;
 mod texts;
 mod worked;

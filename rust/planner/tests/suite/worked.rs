@@ -2,21 +2,24 @@
 //! link 0, end 0.
 
 use crate::common::{ring, ring_4_with_prefix, with_prefix_at};
-use planner::{Link, Network, Pair, Played, Refusal, Repair, Set, ROUTE_BYTES, WORK_CELLS};
+use planner::{
+    Link, Network, Pair, Played, Refusal, Repair, Set, ASCENDING_RANKS, ROUTE_BYTES, WORK_CELLS,
+};
 
 fn link_repair(network: &Network) -> Result<Pair, Refusal> {
-    planner::link_repair(&network.to_bytes(), &mut [0; WORK_CELLS], 0, 0)
+    planner::link_repair(&network.to_bytes(), &mut [0; WORK_CELLS], &ASCENDING_RANKS, 0, 0)
 }
 
 /// The repair of prefix 0 for link 0, end 0.
 fn prefix_repair(network: &Network) -> Result<Repair, Refusal> {
-    planner::prefix_repair(&network.to_bytes(), &mut [0; WORK_CELLS], 0, 0, 0)
+    let (file, mut work) = (network.to_bytes(), [0; WORK_CELLS]);
+    planner::prefix_repair(&file, &mut work, &ASCENDING_RANKS, 0, 0, 0)
 }
 
 /// The route to prefix 0 for link 0, end 0, with no choice bytes.
 fn route(network: &Network) -> Vec<u8> {
-    let (mut work, mut route) = ([0; WORK_CELLS], [255; ROUTE_BYTES]);
-    let played = planner::route(&network.to_bytes(), &mut work, 0, 0, 0, &[], &mut route);
+    let (file, mut work, mut route) = (network.to_bytes(), [0; WORK_CELLS], [255; ROUTE_BYTES]);
+    let played = planner::route(&file, &mut work, &ASCENDING_RANKS, 0, 0, 0, &[], &mut route);
     let Ok(Played::Written(count)) = played else { panic!("{played:?}") };
     assert!(route[count..].iter().all(|byte| *byte == 255));
     route[..count].to_vec()
@@ -63,9 +66,10 @@ fn ring_4_with_its_prefix() {
     assert_eq!(route(&network), [0, 3, 2]);
     let file = network.to_bytes();
     let mut work = [0; WORK_CELLS];
-    assert_eq!(planner::prefix_repair(&file, &mut work, 1, 1, 0), Ok(Repair::Untouched));
+    let ranks = &ASCENDING_RANKS;
+    assert_eq!(planner::prefix_repair(&file, &mut work, ranks, 1, 1, 0), Ok(Repair::Untouched));
     let mut route = [255; ROUTE_BYTES];
-    let played = planner::route(&file, &mut work, 1, 1, 0, &[], &mut route);
+    let played = planner::route(&file, &mut work, ranks, 1, 1, 0, &[], &mut route);
     assert_eq!((played, route), (Ok(Played::Untouched), [255; ROUTE_BYTES]));
 }
 
@@ -93,7 +97,8 @@ fn no_pair_serves() {
     assert_eq!(link_repair(&two_routers), Err(NO_PAIR));
     // The distances are in the work area all the same.
     let mut work = [7; 5];
-    assert_eq!(planner::link_repair(&two_routers.to_bytes(), &mut work, 0, 0), Err(NO_PAIR));
+    let file = two_routers.to_bytes();
+    assert_eq!(planner::link_repair(&file, &mut work, &ASCENDING_RANKS, 0, 0), Err(NO_PAIR));
     assert_eq!(work, [0, 1, 1, 0, 7]);
 }
 
@@ -116,7 +121,7 @@ fn a_prefix_that_no_path_leads_to() {
     assert_eq!(prefix_repair(&network), Ok(Repair::Unreachable));
     let file = network.to_bytes();
     let (mut work, mut route) = ([0; WORK_CELLS], [255; ROUTE_BYTES]);
-    let played = planner::route(&file, &mut work, 0, 0, 0, &[], &mut route);
+    let played = planner::route(&file, &mut work, &ASCENDING_RANKS, 0, 0, 0, &[], &mut route);
     assert_eq!((played, route), (Ok(Played::Unreachable), [255; ROUTE_BYTES]));
     assert_eq!(work[..3], [0, 1, planner::UNREACHABLE]);
 }
@@ -131,7 +136,8 @@ fn choices_decide_between_equal_hops() {
     let file = with_prefix_at(network, &[4]).to_bytes();
     let played = |choices: &[u8]| {
         let (mut work, mut route) = ([0; WORK_CELLS], [255; ROUTE_BYTES]);
-        let played = planner::route(&file, &mut work, 0, 0, 0, choices, &mut route);
+        let ranks = &ASCENDING_RANKS;
+        let played = planner::route(&file, &mut work, ranks, 0, 0, 0, choices, &mut route);
         let Ok(Played::Written(count)) = played else { panic!("{played:?}") };
         route[..count].to_vec()
     };

@@ -2,6 +2,7 @@
 
 use crate::answer::{Answer, Buffers, Opened, Question};
 use crate::network::Network;
+use crate::ranks::Arrangement;
 use crate::words;
 
 /// With more links times prefixes than this, only some routes are asked for,
@@ -11,6 +12,12 @@ const ASKED_WHOLE: usize = 2000;
 const SOME_LINKS: [u64; 4] = [0, 1, 64, 127];
 /// And the step from one prefix of a route to the next.
 const SOME_PREFIXES: usize = 16;
+
+/// Ranks by which class 3 comes first, then 2, 0 and 1. Read the other way, as a
+/// map from ranks to classes, both tables are other tables.
+pub const TUNNELS_FIRST: Arrangement = [2, 3, 1, 0];
+/// Ranks by which class 1 comes first, then 3, 2 and 0.
+pub const FARTHER_FIRST: Arrangement = [3, 0, 2, 1];
 
 /// The network of a file. A refused file counts as one of no router.
 pub fn network(opened: &Opened) -> Network {

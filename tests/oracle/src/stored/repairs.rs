@@ -22,19 +22,39 @@
 //! refusal, 1 for unreachable, 2 for untouched, and 3 + 2^8 * HOP +
 //! 2^16 * ENDPOINT + 2^24 * CLASS + 2^32 * COST for a pair.
 //!
+//! All of these have the ranks 0, 1, 2, 3. After those of a link and an end come
+//! the link repair with the ranks 2, 3, 1, 0 and, if there is a prefix, the sum
+//! of the prefix repairs with the ranks 3, 0, 2, 1:
+//!
+//! ```text
+//! ranked-link-repair LINK END ANSWER
+//! ranked-prefix-repairs LINK END SUM
+//! ```
+//!
 //! Then come the questions just out of range: all five with link L, end 0 and
 //! prefix 0, all five with link 0, end 2 and prefix 0, and `prefix-repair` with
 //! link 0, end 0 and the first prefix number too large. A refused file counts as
 //! one of no link and no prefix.
 //!
+//! Last come questions with ranks that are no arrangement: if the file is
+//! accepted the link repair of link L, end 0, with each table of `ranks::WRONG` by
+//! its number, and in any case the prefix repair of link 0, end 0 and the first
+//! prefix number too large with table 1:
+//!
+//! ```text
+//! wrong-link-ranks TABLE ANSWER
+//! wrong-prefix-ranks TABLE ANSWER
+//! ```
+//!
 //! An answer is `refused NUMBER VALUE`, `set NUMBER`, `unreachable`,
 //! `untouched` or `pair HOP ENDPOINT CLASS COST`. The work area has 4,096
 //! cells.
 
-use super::common::{answered, asked_whole, network, text};
+use super::common::{FARTHER_FIRST, TUNNELS_FIRST, answered, asked_whole, network, text};
 use crate::answer::{Answer, Buffers, Opened, Question};
 use crate::batch::enough;
 use crate::fault::Context;
+use crate::ranks::{ASCENDING, WRONG};
 use crate::space::Space;
 
 /// What is printed for a file.
@@ -51,7 +71,13 @@ pub fn lines(ctx: &Context, file: &[u8]) -> String {
                 (0..prefixes).map(|prefix| prefix_repair(&opened, &lent, link, end, prefix)),
             );
         } else {
-            lines.push(prefix_repairs(&opened, &lent, link, end, prefixes));
+            let sum = prefix_repairs(&opened, &lent, &ASCENDING, (link, end), prefixes);
+            lines.push(format!("prefix-repairs {link} {end} {sum}"));
+        }
+        lines.push(ranked_link_repair(&opened, &lent, link, end));
+        if prefixes > 0 {
+            let sum = prefix_repairs(&opened, &lent, &FARTHER_FIRST, (link, end), prefixes);
+            lines.push(format!("ranked-prefix-repairs {link} {end} {sum}"));
         }
     }
     for (link, end) in [(links, 0), (0, 2)] {
@@ -59,6 +85,11 @@ pub fn lines(ctx: &Context, file: &[u8]) -> String {
         lines.push(prefix_repair(&opened, &lent, link, end, 0));
     }
     lines.push(prefix_repair(&opened, &lent, 0, 0, prefixes));
+    if network.routers > 0 {
+        lines.extend(wrong_link_ranks(&opened, &lent, links));
+    }
+    let question = Question::prefix_repair(0, 0, prefixes).with_ranks(WRONG[1]);
+    lines.push(answered(&opened, &lent, "wrong-prefix-ranks 1", &question));
     text(&lines)
 }
 
@@ -69,23 +100,43 @@ fn link_questions(opened: &Opened, lent: &Buffers, link: u64, end: u64) -> [Stri
         ("p", space(Space::P)),
         ("extended-p", space(Space::ExtendedP)),
         ("q", space(Space::Q)),
-        ("link-repair", Question::LinkRepair { link, end }),
+        ("link-repair", Question::link_repair(link, end)),
     ];
     asked.map(|(name, question)| answered(opened, lent, &format!("{name} {link} {end}"), &question))
 }
 
 fn prefix_repair(opened: &Opened, lent: &Buffers, link: u64, end: u64, prefix: u64) -> String {
     let label = format!("prefix-repair {link} {end} {prefix}");
-    answered(opened, lent, &label, &Question::PrefixRepair { link, end, prefix })
+    answered(opened, lent, &label, &Question::prefix_repair(link, end, prefix))
 }
 
-/// The check sum of the prefix repairs of a link and an end.
-fn prefix_repairs(opened: &Opened, lent: &Buffers, link: u64, end: u64, prefixes: u64) -> String {
-    let sum = (0..prefixes).fold(0u64, |sum, prefix| {
-        let question = Question::PrefixRepair { link, end, prefix };
+/// The check sum of the prefix repairs of a link and an end with some ranks.
+fn prefix_repairs(
+    opened: &Opened,
+    lent: &Buffers,
+    ranks: &[u8],
+    (link, end): (u64, u64),
+    prefixes: u64,
+) -> u64 {
+    (0..prefixes).fold(0u64, |sum, prefix| {
+        let question = Question::prefix_repair(link, end, prefix).with_ranks(ranks);
         sum.wrapping_mul(33).wrapping_add(code(&opened.ask(&question, lent).answer))
-    });
-    format!("prefix-repairs {link} {end} {sum}")
+    })
+}
+
+fn ranked_link_repair(opened: &Opened, lent: &Buffers, link: u64, end: u64) -> String {
+    let question = Question::link_repair(link, end).with_ranks(&TUNNELS_FIRST);
+    answered(opened, lent, &format!("ranked-link-repair {link} {end}"), &question)
+}
+
+/// The link repairs with ranks that are no arrangement. The link number is too
+/// large as well, which is tried later.
+fn wrong_link_ranks(opened: &Opened, lent: &Buffers, links: u64) -> Vec<String> {
+    let line = |(table, ranks): (usize, &&[u8])| {
+        let question = Question::link_repair(links, 0).with_ranks(ranks);
+        answered(opened, lent, &format!("wrong-link-ranks {table}"), &question)
+    };
+    WRONG.iter().enumerate().map(line).collect()
 }
 
 /// An answer as a number.

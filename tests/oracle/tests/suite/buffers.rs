@@ -1,4 +1,4 @@
-//! The rows 10 to 14, their order, and what every call leaves in every buffer.
+//! The rows 10 to 15, their order, and what every call leaves in every buffer.
 
 use crate::common::{random_networks, refused};
 use oracle::answer::{Answer, Buffers, Opened, Question, ask};
@@ -7,11 +7,12 @@ use oracle::fault::Context;
 use oracle::file::write;
 use oracle::network::Network;
 use oracle::random::Random;
+use oracle::ranks::{ASCENDING, WRONG};
 use oracle::space::Space;
 use oracle::worked::*;
 
 fn route_question(link: u64, end: u64, prefix: u64) -> Question {
-    Question::Route { link, end, prefix, choices: vec![] }
+    Question::route(link, end, prefix, &[])
 }
 
 fn ask_ring_4(question: &Question, lent: &Buffers) -> Answer {
@@ -19,11 +20,20 @@ fn ask_ring_4(question: &Question, lent: &Buffers) -> Answer {
 }
 
 #[test]
-fn rows_10_to_13_in_their_order() {
-    // The lent buffers and numbers are mended one after the other.
-    let asked = |cells, bytes, link, end, prefix| {
-        ask_ring_4(&route_question(link, end, prefix), &marked(cells, bytes))
+fn rows_10_to_13_and_15_in_their_order() {
+    // The lent buffers, the ranks and the numbers are mended one after the other.
+    let ranked = |cells, bytes, ranks: &[u8], link, end, prefix| {
+        let question = route_question(link, end, prefix).with_ranks(ranks);
+        ask_ring_4(&question, &marked(cells, bytes))
     };
+    for wrong in WRONG {
+        assert_eq!(ranked(15, 7, wrong, 4, 2, 1), refused(10, 16));
+        assert_eq!(ranked(16, 7, wrong, 4, 2, 1), refused(11, 8));
+        assert_eq!(ranked(16, 8, wrong, 4, 2, 1), refused(15, 0));
+        assert_eq!(ranked(16, 8, wrong, 0, 0, 0), refused(15, 0));
+    }
+    let asked =
+        |cells, bytes, link, end, prefix| ranked(cells, bytes, &ASCENDING, link, end, prefix);
     assert_eq!(asked(15, 7, 4, 2, 1), refused(10, 16));
     assert_eq!(asked(16, 7, 4, 2, 1), refused(11, 8));
     assert_eq!(asked(16, 8, 4, 2, 1), refused(12, 4));
@@ -44,9 +54,9 @@ fn a_call_tries_only_the_rows_it_has_inputs_for() {
         let question = Question::Space { space: *space, link: 0, end: 0 };
         assert!(matches!(ask_ring_4(&question, &lent), Answer::Set(_)));
     }
-    let question = Question::LinkRepair { link: 0, end: 0 };
+    let question = Question::link_repair(0, 0);
     assert!(matches!(ask_ring_4(&question, &lent), Answer::Pair(_)));
-    let question = Question::PrefixRepair { link: 0, end: 0, prefix: 0 };
+    let question = Question::prefix_repair(0, 0, 0);
     assert!(matches!(ask_ring_4(&question, &lent), Answer::Pair(_)));
     // Without any buffer the file's own calls answer.
     let none = marked(0, 0);
@@ -118,7 +128,7 @@ fn what_every_call_leaves() {
                     | Question::PrefixEntry { .. }
             );
             let turned_away =
-                matches!(outcome.answer, Answer::Refused { number, .. } if number <= 13);
+                matches!(outcome.answer, Answer::Refused { number, .. } if number != 14);
             let mut work = lent.work.clone();
             if computes && !turned_away {
                 work[..cells.len()].copy_from_slice(&cells);

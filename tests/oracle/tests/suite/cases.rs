@@ -9,6 +9,7 @@ use oracle::file::{LARGEST, write};
 use oracle::generate;
 use oracle::network::Network;
 use oracle::random::Random;
+use oracle::ranks::ASCENDING;
 use oracle::repair::{deciding_key, serving};
 use oracle::row::Cause;
 use oracle::space::Space;
@@ -75,6 +76,9 @@ fn the_networks_worked_by_hand_are_stored() {
         ("source_000_figure_1_dear", destinations(figure_1(4))),
         ("source_001_figure_1", topology_1()),
         ("source_001_figure_2", topology_2()),
+        ("four_classes", four_classes()),
+        ("neighbours_only", neighbours_only()),
+        ("ring_3_dear_link", ring_3_dear_link()),
         ("maintenance_first_hops", maintenance_first_hops()),
         ("maintenance_tunnel", maintenance_tunnel()),
         ("maintenance_protected_link", maintenance_protected_link()),
@@ -111,7 +115,7 @@ fn every_key_decides_in_the_network_of_keys() {
     let opened = Opened::new(&ctx, stored_file(&cases, "keys"));
     let workings = opened.workings();
     let link_end = workings.network.link_end(&ctx, 0, 0).expect("link 0");
-    let key = |target| deciding_key(&serving(workings, &link_end, target));
+    let key = |target| deciding_key(&serving(workings, &link_end, target, &ASCENDING));
     assert_eq!(key(workings.to_router(link_end.e)), Some(4));
     for (prefix, expected) in [(0, 1), (1, 2), (2, 3), (3, 5)] {
         assert_eq!(key(workings.to_prefix(prefix)), Some(expected));

@@ -80,6 +80,26 @@ fn questions() {
 }
 
 #[test]
+fn ranks() {
+    let file = write(&ring_4_with_prefix());
+    let asks = |ranks, words: &[&str]| prints(&[&["--ranks", ranks, "ask"], words].concat(), &file);
+    let prefix = ["prefix-repair", "0", "0", "0"];
+    assert_eq!(asks("0,1,2,3", &prefix), "hop 3 endpoint 3 class 1 cost 1\n");
+    assert_eq!(asks("2,3,0,1", &prefix), "hop 3 endpoint 2 class 2 cost 2\n");
+    assert_eq!(asks("0,1,2,2", &prefix), "refused 15 0\n");
+    assert_eq!(asks("0,1,2,3,255", &["link-repair", "9", "9"]), "refused 15 0\n");
+    assert_eq!(asks("0", &["route", "0", "0", "0"]), "refused 15 0\n");
+    // Spaces take no ranks.
+    assert_eq!(asks("0", &["p", "0", "0"]), "set 9 size 2 routers 0 3\n");
+    let batch = prints(&["--ranks", "2,3,0,1", "batch", "prefixes"], &file);
+    assert!(batch.starts_with("prefix-repair 0 0 0 pair 3 2 2 2\n"));
+    for wrong in ["0,1,2,256", "0,1,,3", "0 1 2 3", ""] {
+        let said = fails(&["--ranks", wrong, "ask", "load"], &file);
+        assert!(said.contains("is no number from 0 to 255"), "{said}");
+    }
+}
+
+#[test]
 fn lent_buffers() {
     let file = write(&two_routers().prefix(&[(0, 3)]));
     let words = ["--work", "5", "--buffer", "4", "--left", "ask", "route", "0", "0", "0"];

@@ -31,17 +31,16 @@ pub fn spaces(network: &Network, link: u64, end: u64) -> [Answer; 3] {
 }
 
 pub fn link_repair(network: &Network, link: u64, end: u64) -> Answer {
-    ask_network(network, &Question::LinkRepair { link, end }).answer
+    ask_network(network, &Question::link_repair(link, end)).answer
 }
 
 pub fn prefix_repair(network: &Network, link: u64, end: u64, prefix: u64) -> Answer {
-    ask_network(network, &Question::PrefixRepair { link, end, prefix }).answer
+    ask_network(network, &Question::prefix_repair(link, end, prefix)).answer
 }
 
 /// The routers that a route call writes.
 pub fn route(network: &Network, link: u64, end: u64, prefix: u64, choices: &[u8]) -> Vec<u8> {
-    let choices = choices.to_vec();
-    let outcome = ask_network(network, &Question::Route { link, end, prefix, choices });
+    let outcome = ask_network(network, &Question::route(link, end, prefix, choices));
     let Answer::Count(count) = outcome.answer else {
         panic!("no route but {:?}", outcome.answer);
     };

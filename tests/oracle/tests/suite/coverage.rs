@@ -1,8 +1,9 @@
 //! The corpus meets every kind of answer, every cause and every deciding key.
 
-use oracle::answer::{Answer, Opened, Question};
+use oracle::answer::{Answer, Opened, Question, inputs};
 use oracle::corpus;
 use oracle::fault::{Context, Fault};
+use oracle::ranks::{Arrangement, arrangement_of, deciding, decisions};
 use oracle::repair::{deciding_key, serving};
 use oracle::row::{Cause, Inputs};
 use oracle::space::Space;
@@ -19,7 +20,8 @@ fn the_corpus_meets_everything() {
         let half_blind = Opened::new(&from_s_only, &case.file);
         for (question, lent) in &case.questions {
             let outcome = opened.ask(question, lent);
-            met.extend(causes(&opened, question, lent.work.len(), lent.route.len()));
+            let refusal = opened.refusal(&inputs(question, lent));
+            met.extend(refusal.map(|refusal| format!("{:?}", refusal.cause)));
             met.insert(kind(&outcome.answer));
             let extended = matches!(question, Question::Space { space: Space::ExtendedP, .. });
             if extended && half_blind.ask(question, lent).answer != outcome.answer {
@@ -28,12 +30,21 @@ fn the_corpus_meets_everything() {
             if let Answer::Pair(pair) = outcome.answer {
                 met.insert(format!("class {}", pair.class));
                 met.extend(key_of(&opened, question));
+                let rank = deciding(&opened, question, lent, &pair);
+                met.extend(arrangement_of(question).zip(rank).map(decision));
             }
         }
         if opened.refusal(&Inputs::default()).is_none() {
             met.extend(delivery_or_step(&opened));
         }
     }
+    for expected in everything() {
+        assert!(met.contains(&expected), "the corpus does not meet: {expected}");
+    }
+}
+
+/// All that the corpus has to meet.
+fn everything() -> Vec<String> {
     let causes = Cause::ALL.iter().map(|cause| format!("{cause:?}"));
     let classes = (0..4).map(|class| format!("class {class}"));
     let keys = (1..=5).map(|key| format!("key {key}"));
@@ -53,9 +64,8 @@ fn the_corpus_meets_everything() {
         "a router decided by E to S alone",
     ];
     let kinds = kinds.into_iter().map(str::to_string);
-    for expected in causes.chain(classes).chain(keys).chain(kinds) {
-        assert!(met.contains(&expected), "the corpus does not meet: {expected}");
-    }
+    let decisions = decisions().map(decision);
+    causes.chain(classes).chain(keys).chain(kinds).chain(decisions).collect()
 }
 
 fn kind(answer: &Answer) -> String {
@@ -77,35 +87,26 @@ fn kind(answer: &Answer) -> String {
     kind.to_string()
 }
 
-fn causes(opened: &Opened, question: &Question, cells: usize, bytes: usize) -> Option<String> {
-    let mut inputs = Inputs { work: Some(cells), ..Inputs::default() };
-    match question {
-        Question::Load => inputs.work = None,
-        Question::Route { link, end, prefix, .. } => {
-            inputs.route = Some(bytes);
-            inputs.link_end = Some((*link, *end));
-            inputs.prefix = Some(*prefix);
-        }
-        _ => return None,
-    }
-    opened.refusal(&inputs).map(|refusal| format!("{:?}", refusal.cause))
+fn decision((ranks, rank): (Arrangement, u8)) -> String {
+    format!("ranks {ranks:?} decide between {rank} and {}", rank + 1)
 }
 
 /// The key that decided between the first two serving pairs.
 fn key_of(opened: &Opened, question: &Question) -> Option<String> {
     let workings = opened.workings();
     let ends = |link, end| workings.network.link_end(&workings.ctx, link, end);
+    let ranks = question.ranks()?;
     let (link_end, target) = match question {
-        Question::LinkRepair { link, end } => {
+        Question::LinkRepair { link, end, .. } => {
             let link_end = ends(*link, *end)?;
             (link_end, workings.to_router(link_end.e))
         }
-        Question::PrefixRepair { link, end, prefix } => {
+        Question::PrefixRepair { link, end, prefix, .. } => {
             (ends(*link, *end)?, workings.to_prefix(*prefix))
         }
         _ => return None,
     };
-    let key = deciding_key(&serving(workings, &link_end, target))?;
+    let key = deciding_key(&serving(workings, &link_end, target, ranks))?;
     Some(format!("key {key}"))
 }
 

@@ -13,6 +13,7 @@ mod outputs;
 mod pages;
 mod papers;
 mod plans;
+mod ranks;
 mod reader;
 mod remake;
 mod routes;

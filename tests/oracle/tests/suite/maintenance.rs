@@ -12,14 +12,18 @@ use oracle::fault::{Context, Fault, Limit};
 use oracle::file::write;
 use oracle::network::Network;
 use oracle::random::Random;
+use oracle::repair::Pair;
 use oracle::space::Space;
 use oracle::worked::*;
 
 /// As it was before there was maintenance.
 const BEFORE: Fault = Fault::NOTHING_LEFT_OUT;
 
-const LINK_0_END_0: Question = Question::LinkRepair { link: 0, end: 0 };
 const EXTENDED_P: Question = Question::Space { space: Space::ExtendedP, link: 0, end: 0 };
+
+fn link_0_end_0() -> Question {
+    Question::link_repair(0, 0)
+}
 
 /// The answer of a planner with a fault.
 fn wrongly(fault: Fault, network: &Network, question: &Question) -> Answer {
@@ -32,9 +36,9 @@ fn every_first_hop_is_left_out() {
     assert_eq!(spaces(&network, 0, 0), [set(&[0]), set(&[]), set(&[1, 4])]);
     assert_eq!(link_repair(&network, 0, 0), refused(14, 0));
     assert_eq!(prefix_repair(&network, 0, 0, 0), refused(14, 0));
-    let played = Question::Route { link: 0, end: 0, prefix: 0, choices: vec![] };
+    let played = Question::route(0, 0, 0, &[]);
     assert_eq!(ask_network(&network, &played).answer, refused(14, 0));
-    assert_eq!(wrongly(BEFORE, &network, &LINK_0_END_0), pair(2, 4, 3, 65_536));
+    assert_eq!(wrongly(BEFORE, &network, &link_0_end_0()), pair(2, 4, 3, 65_536));
     // From the other end nothing is left out: the directions to 0 cost 1.
     assert_eq!(link_repair(&network, 0, 1), pair(4, 2, 3, 2));
     assert_eq!(spaces(&network, 0, 1)[1], set(&[1, 2, 3, 4]));
@@ -53,7 +57,7 @@ fn a_tunnel_goes_over_a_link_under_maintenance() {
 #[test]
 fn the_link_that_drops_is_under_maintenance() {
     let network = maintenance_protected_link();
-    for question in [LINK_0_END_0, Question::PrefixRepair { link: 0, end: 0, prefix: 0 }] {
+    for question in [link_0_end_0(), Question::prefix_repair(0, 0, 0)] {
         let answer = ask_network(&network, &question).answer;
         assert_eq!(answer, pair(3, 3, 0, 30_000));
         assert_eq!(wrongly(BEFORE, &network, &question), answer);
@@ -71,8 +75,8 @@ fn extended_p_loses_members_and_p_and_q_do_not() {
     assert_eq!(spaces(&network, 0, 0), [p, extended_p, q]);
     assert_eq!(wrongly(BEFORE, &network, &EXTENDED_P), set(&[0, 2, 3, 4, 5]));
     assert_eq!(link_repair(&network, 0, 0), pair(2, 5, 3, 3));
-    assert_eq!(wrongly(BEFORE, &network, &LINK_0_END_0), pair(3, 4, 3, 65_536));
-    let question = Question::PrefixRepair { link: 0, end: 0, prefix: 0 };
+    assert_eq!(wrongly(BEFORE, &network, &link_0_end_0()), pair(3, 4, 3, 65_536));
+    let question = Question::prefix_repair(0, 0, 0);
     assert_eq!(prefix_repair(&network, 0, 0, 0), pair(2, 5, 3, 3));
     assert_eq!(wrongly(BEFORE, &network, &question), pair(3, 3, 0, 65_535));
 }
@@ -82,11 +86,11 @@ fn a_cost_of_65_534_is_not_left_out() {
     let network = ring_6_of_cost(65_534);
     assert_eq!(link_repair(&network, 0, 0), pair(5, 3, 3, 3 * 65_534));
     let strict = Fault::LimitTight(Limit::FirstHopCost);
-    assert_eq!(wrongly(strict, &network, &LINK_0_END_0), refused(14, 0));
+    assert_eq!(wrongly(strict, &network, &link_0_end_0()), refused(14, 0));
     let network = ring_6_of_cost(65_535);
     assert_eq!(link_repair(&network, 0, 0), refused(14, 0));
     assert_eq!(spaces(&network, 0, 0), [set(&[0, 4, 5]), set(&[]), set(&[1, 2, 3])]);
-    assert_eq!(wrongly(BEFORE, &network, &LINK_0_END_0), pair(5, 3, 3, 3 * 65_535));
+    assert_eq!(wrongly(BEFORE, &network, &link_0_end_0()), pair(5, 3, 3, 3 * 65_535));
 }
 
 /// The same neighbour, once at 65,535 from S and once at 65,535 to S.
@@ -102,17 +106,17 @@ fn the_direction_from_s_decides() {
     assert_eq!(link_repair(&from_s, 0, 0), refused(14, 0));
     assert_eq!(link_repair(&to_s, 0, 0), pair(3, 3, 1, 1));
     let wrong = Fault::MaintenanceTowardsS;
-    assert_eq!(wrongly(wrong, &from_s, &LINK_0_END_0), pair(3, 2, 3, 65_536));
-    assert_eq!(wrongly(wrong, &to_s, &LINK_0_END_0), refused(14, 0));
+    assert_eq!(wrongly(wrong, &from_s, &link_0_end_0()), pair(3, 2, 3, 65_536));
+    assert_eq!(wrongly(wrong, &to_s, &link_0_end_0()), refused(14, 0));
 }
 
 #[test]
 fn walks_go_over_links_under_maintenance() {
     let network = maintenance_protected_link();
-    let touched = Question::PrefixRepair { link: 0, end: 0, prefix: 0 };
+    let touched = Question::prefix_repair(0, 0, 0);
     assert_eq!(wrongly(Fault::MaintenanceNotWalked, &network, &touched), Answer::Untouched);
     assert_eq!(wrongly(Fault::MaintenanceNotThere, &network, &touched), Answer::Untouched);
-    let other_leg = Question::LinkRepair { link: 3, end: 0 };
+    let other_leg = Question::link_repair(3, 0);
     assert_eq!(wrongly(Fault::MaintenanceNotThere, &network, &other_leg), refused(14, 0));
 }
 
@@ -121,12 +125,12 @@ fn extended_p_and_pairs_have_the_same_first_hops() {
     let network = maintenance_extended_p();
     let wrong = Fault::ExtendedPOfEveryNeighbour;
     assert_eq!(wrongly(wrong, &network, &EXTENDED_P), set(&[0, 2, 3, 4, 5]));
-    assert_eq!(wrongly(wrong, &network, &LINK_0_END_0), pair(2, 5, 3, 3));
+    assert_eq!(wrongly(wrong, &network, &link_0_end_0()), pair(2, 5, 3, 3));
     let wrong = Fault::PairsOfEveryNeighbour;
     assert_eq!(wrongly(wrong, &network, &EXTENDED_P), set(&[0, 2, 5]));
-    assert_eq!(wrongly(wrong, &network, &LINK_0_END_0), pair(3, 4, 3, 65_536));
+    assert_eq!(wrongly(wrong, &network, &link_0_end_0()), pair(3, 4, 3, 65_536));
     let network = maintenance_first_hops();
-    assert_eq!(wrongly(wrong, &network, &LINK_0_END_0), pair(2, 4, 3, 65_536));
+    assert_eq!(wrongly(wrong, &network, &link_0_end_0()), pair(2, 4, 3, 65_536));
 }
 
 /// All questions about each network made by hand: which of them each wrong
@@ -196,7 +200,9 @@ fn what_maintenance_changes() {
                 }
                 (Answer::Refused { number: 14, value: 0 }, Answer::Pair(_)) => fourteen += 1,
                 (Answer::Pair(now), Answer::Pair(before)) => {
-                    assert!(now.class >= before.class && now.first_hop != before.first_hop);
+                    let ranks = question.ranks().expect("a repair has ranks");
+                    let rank = |pair: &Pair| ranks[pair.class as usize];
+                    assert!(rank(now) >= rank(before) && now.first_hop != before.first_hop);
                     another += 1;
                 }
                 (Answer::Refused { number: 14, value: 0 }, Answer::Count(_)) => {}

@@ -144,11 +144,15 @@ extended-p 0 0 set 0
 q 0 0 set 2
 link-repair 0 0 refused 14 0
 prefix-repair 0 0 0 refused 14 0
+ranked-link-repair 0 0 refused 14 0
+ranked-prefix-repairs 0 0 0
 p 0 1 set 2
 extended-p 0 1 set 0
 q 0 1 set 1
 link-repair 0 1 refused 14 0
 prefix-repair 0 1 0 untouched
+ranked-link-repair 0 1 refused 14 0
+ranked-prefix-repairs 0 1 2
 p 1 0 refused 12 1
 extended-p 1 0 refused 12 1
 q 1 0 refused 12 1
@@ -160,16 +164,31 @@ q 0 2 refused 12 1
 link-repair 0 2 refused 12 1
 prefix-repair 0 2 0 refused 12 1
 prefix-repair 0 0 1 refused 13 1
+wrong-link-ranks 0 refused 15 0
+wrong-link-ranks 1 refused 15 0
+wrong-link-ranks 2 refused 15 0
+wrong-link-ranks 3 refused 15 0
+wrong-link-ranks 4 refused 15 0
+wrong-link-ranks 5 refused 15 0
+wrong-link-ranks 6 refused 15 0
+wrong-link-ranks 7 refused 15 0
+wrong-link-ranks 8 refused 15 0
+wrong-prefix-ranks 1 refused 15 0
 ";
     assert_eq!(prints("repairs", &write(&network)), expected);
 }
 
 #[test]
 fn the_section_of_repairs_for_one_router_and_for_a_refused_file() {
-    for (file, answer) in [(write(&lone_router()), " refused 12 0"), (vec![], " refused 1 0")] {
+    for (file, answer, ranked, of_ranks) in [
+        (write(&lone_router()), " refused 12 0", 10, " refused 15 0"),
+        (vec![], " refused 1 0", 1, " refused 1 0"),
+    ] {
         let text = prints("repairs", &file);
-        assert_eq!(text.lines().count(), 11);
-        assert!(text.lines().all(|line| line.ends_with(answer)), "{text}");
+        let lines: Vec<&str> = text.lines().collect();
+        assert_eq!(lines.len(), 11 + ranked);
+        assert!(lines[..11].iter().all(|line| line.ends_with(answer)), "{text}");
+        assert!(lines[11..].iter().all(|line| line.ends_with(of_ranks)), "{text}");
     }
 }
 
@@ -189,10 +208,22 @@ fn the_section_of_routes() {
         for string in 0..5 {
             expected += &format!("route {link_end} 0 {string} {answer} kept\n");
         }
+        expected += &format!("ranked-route {link_end} 0 3 {answer} kept\n");
     }
-    expected += "short-route 0 0 0 0 refused 11 6 kept\n";
+    expected += "\
+short-route 0 0 0 0 refused 11 6 kept
+short-route-and-ranks 0 0 0 0 refused 11 6 kept
+wrong-ranks 3 0 0 0 refused 15 0 kept
+kept
+";
     assert_eq!(text, expected);
-    assert_eq!(prints("routes", &[]), "short-route 0 0 0 0 refused 1 0 kept\n");
+    let expected = "\
+short-route 0 0 0 0 refused 1 0 kept
+short-route-and-ranks 0 0 0 0 refused 1 0 kept
+wrong-ranks 0 0 0 0 refused 1 0 kept
+kept
+";
+    assert_eq!(prints("routes", &[]), expected);
 }
 
 #[test]
@@ -201,14 +232,16 @@ fn the_section_of_routes_shows_bytes_that_are_not_kept() {
     let changed = |fault, file: &[u8]| {
         let section = Section::named("routes").expect("a section");
         let text = (section.lines)(&Context::with(&[fault]), file);
-        text.lines().filter(|line| line.ends_with(" changed")).count()
+        text.lines().filter(|line| line.ends_with("changed")).count()
     };
-    // Five times refusal 14, five times untouched, and once refusal 11.
-    assert_eq!(changed(Fault::NothingPlayedWrites, &file), 10);
-    assert_eq!(changed(Fault::RefusalTouchesBuffers, &file), 1);
+    // Six times refusal 14, and six times untouched.
+    assert_eq!(changed(Fault::NothingPlayedWrites, &file), 12);
+    // Twice refusal 11, and refusal 15, which tells of the work area too.
+    assert_eq!(changed(Fault::RefusalTouchesBuffers, &file), 4);
+    assert_eq!(changed(Fault::FifteenFills, &file), 1);
     assert_eq!(changed(Fault::LaterBytesTouched, &file), 0);
     let file = write(&ring(3).prefix(&[(1, 0)]));
-    assert_eq!(changed(Fault::LaterBytesTouched, &file), 10);
+    assert_eq!(changed(Fault::LaterBytesTouched, &file), 12);
 }
 
 #[test]
@@ -218,9 +251,12 @@ fn the_number_of_lines_of_each_network() {
         let network = load(&Context::sound(), &case.file).expect("accepted");
         let (links, prefixes) = (network.links.len(), network.prefixes.len());
         let (repairs, routes) = match case.name.as_str() {
-            "largest" => (128 * 2 * 5 + 11, 4 * 2 * 8 * 5 + 1),
-            "ring_64" | "line_64_costs_65535" => (links * 2 * 5 + 11, 4 * 2 * 2 * 5 + 1),
-            _ => (links * 2 * (4 + prefixes) + 11, links * 2 * prefixes * 5 + 1),
+            "largest" => (128 * 2 * 7 + 21, 4 * 2 * 8 * 6 + 4),
+            "ring_64" | "line_64_costs_65535" => (links * 2 * 7 + 21, 4 * 2 * 2 * 6 + 4),
+            _ => {
+                let sum = usize::from(prefixes > 0);
+                (links * 2 * (5 + prefixes + sum) + 21, links * 2 * prefixes * 6 + 4)
+            }
         };
         assert_eq!(prints("repairs", &case.file).lines().count(), repairs, "{}", case.name);
         assert_eq!(prints("routes", &case.file).lines().count(), routes, "{}", case.name);
@@ -314,6 +350,17 @@ fn lines_known_by_hand() {
         ("maintenance_extended_p", "repairs", "q 0 0 set 50"),
         ("maintenance_extended_p", "repairs", "link-repair 0 0 pair 2 5 3 3"),
         ("maintenance_extended_p", "repairs", "prefix-repair 0 0 0 pair 2 5 3 3"),
+        // Class 0 first, then with other ranks class 3, and for the prefix class 1:
+        // 3 + 2^8 * 3 + 2^16 * 3 + 2^24 + 2^32 * 3.
+        ("four_classes", "repairs", "link-repair 0 0 pair 2 2 0 3"),
+        ("four_classes", "repairs", "ranked-link-repair 0 0 pair 2 3 3 9"),
+        ("four_classes", "repairs", "prefix-repair 0 0 0 pair 2 2 0 3"),
+        ("four_classes", "repairs", "ranked-prefix-repairs 0 0 12901876483"),
+        ("four_classes", "routes", "route 0 0 0 3 count 3 route 0 2 1 kept"),
+        ("four_classes", "routes", "ranked-route 0 0 0 3 count 5 route 0 2 0 3 1 kept"),
+        // The ranks prefer class 3, but there is none: then 2, and then 0.
+        ("neighbours_only", "repairs", "ranked-link-repair 0 0 pair 2 2 0 1"),
+        ("ring_3_dear_link", "repairs", "ranked-link-repair 0 0 pair 2 2 0 1"),
         // From 4 on every step leads right or down, the lower number first.
         ("grid", "routes", "route 0 0 0 0 count 7 route 0 4 5 6 7 11 15 kept"),
         ("grid", "routes", "route 0 0 0 1 count 7 route 0 4 8 9 10 11 15 kept"),
@@ -346,15 +393,15 @@ fn what_plan_prints() {
 /// Faults that no section and no stored plan shows: none asks for what they
 /// change.
 const NOT_SHOWN: [Fault; 7] = [
-    // No section prints the work area after a repair call.
-    Fault::FilledBeforeQuestion,
+    // No section prints the work area after a repair call that is not refused.
     Fault::UntouchedLeavesWorkArea,
     Fault::FourteenLeavesWorkArea,
     // None asks for the size of a set.
     Fault::SizeOfComplement,
     Fault::SizeOf32Bits,
-    // The plan of ring 4 has a pair in every line.
+    // The plan of ring 4 has a pair in every line, and one class.
     Fault::PlanNoneOnce,
+    Fault::PlanDescending,
     // None lends a work area and a route buffer that are both too short.
     Fault::RowsSwapped(10),
 ];
@@ -384,7 +431,6 @@ fn the_sections_notice_every_fault_that_they_can_show() {
     for fault in Fault::all() {
         let ctx = Context::with(&[fault]);
         let noticed = sound.iter().any(|(lines, case, text)| lines(&ctx, &case.file) != *text);
-        let shown = !fault.never_seen() && !NOT_SHOWN.contains(&fault);
-        assert_eq!(noticed, shown, "{}", fault.name());
+        assert_eq!(noticed, !NOT_SHOWN.contains(&fault), "{}", fault.name());
     }
 }

@@ -2,10 +2,11 @@
 //! networks.
 
 use crate::brute::{Brute, FAR, Walk};
-use crate::common::{link_repair, prefix_repair, random_networks, refused, spaces};
-use oracle::answer::Answer;
+use crate::common::{ask_network, link_repair, prefix_repair, random_networks, refused, spaces};
+use oracle::answer::{Answer, Question};
 use oracle::fault::Context;
 use oracle::network::{Hop, Network};
+use oracle::ranks::{Arrangement, arrangements};
 use oracle::repair::Pair;
 use oracle::walk::Walks;
 use oracle::workings::Workings;
@@ -107,8 +108,11 @@ struct BruteTarget<'a> {
     distance: Box<dyn Fn(usize) -> u64 + 'a>,
 }
 
-/// The pair that document 01 puts first, by sorting all that serve.
-fn first_pair(brute: &Brute, s: usize, e: usize, target: &BruteTarget) -> Option<Pair> {
+/// A serving pair: its class, then the other keys in their order.
+type Serving = (u32, u64, usize, u64, usize);
+
+/// All pairs that serve.
+fn all_serving(brute: &Brute, s: usize, e: usize, target: &BruteTarget) -> Vec<Serving> {
     let mut serving = Vec::new();
     for n in brute.first_hops(s, e) {
         for y in (0..brute.routers).filter(|y| *y != s && *y != e) {
@@ -122,18 +126,23 @@ fn first_pair(brute: &Brute, s: usize, e: usize, target: &BruteTarget) -> Option
             }
         }
     }
-    serving.sort();
-    let (class, _, endpoint, cost, first_hop) = *serving.first()?;
-    let tunnel_cost = u32::try_from(cost).expect("a cost fits");
-    Some(Pair { first_hop, endpoint, class, tunnel_cost })
+    serving
 }
 
-fn pair_or_14(pair: Option<Pair>) -> Answer {
-    pair.map_or(refused(14, 0), Answer::Pair)
+/// The pair that the ranks put first, by sorting all that serve, or 14.
+fn first_pair(mut serving: Vec<Serving>, ranks: &Arrangement) -> Answer {
+    serving.sort_by_key(|(class, from_s, y, cost, n)| {
+        (ranks[*class as usize], *from_s, *y, *cost, *n)
+    });
+    let Some((class, _, endpoint, cost, first_hop)) = serving.first().copied() else {
+        return refused(14, 0);
+    };
+    let tunnel_cost = u32::try_from(cost).expect("a cost fits");
+    Answer::Pair(Pair { first_hop, endpoint, class, tunnel_cost })
 }
 
 #[test]
-fn repairs_are_the_first_pairs() {
+fn repairs_are_the_first_pairs_by_every_arrangement_of_ranks() {
     for network in random_networks(14, 6, 24) {
         let brute = Brute::new(&network);
         for (link, end, s, e) in link_ends(&network) {
@@ -141,21 +150,29 @@ fn repairs_are_the_first_pairs() {
                 walks: Box::new(|x| brute.walks_to_router(x, e)),
                 distance: Box::new(|x| brute.distance[x][e]),
             };
-            let expected = pair_or_14(first_pair(&brute, s, e, &far_end));
-            assert_eq!(link_repair(&network, link, end), expected);
+            let serving = all_serving(&brute, s, e, &far_end);
+            for ranks in arrangements() {
+                let question = Question::link_repair(link, end).with_ranks(&ranks);
+                let expected = first_pair(serving.clone(), &ranks);
+                assert_eq!(ask_network(&network, &question).answer, expected);
+            }
             for (prefix, number) in network.prefixes.iter().zip(0..) {
                 let to_prefix = BruteTarget {
                     walks: Box::new(|x| brute.walks_to_prefix(x, prefix)),
                     distance: Box::new(|x| brute.to_prefix(x, prefix)),
                 };
-                let expected = if brute.to_prefix(s, prefix) == FAR {
-                    Answer::Unreachable
-                } else if !Brute::touch(&brute.walks_to_prefix(s, prefix), s, e) {
-                    Answer::Untouched
-                } else {
-                    pair_or_14(first_pair(&brute, s, e, &to_prefix))
-                };
-                assert_eq!(prefix_repair(&network, link, end, number), expected);
+                let unreachable = brute.to_prefix(s, prefix) == FAR;
+                let touched = Brute::touch(&brute.walks_to_prefix(s, prefix), s, e);
+                let serving = all_serving(&brute, s, e, &to_prefix);
+                for ranks in arrangements() {
+                    let question = Question::prefix_repair(link, end, number).with_ranks(&ranks);
+                    let expected = match (unreachable, touched) {
+                        (true, _) => Answer::Unreachable,
+                        (_, false) => Answer::Untouched,
+                        _ => first_pair(serving.clone(), &ranks),
+                    };
+                    assert_eq!(ask_network(&network, &question).answer, expected);
+                }
             }
         }
     }

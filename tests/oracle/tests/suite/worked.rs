@@ -55,7 +55,7 @@ fn one_router_alone() {
             }
             assert_eq!(link_repair(&network, link, end), refused(12, 0));
             assert_eq!(prefix_repair(&network, link, end, 0), refused(12, 0));
-            let question = Question::Route { link, end, prefix: 0, choices: vec![] };
+            let question = Question::route(link, end, 0, &[]);
             assert_eq!(ask_network(&network, &question).answer, refused(12, 0));
         }
     }
@@ -65,7 +65,7 @@ fn one_router_alone() {
 fn one_router_alone_has_a_work_area_and_a_buffer_first() {
     let file = write(&lone_router());
     let ctx = Context::sound();
-    let question = Question::Route { link: 0, end: 0, prefix: 0, choices: vec![] };
+    let question = Question::route(0, 0, 0, &[]);
     assert_eq!(ask(&ctx, &file, &question, &marked(0, 0)).answer, refused(10, 1));
     assert_eq!(ask(&ctx, &file, &question, &marked(1, 1)).answer, refused(11, 2));
     assert_eq!(ask(&ctx, &file, &question, &marked(1, 2)).answer, refused(12, 0));

@@ -1,4 +1,4 @@
--- `repair::question::pose` meets its contract. The file part's answer decides rows 1 to 9, and the counts of its network rows 10 to 13; where
+-- `repair::question::pose` meets its contract. The file part's answer decides rows 1 to 9, and the counts of its network the other rows before 14; where
 -- none applies, the area is filled.
 -- Assumes nothing.
 use Prim.Native.Nat.{ℕ, _<_}
@@ -8,6 +8,7 @@ use native.Mathlib.Omega.{arith}
 use lib.ListN.{length}
 use Rattle.lfa.specs.File.{Bytes, byteAt}
 use Rattle.lfa.specs.Space.{Space}
+use Rattle.lfa.specs.Ranks.{isArrangement}
 use Rattle.lfa.specs.Question.{Question}
 use Rattle.lfa.specs.Answer.{earlyAnswer}
 use Rattle.rows.specs.Rows.{questionAbout}
@@ -30,7 +31,7 @@ file l = l .before .before .before .args .file .now
 abbrev area : tie.After-load → List ℕ
 area l = l .before .before .before .args .work .now
 
-abbrev asked : tie.After-load → Space → List ℕ → Question
+abbrev asked : tie.After-load → Space → (choices ranks : List ℕ) → Question
 asked l = questionAbout (file l) (length (area l)) (l .before .before .before .args .asked)
 
 bytes : (l : tie.After-load) (i : ℕ) → byteAt (file l) i < 256
@@ -42,9 +43,9 @@ enum-known-verdict c = search needs
 
 returns : tie.Need-returns
 unfolding areaPosed questionAbout
-returns c = λ s choices.
+returns c = λ s choices ranks good.
     let l = c .before .before .before .before in
-    record { cells-are = refl; limit-is = refl; turned-is = fault-early (asked l s choices) _ (l .load .ensures) _ (c .before .verdict .given .1); network-is = l .load .ensures .1; area-is = refl }
+    record { cells-are = refl; limit-is = refl; turned-is = fault-early (asked l s choices ranks) _ (l .load .ensures) _ (c .before .verdict .given .1); network-is = l .load .ensures .1; area-is = refl }
 
 enum-told : tie.Need-enum-told
 enum-told c = search needs
@@ -64,12 +65,13 @@ turned-by-requires : tie.Need-turned-by-requires
 turned-by-requires c κs = search needs
 
 -- what turns the question away
-turned-is : (c : tie.After-turned-by) (s : Space) (choices : List ℕ) → turnedAnswer (c .turned-by .result) ≡ earlyAnswer (asked (c .before .before .before .before .before .before) s choices)
+turned-is : (c : tie.After-turned-by) (s : Space) (choices ranks : List ℕ) → isArrangement ranks ≡ c .before .before .before .before .before .before .before .before .before .args .asked .ranked →
+    turnedAnswer (c .turned-by .result) ≡ earlyAnswer (asked (c .before .before .before .before .before .before) s choices ranks)
 unfolding questionAbout
-turned-is c s choices =
+turned-is c s choices ranks good =
     let told = c .before .before .before in
     let l = told .before .before .before in
-    row-early (asked l s choices) _ (l .load .ensures) (told .enum-told .given .1) (took told) _ (c .before .before .narrow .ensures) _ (c .before .first-row .ensures _ s choices) _ (c .turned-by .ensures)
+    row-early (asked l s choices ranks) _ (l .load .ensures) (told .enum-told .given .1) (took told) _ (c .before .before .narrow .ensures) _ (c .before .first-row .ensures _ s choices ranks good) _ (c .turned-by .ensures)
 
 enum-told-2 : tie.Need-enum-told-2
 enum-told-2 c = search needs
@@ -85,24 +87,24 @@ same-length c = search needs
 
 returns-2 : tie.Need-returns-2
 unfolding questionAbout
-returns-2 c = λ s choices.
+returns-2 c = λ s choices ranks good.
     let t = c .before .before .before .before .before .before .before .before .before .before .before in
     let told = t .before .before .before in
     let l = told .before .before .before in
     record {
       cells-are = refl;
       limit-is = refl;
-      turned-is = turned-is t s choices;
+      turned-is = turned-is t s choices ranks good;
       network-is = l .load .ensures .1;
-      area-is = filled-posed (asked l s choices) (area l) (has-area (l .before .before .before .args .asked .call) s) refl (c .before .before .before .before .before .before .before .before .before .enum-told2 .given .1) (turned-is t s choices) (bytes l) (took told) (c .before .before .fill .ensures);
+      area-is = filled-posed (asked l s choices ranks) (area l) (has-area (l .before .before .before .args .asked .call) s) refl (c .before .before .before .before .before .before .before .before .before .enum-told2 .given .1) (turned-is t s choices ranks good) (bytes l) (took told) (c .before .before .fill .ensures);
     }
 
 returns-3 : tie.Need-returns-3
 unfolding questionAbout
-returns-3 c = λ s choices.
+returns-3 c = λ s choices ranks good.
     let t = c .before .before in
     let l = t .before .before .before .before .before .before in
-    record { cells-are = refl; limit-is = refl; turned-is = turned-is t s choices; network-is = l .load .ensures .1; area-is = lent-posed _ _ (c .enum-told3 .given .1) }
+    record { cells-are = refl; limit-is = refl; turned-is = turned-is t s choices ranks good; network-is = l .load .ensures .1; area-is = lent-posed _ _ (c .enum-told3 .given .1) }
 
 pub pose-spec : {M : Type 1} → statement M
 pose-spec =

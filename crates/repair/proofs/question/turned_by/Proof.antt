@@ -24,6 +24,9 @@ enum-known-row-4 c = search needs
 enum-told : tie.Need-enum-told
 enum-told c = search needs
 
+enum-told-2 : tie.Need-enum-told-2
+enum-told-2 c = search needs
+
 returns : tie.Need-returns
 unfolding rowDecided inEarly rowOf turnedRow
 returns c = sym (ap (λ (r : Row). inEarly (rowDecided r)) (c .before .row .given .1))
@@ -44,6 +47,10 @@ returns-5 : tie.Need-returns-5
 unfolding rowDecided inEarly rowOf turnedRow
 returns-5 c = sym (ap (λ (r : Row). inEarly (rowDecided r)) (c .enum-told .given .1))
 
+returns-6 : tie.Need-returns-6
+unfolding rowDecided inEarly rowOf turnedRow
+returns-6 c = sym (ap (λ (r : Row). inEarly (rowDecided r)) (c .enum-told2 .given .1))
+
 pub turned-by-spec : {M : Type 1} → statement M
 turned-by-spec =
     tie.close
@@ -53,8 +60,10 @@ turned-by-spec =
     enum-known-row-3
     enum-known-row-4
     enum-told
+    enum-told-2
     returns
     returns-2
     returns-3
     returns-4
-    returns-5)
+    returns-5
+    returns-6)

@@ -32,9 +32,9 @@ returns-2 : tie.Need-returns-2
 unfolding linkIf
 returns-2 c =
     let e = c .before .before .before in
-    let a = e .before .before .before .args in
+    let a = e .before .before .before .before .args in
     let passes = sym (e .before .can-search .ensures) ∙ not-false _ (e .if1 .left) in
-    let found = c .pair-found .ensures ∙ ap (λ (l : List ℕ). pairFor (a .n) (arcsIn (a .from .now) (a .to .now) (a .out .now) (a .back .now) (a .links)) (asked (a .protected)) (a .dist .now) l) (c .before .before .towards-router .ensures) in
+    let found = c .pair-found .ensures ∙ ap (λ (l : List ℕ). pairFor (a .ranks .now) (a .n) (arcsIn (a .from .now) (a .to .now) (a .out .now) (a .back .now) (a .links)) (asked (a .protected)) (a .dist .now) l) (c .before .before .towards-router .ensures) in
     rw passes found
 
 pub link-found-spec : {M : Type 1} → statement M

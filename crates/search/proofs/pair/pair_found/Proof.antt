@@ -25,12 +25,12 @@ enum-told : tie.Need-enum-told
 enum-told c = search needs
 
 -- what the first pair tells
-outcome : (c : tie.After-first-pair) → let a = c .before .before .before .args in
-    outcomeFor (earliestIn (c .first-pair .result)) ≡ pairFor (a .n) (arcsIn (a .from .now) (a .to .now) (a .out .now) (a .back .now) (a .links)) (asked (a .protected)) (a .dist .now) (a .target .now)
+outcome : (c : tie.After-first-pair) → let a = c .before .before .before .before .args in
+    outcomeFor (earliestIn (c .first-pair .result)) ≡ pairFor (a .ranks .now) (a .n) (arcsIn (a .from .now) (a .to .now) (a .out .now) (a .back .now) (a .links)) (asked (a .protected)) (a .dist .now) (a .target .now)
 unfolding pairFor
 outcome c =
-    let a = c .before .before .before .args in
-    ap outcomeFor (c .first-pair .ensures ∙ ap (λ (set : ℕ). firstServing (a .n) (arcsIn (a .from .now) (a .to .now) (a .out .now) (a .back .now) (a .links)) (asked (a .protected)) (a .dist .now) (a .target .now) set) (c .before .avoiding-to .ensures))
+    let a = c .before .before .before .before .args in
+    ap outcomeFor (c .first-pair .ensures ∙ ap (λ (set : ℕ). firstServing (a .ranks .now) (a .n) (arcsIn (a .from .now) (a .to .now) (a .out .now) (a .back .now) (a .links)) (asked (a .protected)) (a .dist .now) (a .target .now) set) (c .before .avoiding-to .ensures))
 
 returns : tie.Need-returns
 returns c = nothing-outcome (c .before .before .first-pair .result) (c .before .match .keys2) (outcome (c .before .before))

@@ -20,6 +20,9 @@ element-copy-out-class-of-2 c = search needs
 class-of-requires : tie.Need-class-of-requires
 class-of-requires c κs = search needs
 
+rank-of-requires : tie.Need-rank-of-requires
+rank-of-requires c κs = search needs
+
 cell-requires : tie.Need-cell-requires
 cell-requires c κs = search needs
 
@@ -31,7 +34,7 @@ add-requires c κs = search needs
 
 returns : tie.Need-returns
 unfolding orderedAt
-returns c = rw (c .add .ensures, c .before .cell2 .ensures, c .before .before .cell .ensures, c .before .before .before .class-of .ensures)
+returns c = rw (c .add .ensures, c .before .cell2 .ensures, c .before .before .cell .ensures, c .before .before .before .rank-of .ensures, c .before .before .before .before .class-of .ensures)
 
 pub pair-of-spec : {M : Type 1} → statement M
 pair-of-spec =
@@ -42,6 +45,7 @@ pair-of-spec =
     mul-class-of-2
     element-copy-out-class-of-2
     class-of-requires
+    rank-of-requires
     cell-requires
     cell-requires-2
     add-requires

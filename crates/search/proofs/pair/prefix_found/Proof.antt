@@ -20,7 +20,7 @@ unfolding prefixIf
 returns c = rw (sym (c .before .can-search .ensures) ∙ not-true _ (c .if1 .taken))
 
 -- the question is searched for
-passes : (c : tie.Else1) → let a = c .before .before .before .args in searchable (a .n) (a .links) (asked (a .protected)) (length (a .dist .now)) ≡ true
+passes : (c : tie.Else1) → let a = c .before .before .before .before .args in searchable (a .n) (a .links) (asked (a .protected)) (length (a .dist .now)) ≡ true
 passes c = sym (c .before .can-search .ensures) ∙ not-false _ (c .if1 .left)
 
 mul-if2 : tie.Need-mul-if2

@@ -14,13 +14,13 @@ use Rattle.search.proofs.pair.search.Statement.{statement}
 use Rattle.search.proofs.pair.search.Tie as tie
 
 abbrev Inv-loop : tie.InvT-loop
-Inv-loop dist n from to out back protected target mask hops near far best₀ i₀ best i = (i ≤ hops .count) × (earliestIn best ≡ firstOf none (pairsTried n (asked protected) dist target mask (hopsIn from to out back i (hops .arcs))))
+Inv-loop ranks dist n from to out back protected target mask hops near far best₀ i₀ best i = (i ≤ hops .count) × (earliestIn best ≡ firstOf none (pairsTried ranks n (asked protected) dist target mask (hopsIn from to out back i (hops .arcs))))
 
 abbrev μ-loop : tie.MeasureT-loop
-μ-loop dist n from to out back protected target mask hops near far best₀ i₀ best i = hops .count - i
+μ-loop ranks dist n from to out back protected target mask hops near far best₀ i₀ best i = hops .count - i
 
 loop-holds : tie.Need-loop-holds Inv-loop μ-loop
-loop-holds c = (omega arith, none-tried _ _ _ _ _ _ _ _ _ _)
+loop-holds c = (omega arith, none-tried _ _ _ _ _ _ _ _ _ _ _)
 
 element-copy-out-hop-of : tie.Need-element-copy-out-hop-of Inv-loop μ-loop
 element-copy-out-hop-of c = search needs
@@ -43,18 +43,18 @@ loop-less c = search needs
 loop-again : tie.Need-loop-again Inv-loop μ-loop
 loop-again c =
     let at-loop = c .before .before .before .before .before in
-    let a = at-loop .before .before .args in (
+    let a = at-loop .before .before .before .args in (
       omega arith,
-      hop-tried (a .n) (asked (a .protected)) (a .dist .now) (a .target .now) (a .mask) (a .from .now) (a .to .now) (a .out .now) (a .back .now) (a .t9 .arcs) (at-loop .loop .i)
+      hop-tried (a .ranks .now) (a .n) (asked (a .protected)) (a .dist .now) (a .target .now) (a .mask) (a .from .now) (a .to .now) (a .out .now) (a .back .now) (a .t10 .arcs) (at-loop .loop .i)
           (at-loop .loop .inv .1) (c .before .before .hop-of .ensures) (c .before .avoiding-from .ensures) (c .over-hop .ensures),
     )
 
 returns : tie.Need-returns Inv-loop μ-loop
 returns c =
-    let a = c .before .before .before .args in
-    let e : c .before .loop .i ≡ a .t9 .count = omega arith in
+    let a = c .before .before .before .before .args in
+    let e : c .before .loop .i ≡ a .t10 .count = omega arith in
     c .before .loop .inv .1
-    ∙ ap (λ (k : ℕ). firstOf none (pairsTried (a .n) (asked (a .protected)) (a .dist .now) (a .target .now) (a .mask) (hopsIn (a .from .now) (a .to .now) (a .out .now) (a .back .now) k (a .t9 .arcs)))) e
+    ∙ ap (λ (k : ℕ). firstOf none (pairsTried (a .ranks .now) (a .n) (asked (a .protected)) (a .dist .now) (a .target .now) (a .mask) (hopsIn (a .from .now) (a .to .now) (a .out .now) (a .back .now) k (a .t10 .arcs)))) e
 
 pub search-spec : {M : Type 1} → statement M
 search-spec =

@@ -6,10 +6,10 @@ use Rattle.stored_answers.proofs.repairs.check_sum.Statement.{statement
 use Rattle.stored_answers.proofs.repairs.check_sum.Tie as tie
 
 abbrev Inv-loop : tie.InvT-loop
-Inv-loop file link side prefixes sum₀ prefix₀ sum prefix = prefix ≤ prefixes
+Inv-loop file ranks link side prefixes sum₀ prefix₀ sum prefix = prefix ≤ prefixes
 
 abbrev μ-loop : tie.MeasureT-loop
-μ-loop file link side prefixes sum₀ prefix₀ sum prefix = prefixes - prefix
+μ-loop file ranks link side prefixes sum₀ prefix₀ sum prefix = prefixes - prefix
 
 loop-holds : tie.Need-loop-holds Inv-loop μ-loop
 loop-holds c = search needs

@@ -6,9 +6,6 @@ use borrow.Author.Needs.{needs}
 use Rattle.stored_buffers.proofs.routes.print_short.Statement.{statement}
 use Rattle.stored_buffers.proofs.routes.print_short.Tie as tie
 
-slice-aggregate-write-all : tie.Need-slice-aggregate-write-all
-slice-aggregate-write-all c = search needs
-
 write-all-requires : tie.Need-write-all-requires
 write-all-requires c κs = search needs
 
@@ -40,7 +37,6 @@ pub print-short-spec : {M : Type 1} → statement M
 print-short-spec =
     tie.close
     (tie.spec
-    slice-aggregate-write-all
     write-all-requires
     print-question-requires
     too-few-requires

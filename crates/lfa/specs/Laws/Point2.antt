@@ -1,0 +1,184 @@
+-- Point 2 holds: who gets a repair does not depend on the ranks, and ascending ranks give the order of document 01.
+-- Assumes nothing.
+use Prim.Native.Nat.{ℕ}
+use mathlib.Core.Path.{_≡_, refl, sym, ap, ap₂, _∙_, subst}
+use mathlib.Core.Bool.{true}
+use mathlib.Core.Option.{Option, none, some}
+use mathlib.Core.List.{List}
+use native.Mathlib.Omega.{arith}
+use lib.ListN.{getD}
+use Rattle.lfa.specs.Lists.{memberOf, anyOf}
+use Rattle.lfa.specs.Network.{Target}
+use Rattle.lfa.specs.Ranks.{rankOf, Arrangement, ascending, isArrangement}
+use Rattle.lfa.specs.Repair.{Pair, HasClass, Told, Keys, keysAt, key}
+use Rattle.lfa.specs.Question.{Question, Call, load, fill, space, linkRepair, prefixRepair, route, askLink, askPrefix, askRoute, withRanks, Buffer, workArea, routeBuffer, aRankTable, lent, HasInput, inputsOf, inputNumber, hasInput, networkAsked, linkAsked, withDistances}
+use Rattle.lfa.specs.Refusal.{badLength, badCheck, badHead, badBlockCount, badBlock, badLink, parallelLink, badPrefix, routerTwice, shortArea, shortBuffer, badRanks, noSuchLink, noSuchPrefix, Row, ofFile, early, noPair, Decided, Decides, leavesAll, fileNumber, entryOf, returned, tries, allRows, rowsTried, refusalOf, Posed}
+use Rattle.lfa.specs.Answer.{Answer, refused, refusal, computed, answerTo, writtenTo, leave, exitBy, exitOf}
+use Rattle.lfa.specs.Demands.{D, keysByClass, keys, IsFirst, IsRepair, TellsOf, RepairedBy, Repaired, Demand3By, Demand3, SameReply, RanksLent, SameKind, one-answer, Point2}
+use Rattle.lfa.specs.Laws.Ranks.{arrangement-make, ascending-rank}
+use Rattle.lfa.specs.Laws.Order.{first-both}
+use Rattle.lfa.specs.Laws.Repair.{class-once, class-few}
+use Rattle.lfa.specs.Laws.Rows.{same-decides}
+use Rattle.lfa.specs.Laws.Answers.{refusal-stated, row-leaves}
+use Rattle.lfa.specs.Laws.Replies.{has-buffer}
+use Rattle.lfa.specs.Laws.SameKind.{computed-alike, returned-alike}
+
+module _ (q : Question) (ranks : List ℕ) where
+  abbrev other : Question
+  other = withRanks ranks q
+
+  -- the same row decides, where row 15 is not tried or judges both tables alike
+  refusal-alike : (HasInput q aRankTable → isArrangement (q .ranks) ≡ isArrangement ranks) → refusalOf q ≡ refusalOf other
+  unfolding refusalOf rowsTried tries entryOf withRanks
+  refusal-alike same = same-decides (returned q) (returned other) (tries (q .call)) allRows (λ r m t. returned-alike q ranks r (λ e. same (ap (tries (q .call)) (sym e) ∙ t)))
+
+  work-alike : refusalOf q ≡ refusalOf other → (area : List ℕ) → exitOf q workArea area ≡ exitOf other workArea area
+  unfolding exitOf writtenTo networkAsked withRanks
+  work-alike same area = ap (λ (o : Option (Decided Row)). exitBy o workArea area (writtenTo q workArea area)) same
+
+  -- ---- two arrangements
+
+  module _ (a : Arrangement (q .ranks)) (b : Arrangement ranks) where
+    both-pass : refusalOf q ≡ refusalOf other
+    both-pass = refusal-alike (λ h. arrangement-make (q .ranks) a ∙ sym (arrangement-make ranks b))
+
+    -- The same row turns both questions away, or none does, and then what is computed is of one kind.
+    same-who : SameKind (answerTo q) (answerTo other)
+    unfolding answerTo withRanks
+    same-who = rw (← both-pass, answerTo) (go (refusalOf q))
+      where
+        go : (o : Option (Decided Row)) → SameKind (elim o as (λ _. Answer) [ some r ↦ refusal r | none ↦ computed q (q .call) ]) (elim o as (λ _. Answer) [ some r ↦ refusal r | none ↦ computed other (q .call) ])
+        go (some r) = one-answer refl
+        go none = computed-alike q ranks (q .call)
+
+  -- ---- calls that take no table
+
+  module _ (no : HasInput q aRankTable → ⊥) where
+    computed-same : (c : Call) → (hasInput c aRankTable ≡ true → ⊥) → computed q c ≡ computed other c
+    unfolding computed withDistances networkAsked linkAsked withRanks hasInput inputsOf inputNumber memberOf anyOf
+    computed-same load n = refl
+    computed-same fill n = refl
+    computed-same (space s) n = refl
+    computed-same linkRepair n = absurd (n refl)
+    computed-same prefixRepair n = absurd (n refl)
+    computed-same route n = absurd (n refl)
+
+    route-takes : (c : Call) → c ≡ route → hasInput c aRankTable ≡ true
+    unfolding hasInput inputsOf inputNumber memberOf anyOf
+    route-takes c e = ap (λ c. hasInput c aRankTable) e
+
+    no-row : refusalOf q ≡ refusalOf other
+    no-row = refusal-alike (λ h. absurd (no h))
+
+    none-taken : SameReply q other
+    unfolding answerTo withRanks
+    none-taken = record {
+      answer = ap₂ (λ (o : Option (Decided Row)) (a : Answer). elim o [ some r ↦ refusal r | none ↦ a ]) no-row (computed-same (q .call) no);
+      exit = exit;
+    }
+      where
+        exit : (x : Buffer) → HasInput q (lent x) → (before : List ℕ) → exitOf q x before ≡ exitOf other x before
+        exit workArea h before = work-alike no-row before
+        exit routeBuffer h before = absurd (no (route-takes (q .call) (has-buffer (q .call) h)))
+
+-- ---- row 15
+
+module _ (q : Question) where
+  -- only one row has its number
+  row-15 : (r : Row) → entryOf r .number ≡ 15 → r ≡ early badRanks
+  unfolding entryOf fileNumber
+  row-15 (ofFile badLength) e = absurd (omega arith)
+  row-15 (ofFile badCheck) e = absurd (omega arith)
+  row-15 (ofFile badHead) e = absurd (omega arith)
+  row-15 (ofFile badBlockCount) e = absurd (omega arith)
+  row-15 (ofFile badBlock) e = absurd (omega arith)
+  row-15 (ofFile badLink) e = absurd (omega arith)
+  row-15 (ofFile parallelLink) e = absurd (omega arith)
+  row-15 (ofFile badPrefix) e = absurd (omega arith)
+  row-15 (ofFile routerTwice) e = absurd (omega arith)
+  row-15 (early shortArea) e = absurd (omega arith)
+  row-15 (early shortBuffer) e = absurd (omega arith)
+  row-15 (early badRanks) e = refl
+  row-15 (early noSuchLink) e = absurd (omega arith)
+  row-15 (early noSuchPrefix) e = absurd (omega arith)
+  row-15 noPair e = absurd (omega arith)
+
+  writes-nothing : (v : ℕ) → answerTo q ≡ refused 15 v → (v ≡ 0) × ((x : Buffer) → HasInput q (lent x) → (before : List ℕ) → exitOf q x before ≡ before)
+  unfolding entryOf leavesAll leave
+  writes-nothing v e =
+      let s = refusal-stated q 15 v e in
+      let decides = subst (λ (r : Row). Decides q r v) (row-15 (s .0) (s .1)) (s .2) in
+      (decides .applies .1, λ x h before. row-leaves q (early badRanks) v decides x before)
+
+-- ---- ascending ranks
+
+module _ (q : Question) (e : q .ranks ≡ ascending) where
+  -- the keys are those of document 01, since the rank of a class is the class
+  keys-same : {to : Target} {p : Pair} {t : Told} → TellsOf q to p t → keys q t ≡ keysByClass q t
+  keys-same {t = t} tells =
+      ap (λ (r : ℕ). keysAt r (D q) (linkAsked q) t) (ap (λ (l : List ℕ). rankOf l (t .class)) e ∙ ascending-rank (t .class) (class-few (tells .class-is)))
+
+  first-by-class : {to : Target} {t : Told} → IsRepair q to t → IsFirst q (keysByClass q) to t
+  first-by-class f = record {
+    pair = f .pair;
+    candidate = f .candidate;
+    tells = f .tells;
+    has-this = f .has-this;
+    earliest = λ p u is told h. rw (keys-same (f .tells), keys-same told) at (f .earliest p u is told h);
+  }
+
+  repaired-by-class : {to : Target} {answer : Answer} → Repaired q to answer → RepairedBy q (keysByClass q) to answer
+  repaired-by-class r = record { repair-or-14 = r .repair-or-14; is-repair = λ t a. first-by-class (r .is-repair t a); exactly = r .exactly }
+
+  as-before : {answer : Answer} → Demand3 q answer → Demand3By q (keysByClass q) answer
+  as-before d = record {
+    prefix-repaired = λ c may. repaired-by-class (d .prefix-repaired c may);
+    link-repaired = λ c. repaired-by-class (d .link-repaired c);
+    link-has-this = d .link-has-this;
+  }
+
+-- ---- only one is first
+
+module _ (q : Question) (rank : Told → ℕ) (to : Target) where
+  abbrev ranked : Told → Keys
+  ranked t = keysAt (rank t) (D q) (linkAsked q) t
+
+  -- Neither of two comes before the other, so that they have the same keys; the first hop, the endpoint and the cost are among them, and
+  -- the class is that of the first hop and the endpoint.
+  only-one : (t u : Told) → IsFirst q ranked to t → IsFirst q ranked to u → t ≡ u
+  unfolding key
+  only-one t u f g =
+      let e = first-both (ranked t) (ranked u) (f .earliest (g .pair) u (g .candidate) (g .tells) (g .has-this)) (g .earliest (f .pair) t (f .candidate) (f .tells) (f .has-this)) in
+      let firsts : t .first ≡ u .first = ap (λ (l : List ℕ). getD l 4 0) e in
+      let endpoints : t .endpoint ≡ u .endpoint = ap (λ (l : List ℕ). getD l 2 0) e in
+      let costs : t .cost ≡ u .cost = ap (λ (l : List ℕ). getD l 3 0) e in
+      let class-t : HasClass (D q) (linkAsked q) to (t .first) (t .endpoint) (t .class) = rw (f .tells .first-is, f .tells .endpoint-is) (f .tells .class-is) in
+      let class-u : HasClass (D q) (linkAsked q) to (t .first) (t .endpoint) (u .class) = rw (firsts, endpoints, g .tells .first-is, g .tells .endpoint-is) (g .tells .class-is) in
+      let pair : Pair = record { hop = record { router = t .first; cost = 0; over = 0 }; endpoint = t .endpoint } in
+      let classes : t .class ≡ u .class = class-once pair class-t ∙ sym (class-once pair class-u) in
+      let same : record { first = t .first; endpoint = t .endpoint; class = t .class; cost = t .cost } ≡ u = rw (firsts, endpoints, classes, costs) in
+      same
+
+-- ---- the Point
+
+pub ranks-lent : RanksLent
+unfolding askLink askPrefix askRoute withRanks
+ranks-lent = record {
+  link = λ b area l e ranks. refl;
+  link-other = λ b area l e ranks others. refl;
+  prefix = λ b area l e p ranks. refl;
+  prefix-other = λ b area l e p ranks others. refl;
+  route = λ b area buffer l e p ranks choices. refl;
+  route-other = λ b area buffer l e p ranks others choices. refl;
+}
+
+pub point-2 : (q : Question) → (Posed q → Demand3 q (answerTo q)) → Point2 q
+point-2 q demand-3 = record {
+  same-who = λ a ranks b. same-who q ranks a b;
+  same-work = λ a ranks b h area. work-alike q ranks (both-pass q ranks a b) area;
+  writes-nothing = writes-nothing q;
+  as-before = λ e p. as-before q e (demand-3 p);
+  one-by-class = only-one q (λ t. t .class);
+  one-by-rank = only-one q (λ t. rankOf (q .ranks) (t .class));
+  none-taken = λ no ranks. none-taken q ranks no;
+}
