@@ -13,6 +13,5 @@ pub mod Causes
 pub mod Refusal
 pub mod Answer
 pub mod Contract
-pub mod HandWorked
 pub mod Demands
 pub mod Laws
