@@ -33,6 +33,19 @@ pub fn measure(rounds: usize, mut planner: impl FnMut(), mut baseline: impl FnMu
     Times { planner, baseline }
 }
 
+/// Nanoseconds for one call of each of some kinds, in the same way: their
+/// samples take turns, and each time is a median.
+pub fn measure_each(rounds: usize, calls: &mut [Box<dyn FnMut() + '_>]) -> Vec<f64> {
+    let counts: Vec<u32> = calls.iter_mut().map(calls_in_sample).collect();
+    let mut samples = vec![Vec::new(); calls.len()];
+    for _ in 0..rounds {
+        for ((call, count), samples) in calls.iter_mut().zip(&counts).zip(&mut samples) {
+            samples.push(sample(*count, call));
+        }
+    }
+    samples.into_iter().map(median).collect()
+}
+
 /// How many calls make a sample that is long enough.
 fn calls_in_sample(call: &mut impl FnMut()) -> u32 {
     let mut calls = 1;

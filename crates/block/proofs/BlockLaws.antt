@@ -1,41 +1,13 @@
--- Laws of one block: the sum of its words, one step of the loop at a time; its label, its entries, and the test of row 5.
+-- Laws of one block: its label, its entries, and the test of row 5.
 -- Assumes nothing.
-use Prim.Native.Nat.{ℕ, zero, suc, _+_, _-_, _*_, _%_, _≤_, _<_}
-use mathlib.Core.Path.{_≡_, refl, ap, _∙_}
+use Prim.Native.Nat.{ℕ, _+_, _-_, _*_, _≤_, _<_}
+use mathlib.Core.Path.{_≡_, _∙_}
 use mathlib.Core.Bool.{Bool, true, false}
 use lib.Dec.{leb}
-use mathlib.Core.List.{[], _∷_}
 use native.Mathlib.Omega.{arith}
-use native.Mathlib.Nat.{mod-add-mod}
-use native.Mathlib.Numerals.{add-one}
 use borrow.Author.Tests.{le-leb, lt-leb}
-use Rattle.lfa.specs.File.{Bytes, byteAt, wordAt, partOf, allZero, sumWords, blockOf, linkBlocks, entriesIn, laterGood, soundBlock, blockGood, linksOf, prefixesOf}
+use Rattle.lfa.specs.File.{Bytes, partOf, allZero, blockOf, linkBlocks, entriesIn, laterGood, soundBlock, blockGood, linksOf, prefixesOf}
 use Rattle.block.specs.Head.{labelGood}
-
--- ---- the check
-
-sum-suc : (n : ℕ) (b : Bytes) → sumWords (suc n) b ≡ sumWords n b + wordAt b (2 * n)
-unfolding sumWords wordAt byteAt
-sum-suc zero [] = refl
-sum-suc zero (x ∷ []) = omega arith
-sum-suc zero (x ∷ y ∷ b) = omega arith
-sum-suc (suc n) [] = refl
-sum-suc (suc n) (x ∷ []) =
-    let e : 2 * suc n ≡ suc (suc (2 * n)) = omega arith in
-    let e′ : 2 * suc n + 1 ≡ suc (suc (2 * n + 1)) = omega arith in
-    rw (e′, e) (omega arith)
-sum-suc (suc n) (x ∷ y ∷ b) =
-    let e : 2 * suc n ≡ suc (suc (2 * n)) = omega arith in
-    let e′ : 2 * suc n + 1 ≡ suc (suc (2 * n + 1)) = omega arith in
-    rw (e′, e) (omega (arith, sum-suc n b))
-
--- One word more: the definition takes the words off the front of the list, the loop adds them by their number.
-pub sum-more : (n : ℕ) (b : Bytes) → sumWords (n + 1) b ≡ sumWords n b + wordAt b (2 * n)
-sum-more n b = ap (λ k. sumWords k b) (add-one n) ∙ sum-suc n b
-
--- the same for the sum modulo 65,536, to which a wrapping add adds
-pub check-more : (n : ℕ) (b : Bytes) (sum word : ℕ) → sum ≡ sumWords n b % 65536 → word ≡ wordAt b (2 * n) → (sum + word) % 65536 ≡ sumWords (n + 1) b % 65536
-check-more n b sum word e f = rw (e, f, sum-more) (mod-add-mod (sumWords n b) 65536 (wordAt b (2 * n)))
 
 -- ---- one block of a file, and its entries
 

@@ -1,11 +1,11 @@
 // Row 2: the check that every block ends with.
+use block_check::check_of;
 use field::word_at;
-use field::word_of;
 ghost use mathlib.Core.Path.{_≡_};
 ghost use Prim.Native.Nat.{_+_, _*_, _≤_};
 ghost use lib.ListN.{length};
 ghost use Rattle.lfa.specs.Lists.{firstFailing};
-ghost use Rattle.lfa.specs.File.{blockOf, checkOf, checkGood};
+ghost use Rattle.lfa.specs.File.{blockOf, checkGood};
 ghost use Rattle.block.specs.First.{firstOr};
 
 // Block i.
@@ -16,21 +16,6 @@ pub(crate) fn block_at(file: &[u8], i: usize) -> &[u8]
     let start = 512 * i;
     let end = start + 512;
     &file[start..end]
-}
-
-// The check of a block: the sum of its first 255 words, kept as a u16 by wrapping adds.
-fn check_of(block: &[u8]) -> u16
-    requires { ⌜ length (now block) ≡ 512 ⌝ }
-    ensures { λ r. ⌜ r ≡ checkOf (now (block .entry)) ⌝ }
-{
-    let mut sum: u16 = 0;
-    let mut i: usize = 0;
-    while i < 255 {
-        let at = 2 * i;
-        sum = std::num::wrapping_add_u16(sum, word_of(block[at], block[at + 1]));
-        i += 1;
-    }
-    sum
 }
 
 // Whether block i holds its own check.

@@ -95,6 +95,12 @@ faults! {
     // The reader.
     CheckOver254Words: "the check leaves out the last of the 255 words",
     CheckOf8Bits: "the check is compared in its lower byte only",
+    CheckOver62Numbers: "the check leaves out the last of the 63 numbers of eight bytes",
+    CheckWithoutLeftOver: "the check leaves out the six bytes after the numbers of eight bytes",
+    CheckOfTwoLanes: "the check leaves out the upper two words of every number of eight bytes",
+    CheckMostByteFirst: "the check adds up words that are read most byte first",
+    CheckCarriesOver: "the check adds up numbers of eight bytes whole, so that a word carries into the next",
+    CheckCarryAddedBack: "the check adds a carry back in, as a sum modulo 65,535 does",
     FieldsMostByteFirst: "costs are read most byte first",
     NumberAndValueSwapped: "a refusal's number and value change places",
     BlocksPresentReturned: "row 4 returns the number of blocks present",
@@ -206,6 +212,17 @@ impl Fault {
         Fault::MaintenanceNotThere,
         Fault::ExtendedPOfEveryNeighbour,
         Fault::PairsOfEveryNeighbour,
+    ];
+
+    /// The ways to add the check up wrongly.
+    pub const OF_CHECK: [Fault; 7] = [
+        Fault::CheckOver254Words,
+        Fault::CheckOver62Numbers,
+        Fault::CheckWithoutLeftOver,
+        Fault::CheckOfTwoLanes,
+        Fault::CheckMostByteFirst,
+        Fault::CheckCarriesOver,
+        Fault::CheckCarryAddedBack,
     ];
 
     /// The ways to take ranks wrongly.

@@ -1,6 +1,7 @@
 pub mod Passes
 pub mod RowFacts
 pub mod Parts
+pub mod Sum
 pub mod Within
 pub mod Blocks
 pub mod ReadBack

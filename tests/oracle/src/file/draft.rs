@@ -1,6 +1,8 @@
 //! The writer: network files, sound ones and, on purpose, bad ones.
 
+use super::check::check;
 use super::layout::*;
+use crate::fault::Context;
 use crate::network::Network;
 
 /// The file of a network. Nothing is judged: a network that breaks a limit
@@ -87,7 +89,7 @@ impl Draft {
     /// Puts in the checks, then makes the late changes and sets the length.
     pub fn finish(mut self) -> Vec<u8> {
         for block in 0..self.bytes.len() / BLOCK {
-            let check = Bytes(&self.bytes).sum(block, CHECKED_WORDS);
+            let check = check(&Context::sound(), Bytes(&self.bytes), block);
             self.set_word(block * BLOCK + CHECK, check);
         }
         for (at, value) in self.late {

@@ -68,12 +68,6 @@ impl Bytes<'_> {
     pub fn blocks(self) -> usize {
         self.0.len() / BLOCK
     }
-
-    /// The sum of a block's first words modulo 65,536.
-    pub fn sum(self, block: usize, words: usize) -> u16 {
-        let words = (0..words).map(|word| self.word(block * BLOCK + 2 * word));
-        words.fold(0, u16::wrapping_add)
-    }
 }
 
 /// What the head says, judged or not: N, L and the number of prefixes. Where

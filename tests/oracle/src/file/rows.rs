@@ -1,6 +1,7 @@
 //! The rows 1 to 9: what makes a file a refused one. Each row is tried over
 //! the whole file, whatever the other rows say of it.
 
+use super::check::check;
 use super::layout::*;
 use crate::fault::{Context, Fault, Limit};
 use crate::row::{Cause, Refusal, first_cause};
@@ -58,9 +59,8 @@ fn length(ctx: &Context, length: usize) -> Option<Refusal> {
 /// Row 2.
 fn checks(ctx: &Context, bytes: Bytes) -> Option<Refusal> {
     let judged = if ctx.has(Fault::OnlyFirstBlockJudged) { 1 } else { bytes.blocks() };
-    let words = CHECKED_WORDS - usize::from(ctx.has(Fault::CheckOver254Words));
     first_such(ctx, 2, 0..judged.min(bytes.blocks()), |block| {
-        let difference = bytes.sum(block, words) ^ bytes.word(block * BLOCK + CHECK);
+        let difference = check(ctx, bytes, block) ^ bytes.word(block * BLOCK + CHECK);
         let wrong =
             if ctx.has(Fault::CheckOf8Bits) { difference & 0xff != 0 } else { difference != 0 };
         first_cause(ctx, &[(Cause::Check, wrong)])

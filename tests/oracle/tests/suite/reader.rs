@@ -5,8 +5,8 @@ use crate::common::{load, refused};
 use oracle::answer::{Answer, link_entry, prefix_entry};
 use oracle::corpus::network_to_damage;
 use oracle::damage::{Damage, causes};
-use oracle::fault::Context;
-use oracle::file::{Draft, write};
+use oracle::fault::{Context, Fault};
+use oracle::file::{Bytes, Draft, check, write};
 use oracle::generate;
 use oracle::network::Network;
 use oracle::random::Random;
@@ -250,4 +250,27 @@ fn the_check_is_the_sum_of_255_words() {
         let words: Vec<u32> = words.collect();
         assert_eq!(words[..255].iter().sum::<u32>() % 65_536, words[255]);
     }
+}
+
+/// What each wrong sum makes of a block whose words are all 65,535, and of one
+/// whose words are all 1.
+#[test]
+fn checks_as_wrong_sums_have_them() {
+    let sums: [(&[Fault], [u32; 2]); 8] = [
+        (&[], [65_536 - 255, 255]),
+        (&[Fault::CheckOver254Words], [65_536 - 254, 254]),
+        (&[Fault::CheckOver62Numbers], [65_536 - 251, 251]),
+        (&[Fault::CheckWithoutLeftOver], [65_536 - 252, 252]),
+        (&[Fault::CheckOfTwoLanes], [65_536 - 129, 129]),
+        (&[Fault::CheckMostByteFirst], [65_536 - 255, 255 * 256]),
+        // 63 times 65,535 carries 62, and so does each of the next two with that.
+        (&[Fault::CheckCarriesOver], [65_536 - 255 + 3 * 62, 255]),
+        (&[Fault::CheckCarryAddedBack], [65_535, 255]),
+    ];
+    for (faults, expected) in sums {
+        let ctx = Context::with(faults);
+        let of = |word: [u8; 2]| u32::from(check(&ctx, Bytes(&word.repeat(256)), 0));
+        assert_eq!([of([255, 255]), of([1, 0])], expected, "{faults:?}");
+    }
+    assert_eq!(sums.len(), 1 + Fault::OF_CHECK.len());
 }

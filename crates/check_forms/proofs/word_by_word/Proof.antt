@@ -1,13 +1,21 @@
--- The check. The loop's invariant: the sum is that of the first i words modulo 65,536.
+-- The check, one word at a time. The loop's invariant: the sum is that of the first i words modulo 65,536.
 -- Assumes nothing.
 use mathlib.Core.Path.{_≡_, ap, _∙_}
-use Prim.Native.Nat.{ℕ, _-_, _%_, _≤_}
+use Prim.Native.Nat.{ℕ, _+_, _-_, _*_, _%_, _≤_}
 use native.Mathlib.Omega.{arith}
+use native.Mathlib.Nat.{mod-add-mod}
+use lib.ListN.{drop}
 use borrow.Author.Needs.{needs}
-use Rattle.lfa.specs.File.{byteAt, wordAt, sumWords, checkOf}
-use Rattle.block.proofs.BlockLaws.{check-more}
-use Rattle.block.proofs.check.check_of.Statement.{statement}
-use Rattle.block.proofs.check.check_of.Tie as tie
+use Rattle.lfa.specs.File.{Bytes, byteAt, wordAt, sumWords, checkOf}
+use Rattle.lfa.specs.Laws.File.Sum.{sum-split, sum-word}
+use Rattle.check_forms.proofs.word_by_word.Statement.{statement}
+use Rattle.check_forms.proofs.word_by_word.Tie as tie
+
+-- one word more, added by a wrapping add to the sum modulo 65,536
+check-more : (n : ℕ) (b : Bytes) (sum word : ℕ) → sum ≡ sumWords n b % 65536 → word ≡ wordAt b (2 * n) → (sum + word) % 65536 ≡ sumWords (n + 1) b % 65536
+check-more n b sum word e f =
+    let more : sumWords (n + 1) b ≡ sumWords n b + wordAt b (2 * n) = sum-split n 1 b ∙ rw (sum-word b (2 * n)) in
+    rw (e, f, more) (mod-add-mod (sumWords n b) 65536 (wordAt b (2 * n)))
 
 abbrev Inv-loop : tie.InvT-loop
 Inv-loop block sum₀ i₀ sum i = (i ≤ 255) × (sum ≡ sumWords i block % 65536)
@@ -55,8 +63,8 @@ returns c =
     let e : c .before .loop .i ≡ 255 = omega arith in
     c .before .loop .inv .1 ∙ ap (λ (k : ℕ). sumWords k (c .before .before .before .args .block .now) % 65536) e
 
-pub check-of-spec : {M : Type 1} → statement M
-check-of-spec =
+pub word-by-word-spec : {M : Type 1} → statement M
+word-by-word-spec =
     tie.close
     (tie.spec
     Inv-loop
