@@ -1,18 +1,12 @@
--- Laws of the sets: the test of the cells that were read is the test of the distances, and a router that passes it is put in.
+-- Laws of the sets: the test of the cells that were read is the test of the distances.
 -- Assumes nothing.
-use Prim.Native.Nat.{ℕ, _+_, _*_, _%_, _^_, _≤_, _<_}
-use mathlib.Core.Path.{_≡_, sym, ap, _∙_}
-use mathlib.Core.Bool.{Bool, true, false, _&&_}
+use Prim.Native.Nat.{ℕ, _≤_, _<_}
+use mathlib.Core.Path.{_≡_}
+use mathlib.Core.Bool.{Bool, _&&_}
 use mathlib.Core.List.{List}
-use native.Mathlib.Numerals.{add-one}
-use native.Mathlib.Omega.{arith}
 use lib.Dec.{ltb}
-use lib.Pow.{shl-exact}
-use lib.Bits.{bitOr, or-shifted-r}
 use borrow.Author.Tests.{lt-ltb, le-ltb}
-use Rattle.lfa.specs.Lists.{one}
-use Rattle.lfa.specs.Space.{Protected, setOf}
-use Rattle.lfa.specs.Laws.Set.{setOf-lt}
+use Rattle.lfa.specs.Space.{Protected}
 use Rattle.metric.specs.Area.{held, cellIn}
 use Rattle.metric.specs.Laws.Area.{cell-known}
 use Rattle.avoid.specs.Avoiding.{belowBoth, clears, clearsTo}
@@ -44,16 +38,3 @@ pub cells-clear-to : {own near far s e : ℕ} {b : Bool} (left sums : ℕ → �
     b ≡ belowBoth own near far (q .out) (q .back) s e → b ≡ clearsTo left sums q x r
 unfolding clearsTo
 cells-clear-to left sums q x r = cells-clear (λ z. left z r) sums q (λ z. sums z r) x
-
--- ---- sets of routers
-
--- `set | (1 << n)` puts router n in, and a set that is left as it is leaves it out
-pub put-in : {n set : ℕ} (p : ℕ → Bool) → n < 64 → set ≡ setOf n p → p n ≡ true → bitOr set ((1 * 2 ^ n) % 2 ^ 64) ≡ setOf (n + 1) p
-unfolding setOf
-put-in {n} p h s e =
-    ap (λ (x : ℕ). bitOr x ((1 * 2 ^ n) % 2 ^ 64)) s ∙ ap (bitOr (setOf n p)) (shl-exact 1 n 64 (omega arith) (omega arith)) ∙ or-shifted-r 1 n (setOf n p) (setOf-lt n p)
-    ∙ ap (λ (b : Bool). one b * 2 ^ n + setOf n p) (sym e) ∙ ap (λ (k : ℕ). setOf k p) (sym (add-one n))
-
-pub left-out : {n set : ℕ} (p : ℕ → Bool) → set ≡ setOf n p → p n ≡ false → set ≡ setOf (n + 1) p
-unfolding setOf
-left-out {n} p s e = s ∙ sym (ap (λ (k : ℕ). setOf k p) (add-one n) ∙ ap (λ (b : Bool). one b * 2 ^ n + setOf n p) e ∙ omega arith)

@@ -4,7 +4,7 @@
 // test and those in the sums are handed in apart; they may be of one network, or of two that differ in their costs.
 //
 // The functions take any numbers. Where no distances can be read for them, the set is empty.
-use metric::fit::cells_fit;
+use metric::read::cells_fit;
 use set::set_from;
 use set::set_to;
 ghost use mathlib.Core.Path.{_≡_};

@@ -1,10 +1,10 @@
 // The distances to a target, one for each router, read from an area that holds the distances.
 //
 // The two public functions take any numbers. Where they are not those of a network, the column is all zeros.
+use fit::slots_fit;
 use metric::Distance;
-use metric::fit::cells_fit;
-use metric::fit::slots_fit;
 use metric::read::cell;
+use metric::read::cells_fit;
 use metric::read::cost_of;
 use metric::read::wide;
 ghost use mathlib.Core.Path.{_≡_};

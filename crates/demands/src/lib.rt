@@ -1,10 +1,10 @@
 // Demand 3, said of the link repair call and the prefix repair call and proved from their contracts alone: what is promised of
 // document 01's answer is promised of what the two calls return. The equations say what is answered to every other question.
-use repair::Repair;
+use answers::Repair;
 ghost use lib.ListN.{length};
 ghost use Rattle.lfa.specs.Question.{askLink, askPrefix};
 ghost use Rattle.lfa.specs.Contract.{Answered};
-ghost use Rattle.repair.specs.Answer.{repairOf};
+ghost use Rattle.answers.specs.Answer.{repairOf};
 ghost use Rattle.demands.specs.Demand.{MeetsDemand3};
 
 // The link repair question, and what demand 3 says of its answer.

@@ -1,8 +1,8 @@
 // Distances between the routers of a network: the least sum of link costs over all paths. `fill` leaves them in an area, row by row.
 //
 // It takes any numbers. Where they are not those of a network, the area stays as it was.
-use metric::fit::cells_fit;
-use metric::fit::links_fit;
+use fit::links_fit;
+use metric::read::cells_fit;
 use rows::fill_cells;
 ghost use mathlib.Core.Path.{_≡_};
 ghost use Rattle.distance.specs.Calls.{areaFilled};

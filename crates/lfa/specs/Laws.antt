@@ -28,6 +28,7 @@ pub mod Causes
 pub mod FileRows
 pub mod Answers
 pub mod Accepted
+pub mod Writing
 pub mod Turned
 pub mod Asked
 pub mod Work

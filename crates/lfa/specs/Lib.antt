@@ -11,6 +11,7 @@ pub mod Route
 pub mod Question
 pub mod Causes
 pub mod Refusal
+pub mod Writing
 pub mod Answer
 pub mod Contract
 pub mod Demands

@@ -1,10 +1,8 @@
-// What the distances of a network are made of: the sums of costs, the numbers as they are read from columns and areas, and the tests
-// whether numbers that are handed in are those of a network.
+// What the distances of a network are made of: the sums of costs, and the numbers as they are read from columns and areas.
 ghost use mathlib.Core.Path.{_≡_};
 ghost use Prim.Native.Nat.{_+_, min};
 ghost use Rattle.lfa.specs.Distance.{unreachable};
 
-pub mod fit;
 pub mod read;
 
 // A distance between routers, as a 32-bit number.

@@ -1,7 +1,7 @@
 // Numbers as they are read from columns and areas.
 use crate::Distance;
-use crate::fit::cells_fit;
 ghost use mathlib.Core.Path.{_≡_};
+ghost use Rattle.metric.specs.Fit.{cellsFit};
 ghost use Rattle.metric.specs.Area.{cellIn};
 
 // A byte, such as a router's number, as an index.
@@ -16,6 +16,13 @@ pub fn cost_of(c: u16) -> u32
     ensures { λ r. ⌜ r ≡ c ⌝ }
 {
     c as u32
+}
+
+// Whether there are at most 64 routers, and a cell for each two of them.
+pub fn cells_fit(n: usize, cells: usize) -> bool
+    ensures { λ r. ⌜ r ≡ cellsFit n cells ⌝ }
+{
+    n <= 64 && n * n <= cells
 }
 
 // D(x,t), read from an area that holds the distances between n routers, and unreachable where the area has no such cell. In a loop over x

@@ -9,7 +9,7 @@ use Rattle.lfa.specs.File.{Bytes, partOf, ceil, linkBlocks, prefixBlocks, block
 use Rattle.block.specs.Judged.{Sized}
 use Rattle.network_file.specs.Entry.{placeOf}
 
--- The place by division, as `prefix_part` finds it, and the place of the first entry, where the divisions give 0: the blocks of links,
+-- The place by division, as `entries::prefix_entry` finds it, and the place of the first entry, where the divisions give 0: the blocks of links,
 -- 84 to a block, stand between the head and the first block of prefixes.
 pub place-found : (b : Bytes) (links p : ℕ) → links ≡ linksOf b → 512 * (1 + (links + 83) / 84 + p / 14) + 4 + 34 * (p % 14) ≡ placeOf b p
 unfolding placeOf linkBlocks ceil

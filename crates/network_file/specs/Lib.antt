@@ -1,3 +1,5 @@
 pub mod Struct
+pub mod Held
 pub mod Entry
 pub mod Load
+pub mod Laws

@@ -1,10 +1,8 @@
 -- What `load` answers, in document 01's numbers and values.
 -- Assumes nothing.
-use Prim.Native.Nat.{ℕ}
 use mathlib.Core.Bool.{Bool, true, false}
 use mathlib.Core.Option.{Option, none, some}
-use Rattle.lfa.specs.File.{Bytes, wordAt}
-use Rattle.lfa.specs.Refusal.{fileRefusal, FileRow, badLength, badCheck, badHead, badBlockCount, badBlock, badLink, parallelLink, badPrefix, routerTwice, Decided, decided, inFile}
+use Rattle.lfa.specs.Refusal.{FileRow, badLength, badCheck, badHead, badBlockCount, badBlock, badLink, parallelLink, badPrefix, routerTwice, Decided, decided, inFile}
 use Rattle.lfa.specs.Answer.{Answer, accepted, refusal}
 use Rattle.network_file.specs.declared.Fault.{Fault}
 use Rattle.network_file.specs.declared.Fault.the-variants.{Length, Check, Head, BlockCount, Block, Link, ParallelLink, Prefix, RouterTwice}
@@ -40,7 +38,3 @@ verdictDecided (Refused f) = some (faultRow f)
 unfoldable pub undecided : Option (Decided FileRow) → Bool
 undecided none = true
 undecided (some d) = false
-
--- the number of links or of prefixes, by its offset in the head, of the network that `load` hands over
-unfoldable pub countLoaded : Bytes → ℕ → ℕ
-countLoaded b at = elim (fileRefusal b) [ none ↦ wordAt b at | some d ↦ 0 ]

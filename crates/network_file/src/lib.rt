@@ -1,25 +1,22 @@
-// The network file's reader: judges a file by rows 1 to 9 of document 01, in order, and hands over the network that it holds, or
-// the bytes of one entry.
+// The network file's reader: judges a file by rows 1 to 9 of document 01, in order, and hands over the network that it holds.
 use block::Blocks;
 use block::judge_blocks;
 use entry::judge_links;
 use entry::judge_prefixes;
 use entry::network_of;
 use field::word_at;
-use link::link_part;
 use network::Network;
 use network::blank;
-use prefix::prefix_part;
 ghost use mathlib.Core.Path.{_≡_};
 ghost use mathlib.Core.Bool.{false};
 ghost use mathlib.Core.Option.{some};
 ghost use Rattle.lfa.specs.Question.{loading};
 ghost use Rattle.lfa.specs.Refusal.{fileReturned, fileRefusal, firstRow};
-ghost use Rattle.lfa.specs.Answer.{answerTo, networkLoaded, linkPart, prefixPart};
+ghost use Rattle.lfa.specs.Answer.{answerTo, networkLoaded};
 ghost use Rattle.block.specs.Judged.{blocksDecided, Sized};
 ghost use Rattle.network_file.specs.Struct.{structOf};
 ghost use Rattle.network_file.specs.Entry.{entryRows};
-ghost use Rattle.network_file.specs.Load.{faultRow, answerOf, verdictDecided, undecided, countLoaded};
+ghost use Rattle.network_file.specs.Load.{faultRow, answerOf, verdictDecided, undecided};
 
 mod entry;
 mod link;
@@ -88,7 +85,7 @@ fn judge_entries(file: &[u8]) -> Verdict
 }
 
 // Judges a file. Rows 6 to 9 are tried only where rows 1 to 5 pass.
-fn judge(file: &[u8]) -> Verdict
+pub fn judge(file: &[u8]) -> Verdict
     ensures { λ r. ⌜ verdictDecided r ≡ fileRefusal (now (file .entry)) ⌝ }
 {
     let blocks = judge_blocks(file);
@@ -119,36 +116,4 @@ pub fn load(file: &[u8]) -> Loaded
     let verdict = judge(file);
     let network = network_if(is_accepted(verdict), file);
     Loaded { verdict, network }
-}
-
-// How many links or prefixes a file has, by the offset of their number in the head; 0 for a refused file.
-fn count_at(file: &[u8], at: usize) -> usize
-    ensures { λ r. ⌜ r ≡ countLoaded (now (file .entry)) at ⌝ }
-{
-    if is_accepted(judge(file)) {
-        return word_at(file, at) as usize;
-    }
-    0
-}
-
-// The 6 bytes of a link's entry; none for a refused file or a link number too large.
-pub fn link_entry(file: &[u8], link: usize) -> &[u8]
-    ensures { λ r. ⌜ now r ≡ linkPart (now (file .entry)) link ⌝ }
-{
-    let links = count_at(file, 6);
-    if links <= link {
-        return &file[0..0];
-    }
-    link_part(file, link)
-}
-
-// The 34 bytes of a prefix's entry; none for a refused file or a prefix number too large.
-pub fn prefix_entry(file: &[u8], prefix: usize) -> &[u8]
-    ensures { λ r. ⌜ now r ≡ prefixPart (now (file .entry)) prefix ⌝ }
-{
-    let prefixes = count_at(file, 8);
-    if prefixes <= prefix {
-        return &file[0..0];
-    }
-    prefix_part(file, word_at(file, 6) as usize, prefix)
 }

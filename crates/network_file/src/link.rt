@@ -19,7 +19,7 @@ pub(crate) struct LinkColumns {
 }
 
 // The 6 bytes of link k.
-pub(crate) fn link_part(file: &[u8], k: usize) -> &[u8]
+fn link_part(file: &[u8], k: usize) -> &[u8]
     requires { ⌜ Sized (now file) × (k < linksOf (now file)) ⌝ }
     ensures { λ r. ⌜ (now r ≡ linkEntry (now (file .entry)) k) × (length (now r) ≡ 6) ⌝ }
 {

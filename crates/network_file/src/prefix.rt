@@ -5,9 +5,8 @@ ghost use mathlib.Core.Bool.{_&&_};
 ghost use Prim.Native.Nat.{ℕ, _+_, _*_, _/_, _%_, _≤_, _<_};
 ghost use lib.ListN.{length, drop};
 ghost use Rattle.lfa.specs.Lists.{firstFailing, everyBelow};
-ghost use Rattle.lfa.specs.File.{Bytes, routersOf, linksOf, prefixesOf, wordAt, allZero, prefixEntry, attachments, slot, slotGood, soundPrefix, prefixGood, slotNew, routersNew};
+ghost use Rattle.lfa.specs.File.{Bytes, routersOf, linksOf, wordAt, allZero, prefixEntry, attachments, slot, slotGood, soundPrefix, prefixGood, slotNew, routersNew};
 ghost use Rattle.block.specs.First.{firstOr};
-ghost use Rattle.block.specs.Judged.{Sized};
 ghost use Rattle.network_file.specs.Struct.{routerOf, costOf, stored, prefixColumns, prefixesIn};
 ghost use Rattle.network_file.specs.Entry.{Counted, placeOf, PrefixesSound, slotSound, Slots};
 
@@ -18,18 +17,7 @@ pub(crate) struct PrefixColumns {
     pub own: [u16; 1024],
 }
 
-// The 34 bytes of prefix p. The blocks of links, 84 to a block, stand before those of prefixes.
-pub(crate) fn prefix_part(file: &[u8], links: usize, p: usize) -> &[u8]
-    requires { ⌜ Sized (now file) × (links ≡ linksOf (now file)) × (p < prefixesOf (now file)) ⌝ }
-    ensures { λ r. ⌜ (now r ≡ prefixEntry (now (file .entry)) p) × (length (now r) ≡ 34) ⌝ }
-{
-    let blocks = (links + 83) / 84;
-    let start = 512 * (1 + blocks + p / 14) + 4 + 34 * (p % 14);
-    let end = start + 34;
-    &file[start..end]
-}
-
-// Where the entry of prefix 0 stands.
+// Where the entry of prefix 0 stands. The blocks of links, 84 to a block, stand before those of prefixes.
 fn first_place(links: usize) -> usize
     requires { ⌜ links ≤ 128 ⌝ }
     ensures { λ r. ⌜ ((b : Bytes) → links ≡ linksOf b → r ≡ placeOf b 0) ⌝ }

@@ -1,4 +1,3 @@
-pub mod NextLaws
 pub mod MemberLaws
 pub mod DeliveryLaws
 pub mod MoveLaws

@@ -1,8 +1,8 @@
 -- The option that a choice byte takes, and the move of the public function, return by return.
 -- Assumes nothing.
 use Prim.Native.Nat.{ℕ, suc, _+_, _-_, _%_, _≤_, _<_}
-use mathlib.Core.Path.{_≡_, refl, sym, ap, ap₂, _∙_}
-use mathlib.Core.Bool.{Bool, true, false, _&&_}
+use mathlib.Core.Path.{_≡_, refl, sym, ap, _∙_}
+use mathlib.Core.Bool.{Bool, true, false}
 use mathlib.Core.Logic.{_⊎_, inl, inr}
 use mathlib.Core.List.{List, [], _∷_, map}
 use native.Mathlib.Nat.{mod-lt}
@@ -10,13 +10,11 @@ use native.Mathlib.Omega.{arith}
 use lib.Dec.{leb}
 use lib.ListN.{length, getD, length-map}
 use borrow.Author.Tests.{le-ltb, lt-leb}
-use Rattle.lfa.specs.Space.{setOf}
 use Rattle.lfa.specs.Route.{Move, deliver, go, movesOf, optionTaken}
 use Rattle.lfa.specs.Laws.Test.{fails-left, fails-right}
 use Rattle.lfa.specs.Laws.Chunks.{element-mapped}
-use Rattle.metric.specs.Columns.{arcsIn}
 use Rattle.metric.specs.Column.{slotsIn}
-use Rattle.options.specs.Options.{nextBy, deliversBy, membersOf, fits, moveBy}
+use Rattle.options.specs.Options.{deliversBy, membersOf, fits, moveBy}
 use Rattle.options.specs.Laws.Options.{all-fit}
 
 -- ---- the option taken
@@ -55,19 +53,18 @@ module _ (ms : List ℕ) (byte : ℕ) where
 
 -- ---- the move
 
-module _ (links : ℕ) (from to out back routers costs : List ℕ) (slot count : ℕ) (target : List ℕ) (x byte : ℕ) where
+module _ (next : ℕ) (routers costs : List ℕ) (slot count : ℕ) (target : List ℕ) (x byte : ℕ) where
   -- some number is no cell of the columns
-  pub move-none : (128 < links) ⊎ (1024 < slot + count) ⊎ (64 ≤ x) → deliver ≡ moveBy links from to out back routers costs slot count target x byte
+  pub move-none : (1024 < slot + count) ⊎ (64 ≤ x) → deliver ≡ moveBy next routers costs slot count target x byte
   unfolding moveBy fits
   move-none o = rw (none-fit o, moveBy)
     where
-      none-fit : (128 < links) ⊎ (1024 < slot + count) ⊎ (64 ≤ x) → fits links slot count x ≡ false
-      none-fit (inl l) = fails-left _ _ (fails-left _ _ (lt-leb links 128 l))
-      none-fit (inr (inl s)) = fails-left _ _ (fails-right (leb links 128) _ (lt-leb (slot + count) 1024 s))
-      none-fit (inr (inr h)) = fails-right (leb links 128 && leb (slot + count) 1024) _ (le-ltb x 64 h)
+      none-fit : (1024 < slot + count) ⊎ (64 ≤ x) → fits slot count x ≡ false
+      none-fit (inl s) = fails-left _ _ (lt-leb (slot + count) 1024 s)
+      none-fit (inr h) = fails-right (leb (slot + count) 1024) _ (le-ltb x 64 h)
 
   -- all are
-  pub move-taken : {b : Bool} {set : ℕ} {m : Move} → links ≤ 128 → slot + count ≤ 1024 → x < 64 → b ≡ deliversBy (getD target x 0) (slotsIn routers costs slot count) x →
-      set ≡ setOf 64 (nextBy (λ y. getD target y 0) (arcsIn from to out back links) x) → m ≡ optionTaken (movesOf b (membersOf set)) byte → m ≡ moveBy links from to out back routers costs slot count target x byte
+  pub move-taken : {b : Bool} {m : Move} → slot + count ≤ 1024 → x < 64 → b ≡ deliversBy (getD target x 0) (slotsIn routers costs slot count) x →
+      m ≡ optionTaken (movesOf b (membersOf next)) byte → m ≡ moveBy next routers costs slot count target x byte
   unfolding moveBy
-  move-taken l s h eb es e = rw (all-fit links slot count x l s h, moveBy) (e ∙ ap₂ (λ (b : Bool) (set : ℕ). optionTaken (movesOf b (membersOf set)) byte) eb es)
+  move-taken s h eb e = rw (all-fit slot count x s h, moveBy) (e ∙ ap (λ (b : Bool). optionTaken (movesOf b (membersOf next)) byte) eb)

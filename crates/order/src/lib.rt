@@ -75,8 +75,8 @@ pub fn class_of(hop: usize, endpoint: usize, end: u32, near: u32) -> u32
     or_else(endpoint == hop, 2) + or_else(end < near, 1)
 }
 
-// A byte as a number to compare by.
-fn wide(x: u8) -> u32
+// A rank as a number to compare by.
+fn rank_number(x: u8) -> u32
     ensures { λ r. ⌜ r ≡ x ⌝ }
 {
     x as u32
@@ -90,5 +90,5 @@ pub fn rank_of(ranks: &[u8], class: u32) -> u32
     if ranks.len() <= place {
         return 0;
     }
-    wide(ranks[place])
+    rank_number(ranks[place])
 }

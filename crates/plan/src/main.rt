@@ -1,5 +1,6 @@
 // Reads a network file from standard input and prints its plan: a head line, and a line for each link and end with the link's own
 // repair. A refused file has one line, which says why.
+use answers::Repair;
 use network_file::Verdict;
 use network_file::load;
 use network_file::network::Network;
@@ -8,7 +9,6 @@ use print::end;
 use print::number;
 use print::refused;
 use refusal::file_row;
-use repair::Repair;
 use repair::link_repair;
 ghost use Prim.Native.Nat.{_≤_};
 

@@ -1,22 +1,22 @@
 // The planner for programs in other languages: each public call as a C function, its answer as numbers, its buffers as pointer and
 // length. `include/planner.h` tells C programs the same.
-use answer::Numbers;
-use answer::filled_numbers;
-use answer::played_numbers;
-use answer::repair_numbers;
-use answer::space_numbers;
-use answer::verdict_numbers;
+use answers::size;
 use copy::copy_part;
-use network_file::link_entry;
+use entries::link_entry;
+use entries::prefix_entry;
 use network_file::load;
-use network_file::prefix_entry;
+use numbers::Numbers;
+use numbers::filled_numbers;
+use numbers::played_numbers;
+use numbers::repair_numbers;
+use numbers::space_numbers;
+use numbers::verdict_numbers;
 use repair::distances;
 use repair::extended_p_space;
 use repair::link_repair;
 use repair::p_space;
 use repair::prefix_repair;
 use repair::q_space;
-use repair::size;
 use route::route;
 ghost use mathlib.Core.Path.{_≡_};
 ghost use lib.ListN.{length};
@@ -24,10 +24,10 @@ ghost use Rattle.lfa.specs.Space.{pSpace, extendedP, qSpace, sizeOf};
 ghost use Rattle.lfa.specs.Question.{loading, filling, askSpace, askLink, askPrefix, askRoute};
 ghost use Rattle.lfa.specs.Answer.{answerTo, networkLoaded, linkPart, prefixPart};
 ghost use Rattle.network_file.specs.Struct.{structOf};
-ghost use Rattle.planner.specs.Numbers.{numbersOf, loadedAs, Numbered, NumberedRoute};
+ghost use Rattle.numbers.specs.Numbers.{numbersOf};
+ghost use Rattle.planner.specs.Numbers.{loadedAs, Numbered, NumberedRoute};
 ghost use Rattle.planner.specs.Copied.{copiedTo};
 
-pub mod answer;
 mod copy;
 
 // The verdict on a file as numbers, and the network that the file holds.

@@ -1,10 +1,10 @@
 // Refusals as document 01 writes them, in two numbers, for the programs that print them.
 use network_file::Fault;
-use repair::Refusal;
+use question::Refusal;
 ghost use mathlib.Core.Path.{_≡_};
 ghost use Rattle.lfa.specs.Answer.{refused};
 ghost use Rattle.network_file.specs.Load.{faultOf};
-ghost use Rattle.repair.specs.Answer.{refusalAnswer};
+ghost use Rattle.question.specs.Turning.{refusalAnswer};
 
 // A row of the table of refusals: its number, and the value that it returns.
 pub struct Row {

@@ -1,8 +1,9 @@
 // The repair part: distances, spaces and repairs of the network that the file part hands over. The file is only passed on, the
 // distances are those of the distance part, and the spaces and pairs those of the search part, which reads them from the work area.
-use answer::repair_answer;
-use network_file::Fault;
-use order::Pair;
+use answers::Filled;
+use answers::Repair;
+use answers::SpaceAnswer;
+use answers::repair_answer;
 use question::Turned;
 use question::pose;
 use rows::Asked;
@@ -12,47 +13,12 @@ use search::Which;
 use search::link_pair;
 use search::prefix_pair;
 use search::space_in;
-ghost use mathlib.Core.Path.{_≡_};
 ghost use lib.ListN.{length};
-ghost use Rattle.lfa.specs.Space.{pSpace, extendedP, qSpace, sizeOf};
+ghost use Rattle.lfa.specs.Space.{pSpace, extendedP, qSpace};
 ghost use Rattle.lfa.specs.Question.{filling, askSpace, askLink, askPrefix};
 ghost use Rattle.lfa.specs.Contract.{Answered};
 ghost use Rattle.search.specs.Spaces.{spaceNamed};
-ghost use Rattle.repair.specs.Answer.{filledAnswer, repairOf, spaceAnswer};
-
-pub mod answer;
-pub mod question;
-
-// What turns a question away: rows 1 to 9 as the file part tells them, and the others with the value that each returns, where it is not
-// always 0: `NoPair` is row 14, `BadRanks` row 15.
-pub enum Refusal {
-    File(Fault),
-    ShortArea(usize),
-    ShortBuffer(usize),
-    NoSuchLink(usize),
-    NoSuchPrefix(usize),
-    NoPair,
-    BadRanks,
-}
-
-pub enum Filled {
-    Done,
-    Refused(Refusal),
-}
-
-// The answer of a call for a space: the set, router r being the bit of weight 2 to the power r.
-pub enum SpaceAnswer {
-    Set(u64),
-    Refused(Refusal),
-}
-
-// The answer of a repair call.
-pub enum Repair {
-    Refused(Refusal),
-    Unreachable,
-    Untouched,
-    Pair(Pair),
-}
+ghost use Rattle.answers.specs.Answer.{filledAnswer, repairOf, spaceAnswer};
 
 // Fills the work area with the distances between the routers of a file, row by row.
 pub fn distances(file: &[u8], work: &mut [u32]) -> Filled
@@ -168,11 +134,4 @@ pub fn q_space(file: &[u8], work: &mut [u32], link: usize, end: usize) -> SpaceA
     ensures { λ r. ⌜ Answered (askSpace qSpace (now (file .entry)) (length (now (work .entry))) link end) (spaceAnswer r) (now (work .entry)) (now (work .exit)) ⌝ }
 {
     ask_space(file, work, link, end, Which::Q)
-}
-
-// The number of routers in a set.
-pub fn size(set: u64) -> u32
-    ensures { λ r. ⌜ r ≡ sizeOf set ⌝ }
-{
-    u64::count_ones(set)
 }

@@ -21,14 +21,14 @@ use Rattle.metric.specs.Columns.{arcsIn}
 use Rattle.metric.specs.Area.{held}
 use Rattle.metric.specs.Column.{slotsIn}
 use Rattle.search.specs.Calls.{protectedOf, prefixBy}
-use Rattle.repair.specs.declared.question.Turned.{Turned}
-use Rattle.repair.specs.declared.question.Turned.the-variants.{Ready}
-use Rattle.repair.specs.Answer.{Judges}
-use Rattle.repair.specs.Laws.Posed.{ready-posed, ready-taken, area-filled}
+use Rattle.question.specs.declared.Turned.{Turned}
+use Rattle.question.specs.declared.Turned.the-variants.{Ready}
+use Rattle.question.specs.Turning.{Judges}
+use Rattle.question.specs.Laws.Posed.{ready-posed, ready-taken, area-filled}
 use Rattle.repair.specs.Laws.Searched.{prefix-searched}
-use Rattle.repair.specs.Laws.Named.{routers-same, hops-are, held-is, prefix-cell, prefix-slots, prefix-target, protected-is}
-use Rattle.repair.specs.Taken.{Taken}
-use Rattle.repair.specs.Laws.Loaded.{limits, columns-within, prefixes-are}
+use Rattle.repair.specs.Laws.Named.{hops-are, held-is, prefix-cell, prefix-slots, prefix-target, protected-is}
+use Rattle.question.specs.Taken.{Taken}
+use Rattle.question.specs.Laws.Loaded.{limits, columns-within, routers-same, prefixes-are}
 use Rattle.route.specs.Leg.{Playable}
 
 -- a route question that is posed and not turned away

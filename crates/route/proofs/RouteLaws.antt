@@ -1,11 +1,11 @@
 -- The route call beside the prefix repair question, where no row before 14 applies: answers without a pair are passed on and write
 -- nothing; and where there is a pair, the route that the choice bytes name is written.
 -- Assumes nothing.
-use Prim.Native.Nat.{ℕ, _*_, _≤_, _<_}
+use Prim.Native.Nat.{ℕ}
 use mathlib.Core.Path.{_≡_, refl, sym, ap, _∙_}
-use mathlib.Core.List.{List, [], _∷_, _++_}
+use mathlib.Core.List.{List, [], _∷_}
 use native.Mathlib.Omega.{arith}
-use lib.ListN.{length, drop}
+use lib.ListN.{length}
 use types.Run.{OneOf, miss}
 use denote.Enum.Declared.{tagOf}
 use Rattle.lfa.specs.Repair.{Told, Outcome, prefixUnreachable, prefixUntouched, noneServes, serving}
@@ -14,10 +14,11 @@ use Rattle.lfa.specs.Refusal.{Row, Decided, decided, Posed}
 use Rattle.lfa.specs.Answer.{Answer, repair, refusal, repairAnswer, routeAnswer, routeFor, routePlayed, computed, answerTo, routeAfter}
 use Rattle.lfa.specs.Laws.Asked.{posed-route}
 use Rattle.lfa.specs.Laws.Replies.{computes}
-use Rattle.repair.proofs.Repair.{the-type}
-use Rattle.repair.specs.Answer.{rowOf, refusalAnswer, repairOf}
-use Rattle.repair.specs.declared.Repair.{Repair}
-use Rattle.repair.specs.declared.Repair.the-variants as answer
+use Rattle.answers.proofs.Repair.{the-type}
+use Rattle.question.specs.Turning.{rowOf, refusalAnswer}
+use Rattle.answers.specs.Answer.{repairOf}
+use Rattle.answers.specs.declared.Repair.{Repair}
+use Rattle.answers.specs.declared.Repair.the-variants as answer
 use Rattle.route.specs.Answer.{passedOn}
 
 -- ---- answers

@@ -1,9 +1,9 @@
 -- What a route call answers, in document 01's words, and the answers of the prefix repair that it passes on.
 -- Assumes nothing.
 use Rattle.lfa.specs.Answer.{Answer, untouched, unreached, played}
-use Rattle.repair.specs.Answer.{refusalAnswer}
-use Rattle.repair.specs.declared.Repair.{Repair}
-use Rattle.repair.specs.declared.Repair.the-variants as repair
+use Rattle.question.specs.Turning.{refusalAnswer}
+use Rattle.answers.specs.declared.Repair.{Repair}
+use Rattle.answers.specs.declared.Repair.the-variants as repair
 use Rattle.route.specs.declared.Played.{Played}
 use Rattle.route.specs.declared.Played.the-variants.{Refused, Unreachable, Untouched, Written}
 

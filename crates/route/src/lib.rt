@@ -1,12 +1,12 @@
 // Played routes: the routers that a packet visits when the pair of a prefix repair carries it, choice bytes deciding between options.
 // The network and the refusals are known from the question's prologue, the pair and the distances from the search.
+use answers::Repair;
+use answers::repair_answer;
 use metric::read::wide;
 use play::play;
-use repair::Refusal;
-use repair::Repair;
-use repair::answer::repair_answer;
-use repair::question::Turned;
-use repair::question::pose;
+use question::Refusal;
+use question::Turned;
+use question::pose;
 use rows::Asked;
 use rows::Call;
 use rows::ranks::arranged;

@@ -3,6 +3,7 @@
 use column::towards_prefix;
 use options::Move;
 use options::move_at;
+use steps::next_routers;
 use supply::choice;
 ghost use mathlib.Core.Path.{_≡_};
 ghost use mathlib.Core.List.{List, _++_};
@@ -51,6 +52,7 @@ fn leg<'a>(
         × (now (buffer .exit) ≡ (take written (now (buffer .entry)) ++ rs) ++ drop (r .written) (now (buffer .entry)))) ⌝ }
 {
     let target = towards_prefix(dist, n, at, own, slot, count);
+    let nexts = next_routers(links, from, to, out, back, 0, &target);
     let mut x = start;
     let mut next = used;
     let mut k = written;
@@ -60,20 +62,7 @@ fn leg<'a>(
         }
         let byte = choice(choices, next);
         next += 1;
-        let taken = move_at(
-            links,
-            from,
-            to,
-            out,
-            back,
-            at,
-            own,
-            slot,
-            count,
-            &target,
-            x,
-            byte,
-        );
+        let taken = move_at(nexts[x], at, own, slot, count, &target, x, byte);
         let Move::Go(z) = taken else {
             break k;
         };

@@ -19,7 +19,8 @@ use Rattle.order.specs.declared.Earliest.{Earliest}
 use Rattle.order.specs.declared.Earliest.the-variants.{Nothing, Found}
 use Rattle.order.specs.Order.{toldIn, earliestIn, earlierOf}
 use Rattle.order.proofs.Earliest.{the-type}
-use Rattle.search.specs.Hops.{hopBy, hopsIn}
+use Rattle.arcs.specs.Arcs.{hopBy}
+use Rattle.search.specs.Hops.{hopsIn}
 use Rattle.search.specs.Spaces.{avoidedFrom}
 use Rattle.search.specs.Choice.{outcomeFor, firstOf, orderedAt, mayEnd, hopPairs, pairsOver, pairsTried}
 use Rattle.metric.specs.Laws.Select.{flat-append}

@@ -1,15 +1,13 @@
 -- Laws of the first hops: the arcs of the columns by their numbers, and the column of those that are first hops.
 -- Assumes nothing.
-use Prim.Native.Nat.{ℕ, zero, suc, _+_, _*_, _/_, _%_, _≤_, _<_}
+use Prim.Native.Nat.{ℕ, zero, suc, _+_, _*_, _/_, _≤_, _<_}
 use mathlib.Core.Path.{_≡_, refl, sym, ap, ap₂, _∙_}
-use mathlib.Core.Bool.{Bool, true, false, not}
+use mathlib.Core.Bool.{Bool, true, false}
 use mathlib.Core.List.{List, [], _∷_, _++_, map, map-map, append-nil, append-assoc}
 use native.Mathlib.Numerals.{add-one}
 use native.Mathlib.Omega.{arith}
-use lib.Dec.{eqb, ltb}
 use lib.ListN.{length, getD, set, length-set}
 use lib.Seq.{getD-set-same, getD-set-other}
-use borrow.Author.Tests.{eq-eqb, ne-eqb}
 use Rattle.lfa.specs.Lists.{countUp, below, select, keepIf}
 use Rattle.lfa.specs.Network.{Arc, arc, arcsFrom}
 use Rattle.lfa.specs.Laws.Counting.{map-below-same}
@@ -17,19 +15,12 @@ use Rattle.lfa.specs.Space.{Protected, isFirst, hopOver, firstHops}
 use Rattle.metric.specs.Columns.{linksIn, arcsIn}
 use Rattle.metric.specs.Laws.List.{below-more, map-below-more, select-append}
 use Rattle.metric.specs.Laws.Columns.{arcsIn-more}
-use Rattle.search.specs.Hops.{sideOf, leavesNear, arcsListed, Listed, hopBy, hopsIn}
+use Rattle.arcs.specs.Arcs.{sideOf, leavesNear, hopBy}
+use Rattle.arcs.proofs.ArcLaws.{reads-there, reads-back}
+use Rattle.search.specs.Hops.{arcsListed, Listed, hopsIn}
 use Rattle.metric.specs.Laws.Select.{select-map}
 
 -- ---- arcs by their numbers
-
--- what the code reads for an arc
-pub reads-there : {w k : ℕ} (a : ℕ) (there back : List ℕ) → k ≡ a / 2 → w ≡ getD there k 0 → a % 2 ≡ 0 → w ≡ sideOf a there back
-unfolding sideOf
-reads-there a there back e f h = f ∙ rw (e, eq-eqb (a % 2) 0 h, sideOf)
-
-pub reads-back : {w k : ℕ} (a : ℕ) (there back : List ℕ) → k ≡ a / 2 → w ≡ getD back k 0 → (a % 2 ≡ 0 → ⊥) → w ≡ sideOf a there back
-unfolding sideOf
-reads-back a there back e f h = f ∙ rw (e, ne-eqb (a % 2) 0 h, sideOf)
 
 side-there : (k : ℕ) (there back : List ℕ) → sideOf (2 * k) there back ≡ getD there k 0
 side-there k there back =
@@ -60,20 +51,6 @@ module _ (from to out back : List ℕ) where
       ∙ sym (map-below-more arcBy (2 * k + 1)) ∙ ap (λ (m : ℕ). map arcBy (below m)) (sym e)
 
 -- ---- first hops
-
--- the three tests of an arc, one after the other
-module _ (q : Protected) (from to out back : List ℕ) (a : ℕ) where
-  pub other-start : {w : ℕ} → w ≡ sideOf a from to → (w ≡ q .near → ⊥) → leavesNear q from to out back a ≡ false
-  unfolding leavesNear
-  other-start {w} e h = rw (← e, ne-eqb w (q .near) h)
-
-  pub leads-far : {w v : ℕ} → w ≡ sideOf a from to → w ≡ q .near → v ≡ sideOf a to from → v ≡ q .far → leavesNear q from to out back a ≡ false
-  unfolding leavesNear
-  leads-far {w} {v} e h f k = rw (← e, ← f, eq-eqb w (q .near) h, eq-eqb v (q .far) k)
-
-  pub in-service : {w v c : ℕ} → w ≡ sideOf a from to → w ≡ q .near → v ≡ sideOf a to from → (v ≡ q .far → ⊥) → c ≡ sideOf a out back → leavesNear q from to out back a ≡ ltb c (q .maintenance)
-  unfolding leavesNear
-  in-service {w} {v} e h f k g = rw (← e, ← f, ← g, eq-eqb w (q .near) h, ne-eqb v (q .far) k)
 
 -- the first hops found among the arcs before a, in a column of 256 cells
 pub record FirstsFound (q : Protected) (from to out back : List ℕ) (a count : ℕ) (arcs : List ℕ) : Type 0 where

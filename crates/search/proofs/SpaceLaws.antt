@@ -16,7 +16,8 @@ use Rattle.lfa.specs.Laws.Test.{and-left, and-right}
 use Rattle.metric.specs.Fit.{cellsFit}
 use Rattle.avoid.specs.Calls.{readable}
 use Rattle.search.specs.Calls.{searchable}
-use Rattle.search.specs.Hops.{sideOf, hopBy, hopsIn}
+use Rattle.arcs.specs.Arcs.{sideOf, hopBy}
+use Rattle.search.specs.Hops.{hopsIn}
 use Rattle.search.specs.Spaces.{avoidedFrom, gathered, crossesOut}
 use Rattle.search.proofs.HopLaws.{hops-more}
 

@@ -1,12 +1,12 @@
 // The search for the pair that serves a repair, by the numbers that a table of distances holds.
 use crate::Found;
 use crate::hops::FirstHops;
-use crate::hops::Hop;
 use crate::hops::first_hops;
-use crate::hops::hop_of;
 use crate::space::can_search;
 use crate::space::extended_p;
 use crate::space::may_cross;
+use arcs::Hop;
+use arcs::hop_of;
 use avoid::Protected;
 use avoid::avoiding_from;
 use avoid::avoiding_to;
@@ -26,8 +26,9 @@ ghost use lib.ListN.{length};
 ghost use Rattle.metric.specs.Columns.{arcsIn};
 ghost use Rattle.order.specs.Order.{earliestIn};
 ghost use Rattle.avoid.specs.Avoiding.{asked};
-ghost use Rattle.search.specs.Hops.{hopIn, hopsIn};
-ghost use Rattle.search.specs.Choice.{outcomeFor, outcomeIn, firstOf, orderedAt, mayEnd, hopPairs, pairsTried, firstServing};
+ghost use Rattle.arcs.specs.Arcs.{hopIn};
+ghost use Rattle.search.specs.Hops.{hopsIn};
+ghost use Rattle.search.specs.Choice.{outcomeIn, firstOf, orderedAt, mayEnd, hopPairs, pairsTried, firstServing};
 ghost use Rattle.search.specs.Calls.{searchable, pairFor, linkIf, prefixIf};
 
 // The pair of a first hop and an endpoint. Its first key is the rank of its class.

@@ -2,7 +2,7 @@
 use crate::Which;
 use crate::hops::FirstHops;
 use crate::hops::first_hops;
-use crate::hops::head_of;
+use arcs::head_of;
 use avoid::Protected;
 use avoid::avoiding_from;
 use avoid::avoiding_to;

@@ -2,11 +2,11 @@
 use super::print::end;
 use super::print::number;
 use super::print::refused;
+use entries::link_entry;
+use entries::prefix_entry;
 use network_file::Verdict;
-use network_file::link_entry;
 use network_file::load;
 use network_file::network::Network;
-use network_file::prefix_entry;
 use refusal::file_row;
 
 // Prints a byte as a number.

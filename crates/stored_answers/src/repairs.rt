@@ -3,13 +3,13 @@
 use super::print::end;
 use super::print::number;
 use super::print::refused;
+use answers::Repair;
+use answers::SpaceAnswer;
 use network_file::load;
 use order::Pair;
+use question::Refusal;
 use refusal::Row;
 use refusal::question_row;
-use repair::Refusal;
-use repair::Repair;
-use repair::SpaceAnswer;
 
 // The start of a line: the question, its link and its end.
 fn print_question(name: &[u8], link: usize, side: usize) {

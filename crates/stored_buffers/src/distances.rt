@@ -2,8 +2,8 @@
 use super::print::end;
 use super::print::number;
 use super::print::refused;
+use answers::Filled;
 use network_file::load;
-use repair::Filled;
 use repair::distances;
 ghost use Prim.Native.Nat.{_≤_};
 

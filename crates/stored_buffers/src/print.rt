@@ -1,6 +1,6 @@
 // Printing numbers and refusals.
+use question::Refusal;
 use refusal::question_row;
-use repair::Refusal;
 
 // Prints a number after a space.
 pub(crate) fn number(n: usize) {

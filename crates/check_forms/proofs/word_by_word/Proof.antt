@@ -4,7 +4,6 @@ use mathlib.Core.Path.{_≡_, ap, _∙_}
 use Prim.Native.Nat.{ℕ, _+_, _-_, _*_, _%_, _≤_}
 use native.Mathlib.Omega.{arith}
 use native.Mathlib.Nat.{mod-add-mod}
-use lib.ListN.{drop}
 use borrow.Author.Needs.{needs}
 use Rattle.lfa.specs.File.{Bytes, byteAt, wordAt, sumWords, checkOf}
 use Rattle.lfa.specs.Laws.File.Sum.{sum-split, sum-word}

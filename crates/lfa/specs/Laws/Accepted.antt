@@ -24,7 +24,7 @@ use Rattle.lfa.specs.Laws.FileRows.{accepted-passes-rows, accepted-passe
 use Rattle.lfa.specs.Laws.File.Passes.{AreBytes}
 use Rattle.lfa.specs.Laws.File.Within.{links-length, prefixes-length, passes-within}
 use Rattle.lfa.specs.Laws.File.ReadBack.{passes-written}
-use Rattle.lfa.specs.Laws.File.WrittenFile.{link-entry-back, prefix-entry-back}
+use Rattle.lfa.specs.Laws.File.WrittenFile.{limits-few, link-entry-back, prefix-entry-back}
 use Rattle.lfa.specs.Laws.File.Written.{written-bytes, written-passes, written-network}
 
 -- ---- writing and reading
@@ -36,7 +36,7 @@ written-accepted net h = passes-accepted (fileOf net) (written-bytes net h) (wri
 -- .. and reading it gives the network back.
 pub written-loaded : (net : Network) → WithinLimits net → networkLoaded (fileOf net) ≡ net
 unfolding networkLoaded
-written-loaded net h = rw (accepted-passes-rows (fileOf net) (written-accepted net h), networkLoaded) (written-network net h)
+written-loaded net h = rw (accepted-passes-rows (fileOf net) (written-accepted net h), networkLoaded) (written-network net (limits-few net h))
 
 module _ (b : Bytes) (a : Accepted b) where
   bytes : AreBytes b
@@ -85,14 +85,14 @@ pub link-part : (b : Bytes) → Accepted b → (k : ℕ) → k < length (network
 unfolding linkPart partIf
 link-part b a k h =
     let small : k < linksOf b = rw (link-count b a) at h in
-    let back = link-entry-back (networkOf b) (accepted-limits b a) k h in
+    let back = link-entry-back (networkOf b) (limits-few (networkOf b) (accepted-limits b a)) k h in
     rw (accepted-passes-rows b a, lt-ltb k (linksOf b) small) (rw (accepted-written b a) at back)
 
 pub prefix-part : (b : Bytes) → Accepted b → (k : ℕ) → k < length (networkOf b .prefixes) → prefixPart b k ≡ prefixBytes (getD (networkOf b .prefixes) k [])
 unfolding prefixPart partIf
 prefix-part b a k h =
     let small : k < prefixesOf b = rw (prefix-count b a) at h in
-    let back = prefix-entry-back (networkOf b) (accepted-limits b a) k h in
+    let back = prefix-entry-back (networkOf b) (limits-few (networkOf b) (accepted-limits b a)) k h in
     rw (accepted-passes-rows b a, lt-ltb k (prefixesOf b) small) (rw (accepted-written b a) at back)
 
 -- .. and for a refused file or a number too large there are none.

@@ -10,22 +10,15 @@ use Rattle.options.proofs.move_at.Tie as tie
 
 returns : tie.Need-returns
 unfolding moveIn
-returns c = move-none _ _ _ _ _ _ _ _ _ _ _ _ (inl (omega arith))
+returns c = move-none _ _ _ _ _ _ _ _ (inl (omega arith))
 
 returns-2 : tie.Need-returns-2
 unfolding moveIn
-returns-2 c = move-none _ _ _ _ _ _ _ _ _ _ _ _ (inr (inl (omega arith)))
+returns-2 c = move-none _ _ _ _ _ _ _ _ (inl (omega arith))
 
 returns-3 : tie.Need-returns-3
 unfolding moveIn
-returns-3 c = move-none _ _ _ _ _ _ _ _ _ _ _ _ (inr (inl (omega arith)))
-
-returns-4 : tie.Need-returns-4
-unfolding moveIn
-returns-4 c = move-none _ _ _ _ _ _ _ _ _ _ _ _ (inr (inr (omega arith)))
-
-next-routers-requires : tie.Need-next-routers-requires
-next-routers-requires c κs = search needs
+returns-3 c = move-none _ _ _ _ _ _ _ _ (inr (omega arith))
 
 delivers-requires : tie.Need-delivers-requires
 delivers-requires c κs = search needs
@@ -33,19 +26,8 @@ delivers-requires c κs = search needs
 option-taken-requires : tie.Need-option-taken-requires
 option-taken-requires c κs = search needs
 
-returns-5 : tie.Need-returns-5
-returns-5 c =
-    move-taken _ _ _ _ _ _ _ _ _ _ _ _ (omega arith) (omega arith) (omega arith) (c .before .delivers .ensures) (c .before .before .next-routers .ensures) (c .option-taken .ensures)
+returns-4 : tie.Need-returns-4
+returns-4 c = move-taken _ _ _ _ _ _ _ _ (omega arith) (omega arith) (c .before .delivers .ensures) (c .option-taken .ensures)
 
 pub move-at-spec : {M : Type 1} → statement M
-move-at-spec =
-    tie.close
-    (tie.spec
-    returns
-    returns-2
-    returns-3
-    returns-4
-    next-routers-requires
-    delivers-requires
-    option-taken-requires
-    returns-5)
+move-at-spec = tie.close (tie.spec returns returns-2 returns-3 delivers-requires option-taken-requires returns-4)

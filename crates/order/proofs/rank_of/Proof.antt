@@ -9,14 +9,14 @@ use Rattle.order.proofs.rank_of.Tie as tie
 returns : tie.Need-returns
 returns c = sym (List·getD-eq-default (c .before .before .args .ranks .now) 0 (c .if1 .taken))
 
-shared-slice-read-wide : tie.Need-shared-slice-read-wide
-shared-slice-read-wide c = search needs
+shared-slice-read-rank-number : tie.Need-shared-slice-read-rank-number
+shared-slice-read-rank-number c = search needs
 
-wide-requires : tie.Need-wide-requires
-wide-requires c κs = search needs
+rank-number-requires : tie.Need-rank-number-requires
+rank-number-requires c κs = search needs
 
 returns-2 : tie.Need-returns-2
 returns-2 c = search needs
 
 pub rank-of-spec : {M : Type 1} → statement M
-rank-of-spec = tie.close (tie.spec returns shared-slice-read-wide wide-requires returns-2)
+rank-of-spec = tie.close (tie.spec returns shared-slice-read-rank-number rank-number-requires returns-2)

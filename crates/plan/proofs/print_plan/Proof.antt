@@ -1,7 +1,7 @@
 -- An accepted file has at most 128 links.
 -- Assumes nothing.
 use native.Mathlib.Omega.{arith}
-use Rattle.repair.specs.Laws.Loaded.{taken, columns-within}
+use Rattle.question.specs.Laws.Loaded.{taken, columns-within}
 use borrow.Author.Needs.{needs}
 use Rattle.plan.proofs.print_plan.Statement.{statement}
 use Rattle.plan.proofs.print_plan.Tie as tie

@@ -3,8 +3,9 @@
 use mathlib.Core.Path.{_∙_, ap}
 use Rattle.lfa.specs.Question.{loading}
 use Rattle.lfa.specs.Answer.{answerTo}
-use Rattle.planner.specs.Numbers.{numbersOf, loadedAs}
-use Rattle.planner.specs.declared.answer.Numbers.{Numbers}
+use Rattle.numbers.specs.Numbers.{numbersOf}
+use Rattle.planner.specs.Numbers.{loadedAs}
+use Rattle.numbers.specs.declared.Numbers.{Numbers}
 use borrow.Author.Needs.{needs}
 use Rattle.planner.proofs.planner_load.Statement.{statement}
 use Rattle.planner.proofs.planner_load.Tie as tie

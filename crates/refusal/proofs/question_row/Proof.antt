@@ -3,7 +3,7 @@
 use Rattle.lfa.specs.Refusal.{entryOf}
 use Rattle.lfa.specs.Answer.{refusal}
 use Rattle.network_file.specs.Load.{faultOf}
-use Rattle.repair.specs.Answer.{rowOf, refusalAnswer}
+use Rattle.question.specs.Turning.{rowOf, refusalAnswer}
 use borrow.Author.Needs.{needs}
 use Rattle.refusal.proofs.question_row.Statement.{statement}
 use Rattle.refusal.proofs.question_row.Tie as tie

@@ -10,8 +10,9 @@ use Rattle.lfa.specs.Ranks.{isArrangement}
 use Rattle.lfa.specs.Question.{Question, askSpace}
 use Rattle.search.specs.Spaces.{spaceNamed}
 use Rattle.rows.specs.Rows.{callOf, questionAbout}
-use Rattle.repair.specs.Answer.{spaceAnswer, Judges}
-use Rattle.repair.specs.Laws.Posed.{refused-answered}
+use Rattle.question.specs.Turning.{Judges}
+use Rattle.answers.specs.Answer.{spaceAnswer}
+use Rattle.question.specs.Laws.Posed.{refused-answered}
 use Rattle.repair.specs.Laws.Answered.{space-answered}
 use borrow.Author.Needs.{needs}
 use Rattle.repair.proofs.ask_space.Statement.{statement}

@@ -10,8 +10,9 @@ use Rattle.lfa.specs.Space.{pSpace}
 use Rattle.lfa.specs.Ranks.{isArrangement}
 use Rattle.lfa.specs.Question.{Question, filling}
 use Rattle.rows.specs.Rows.{callOf, questionAbout}
-use Rattle.repair.specs.Answer.{filledAnswer, Judges}
-use Rattle.repair.specs.Laws.Posed.{refused-answered}
+use Rattle.question.specs.Turning.{Judges}
+use Rattle.answers.specs.Answer.{filledAnswer}
+use Rattle.question.specs.Laws.Posed.{refused-answered}
 use Rattle.repair.specs.Laws.Answered.{done-answered}
 use borrow.Author.Needs.{needs}
 use Rattle.repair.proofs.distances.Statement.{statement}

@@ -14,10 +14,10 @@ use Rattle.lfa.specs.Laws.Asked.{posed-work}
 use Rattle.lfa.specs.Laws.Replies.{computes, has, space-has-link, link-has-link, prefix-has-link, prefix-has-prefix}
 use Rattle.network_file.specs.declared.network.Network.{Network}
 use Rattle.search.specs.Calls.{spaceBy, linkBy, prefixBy}
-use Rattle.repair.specs.declared.question.Turned.{Turned}
-use Rattle.repair.specs.declared.question.Turned.the-variants.{Ready}
-use Rattle.repair.specs.Answer.{Judges}
-use Rattle.repair.specs.Laws.Posed.{ready-posed, ready-taken, area-filled}
+use Rattle.question.specs.declared.Turned.{Turned}
+use Rattle.question.specs.declared.Turned.the-variants.{Ready}
+use Rattle.question.specs.Turning.{Judges}
+use Rattle.question.specs.Laws.Posed.{ready-posed, ready-taken, area-filled}
 use Rattle.repair.specs.Laws.Searched.{space-searched, link-searched, prefix-searched}
 
 module _ {q : Question} {turned : Turned} {network : Network} {area after : List ℕ} (j : Judges q turned network area after) (bytes : (i : ℕ) → byteAt (q .file) i < 256) (ready : turned ≡ Ready) where

@@ -10,8 +10,10 @@ use Rattle.lfa.specs.Network.{Link, link, arcs}
 use Rattle.lfa.specs.File.{Bytes, networkOf}
 use Rattle.lfa.specs.Distance.{distances, distanceIn, filled}
 use Rattle.lfa.specs.Space.{underMaintenance, protectedBy, protected}
+use Rattle.lfa.specs.Laws.File.WrittenFile.{limits-few}
 use Rattle.network_file.specs.declared.network.Network.{Network}
 use Rattle.network_file.specs.Struct.{structOf}
+use Rattle.network_file.specs.Laws.Struct.{struct-link, slots-prefix, slots-within}
 use Rattle.metric.specs.Columns.{arcsIn}
 use Rattle.metric.specs.Fit.{SlotsWithin}
 use Rattle.metric.specs.Area.{held}
@@ -19,23 +21,19 @@ use Rattle.metric.specs.Column.{slotsIn}
 use Rattle.metric.specs.Laws.Area.{held-filled}
 use Rattle.metric.specs.Laws.Columns.{arcs-columns}
 use Rattle.search.specs.Hops.{protectedIn}
-use Rattle.repair.specs.Taken.{Taken}
-use Rattle.repair.specs.Laws.Loaded.{limits, network-columns, routers-are, struct-link}
-use Rattle.repair.specs.Laws.Slot.{slots-prefix, slots-within}
+use Rattle.question.specs.Taken.{Taken}
+use Rattle.question.specs.Laws.Loaded.{limits, network-columns, routers-same}
 
 -- ---- the network
 
 module _ {b : Bytes} {network : Network} (t : Taken b network) where
-  pub routers-same : network .routers ≡ networkOf b .routers
-  routers-same = sym (network-columns t .routers-are)
-
   -- the arcs of the network, as the columns hold them
   pub hops-are : arcsIn (network .from) (network .to) (network .out) (network .back) (network .links) ≡ arcs (networkOf b)
   hops-are = sym (arcs-columns (network-columns t))
 
   -- its distances, as the area holds them
   pub held-is : (area : List ℕ) {after : List ℕ} → after ≡ filled (networkOf b) area → held (network .routers) after ≡ distanceIn (distances (networkOf b))
-  held-is area f = rw (routers-same, f) (held-filled (networkOf b) area)
+  held-is area f = rw (routers-same t, f) (held-filled (networkOf b) area)
 
 -- ---- the prefix that is named
 
@@ -53,7 +51,7 @@ module _ {b : Bytes} {network : Network} (t : Taken b network) (x : ℕ) (x-in :
   prefix-slots c = rw (c, t .network-is) (slots-within (networkOf b) (limits t) x prefix-exists)
 
   pub prefix-target : {count : ℕ} → count ≡ getD (network .attached) x 0 → slotsIn (network .at) (network .own) (8 * x) count ≡ getD (networkOf b .prefixes) x []
-  prefix-target c = rw (c, t .network-is) (slots-prefix (networkOf b) (limits t) x prefix-exists)
+  prefix-target c = rw (c, t .network-is) (slots-prefix (networkOf b) (limits-few (networkOf b) (limits t)) x prefix-exists)
 
 -- ---- the link that is named
 

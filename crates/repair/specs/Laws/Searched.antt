@@ -24,9 +24,9 @@ use Rattle.metric.specs.Laws.Area.{held-filled}
 use Rattle.avoid.specs.Known.{Known}
 use Rattle.search.specs.Calls.{hopsOf, protectedOf, spaceBy, linkBy, prefixBy}
 use Rattle.search.specs.Laws.Calls.{Asking, space-found, link-found, prefix-found}
-use Rattle.repair.specs.Taken.{Taken}
-use Rattle.repair.specs.Laws.Loaded.{limits, columns-within, links-are, prefixes-are}
-use Rattle.repair.specs.Laws.Named.{routers-same, hops-are, held-is, prefix-cell, prefix-slots, prefix-target, protected-is}
+use Rattle.question.specs.Taken.{Taken}
+use Rattle.question.specs.Laws.Loaded.{limits, columns-within, routers-same, links-are, prefixes-are}
+use Rattle.repair.specs.Laws.Named.{hops-are, held-is, prefix-cell, prefix-slots, prefix-target, protected-is}
 
 -- Of a network with sound links and of one of them, all is known that spaces and repairs need, once the area is filled.
 known-filled : (net : lfa.Network) {height : ℕ → ℕ} → LinksSound net height → (area : List ℕ) → net .routers * net .routers ≤ length area → (l e : ℕ) → l < length (net .links) →

@@ -14,8 +14,9 @@ use Rattle.lfa.specs.Answer.{played, repairAnswer}
 use Rattle.lfa.specs.Laws.Asked.{answer-chosen}
 use Rattle.order.specs.Order.{toldIn}
 use Rattle.rows.specs.Rows.{callOf, questionAbout}
-use Rattle.repair.specs.Answer.{repairOf, Judges}
-use Rattle.repair.specs.Laws.Posed.{refused-away, refused-answered}
+use Rattle.question.specs.Turning.{Judges}
+use Rattle.answers.specs.Answer.{repairOf}
+use Rattle.question.specs.Laws.Posed.{refused-away, refused-answered}
 use Rattle.repair.specs.Laws.Answered.{area-left}
 use Rattle.route.specs.Answer.{playedOf}
 use Rattle.route.proofs.RouteLaws.{not-pair, passed}

@@ -8,8 +8,9 @@ use native.Mathlib.Omega.{arith}
 use borrow.Author.Needs.{needs}
 use Rattle.lfa.specs.Space.{setOf}
 use Rattle.metric.specs.Area.{held}
+use Rattle.metric.specs.Laws.Set.{put-in, left-out}
 use Rattle.avoid.specs.Avoiding.{asked, clearsTo}
-use Rattle.avoid.proofs.SetLaws.{known, cells-clear-to, put-in, left-out}
+use Rattle.avoid.proofs.SetLaws.{known, cells-clear-to}
 use Rattle.avoid.proofs.set.set_from.Statement.{statement}
 use Rattle.avoid.proofs.set.set_from.Tie as tie
 

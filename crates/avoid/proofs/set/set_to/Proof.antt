@@ -9,8 +9,9 @@ use lib.ListN.{getD}
 use borrow.Author.Needs.{needs}
 use Rattle.lfa.specs.Space.{setOf}
 use Rattle.metric.specs.Area.{held}
+use Rattle.metric.specs.Laws.Set.{put-in, left-out}
 use Rattle.avoid.specs.Avoiding.{asked, clears}
-use Rattle.avoid.proofs.SetLaws.{known, cells-clear, put-in, left-out}
+use Rattle.avoid.proofs.SetLaws.{known, cells-clear}
 use Rattle.avoid.proofs.set.set_to.Statement.{statement}
 use Rattle.avoid.proofs.set.set_to.Tie as tie
 

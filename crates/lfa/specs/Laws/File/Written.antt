@@ -15,21 +15,25 @@ use Rattle.lfa.specs.Laws.File.Bytes.{cons-bytes, append-bytes, word-byt
 use Rattle.lfa.specs.Laws.File.WrittenBlock.{block-bytes, entries-bytes}
 use Rattle.lfa.specs.Laws.File.WrittenEntry.{link-bytes, prefix-bytes}
 use Rattle.lfa.specs.Laws.File.WrittenBlocks.{linkBlocksFor, prefixBlocksFor, linkEntries, prefixEntries, routers-back, links-back, prefixes-back, blocks-long, each-block}
-use Rattle.lfa.specs.Laws.File.WrittenFile.{link-within-at, prefix-within-at, links-count, links-long, links-fit, prefixes-count, prefixes-long, prefixes-fit}
+use Rattle.lfa.specs.Laws.File.WrittenFile.{FewAttached, limits-few, link-within-at, prefix-within-at, links-count, links-long, links-fit, prefixes-count, prefixes-long, prefixes-fit}
 use Rattle.lfa.specs.Laws.File.WrittenRows.{link-of, prefix-of, row1, row2, row3, row4, row5, row6, row7, row8, row9}
 
-module _ (net : Network) (within : WithinLimits net) where
+module _ (net : Network) (few : FewAttached net) where
   links-same : map (linkOf (fileOf net)) (below (linksOf (fileOf net))) ≡ net .links
-  links-same = rw (links-back net) (made-again (linkOf (fileOf net)) (net .links) (link 0 0 0 0) (link-of net within))
+  links-same = rw (links-back net) (made-again (linkOf (fileOf net)) (net .links) (link 0 0 0 0) (link-of net few))
 
   prefixes-same : map (prefixOf (fileOf net)) (below (prefixesOf (fileOf net))) ≡ net .prefixes
-  prefixes-same = rw (prefixes-back net) (made-again (prefixOf (fileOf net)) (net .prefixes) [] (prefix-of net within))
+  prefixes-same = rw (prefixes-back net) (made-again (prefixOf (fileOf net)) (net .prefixes) [] (prefix-of net few))
 
-  -- The file holds the network: the head's fields read back, and link k and prefix k of the file are those of the network for each k,
+  -- The file holds the network, if only each prefix fits into its entry: the head's fields read back, and link k and prefix k of the file are those of the network for each k,
   -- so the lists made from them are the network's own.
   pub written-network : networkOf (fileOf net) ≡ net
   unfolding networkOf
   written-network = rw (routers-back net, links-same, prefixes-same)
+
+module _ (net : Network) (within : WithinLimits net) where
+  few : FewAttached net
+  few = limits-few net within
 
   -- no row applies to the file: the nine tests, each by its own law of WrittenRows
   pub written-passes : Passes (fileOf net)
@@ -67,8 +71,8 @@ module _ (net : Network) (within : WithinLimits net) where
   link-block-bytes : (j : ℕ) → j < linkBlocksFor net → AreBytes (linkBlock net j)
   unfolding linkBlock entriesIn linkBlocks ceil
   link-block-bytes j h =
-      entries-bytes 2 (1 + j) 6 (linkEntries net j) (links-long net within j) (links-fit net within j)
-      (omega arith) (omega (arith, links-count net within j)) (omega (arith, within .few-links)) (group-each linkBytes (net .links) (link 0 0 0 0) 84 j AreBytes link-bytes-at)
+      entries-bytes 2 (1 + j) 6 (linkEntries net j) (links-long net few j) (links-fit net few j)
+      (omega arith) (omega (arith, links-count net few j)) (omega (arith, within .few-links)) (group-each linkBytes (net .links) (link 0 0 0 0) 84 j AreBytes link-bytes-at)
 
   prefix-bytes-at : (k : ℕ) → k < length (net .prefixes) → AreBytes (prefixBytes (getD (net .prefixes) k []))
   prefix-bytes-at k h = prefix-bytes (net .routers) (getD (net .prefixes) k []) (prefix-within-at net within k h) (within .few-routers)
@@ -76,8 +80,8 @@ module _ (net : Network) (within : WithinLimits net) where
   prefix-block-bytes : (j : ℕ) → j < prefixBlocksFor net → AreBytes (prefixBlock net j)
   unfolding prefixBlock entriesIn linkBlocks prefixBlocks ceil
   prefix-block-bytes j h =
-      entries-bytes 3 (1 + linkBlocksFor net + j) 34 (prefixEntries net j) (prefixes-long net within j) (prefixes-fit net within j)
-      (omega arith) (omega (arith, prefixes-count net within j)) (omega (arith, within .few-links, within .few-prefixes))
+      entries-bytes 3 (1 + linkBlocksFor net + j) 34 (prefixEntries net j) (prefixes-long net few j) (prefixes-fit net few j)
+      (omega arith) (omega (arith, prefixes-count net few j)) (omega (arith, within .few-links, within .few-prefixes))
       (group-each prefixBytes (net .prefixes) [] 14 j AreBytes prefix-bytes-at)
 
   -- Every byte of the file is below 256: the limits bound each field that is written, and padding and checks are bytes.

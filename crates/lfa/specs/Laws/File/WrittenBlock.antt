@@ -64,7 +64,7 @@ word-after front w k h =
     omega arith
 
 -- bytes after the first 510 do not change the check
-check-front : (front rest : Bytes) → length front ≡ 510 → checkOf (front ++ rest) ≡ checkOf front
+pub check-front : (front rest : Bytes) → length front ≡ 510 → checkOf (front ++ rest) ≡ checkOf front
 unfolding checkOf
 check-front front rest h = ap (λ (s : ℕ). s % 65536) (sum-front 255 front rest h)
 
@@ -75,10 +75,10 @@ check-right front h = check-front front (wordBytes (checkOf front)) h ∙ sym (w
 -- ---- a block
 
 -- all of a block but its check
-abbrev frontBytes : ℕ → ℕ → ℕ → Bytes → Bytes
+abbrev pub frontBytes : ℕ → ℕ → ℕ → Bytes → Bytes
 frontBytes kind entries number content = kind ∷ entries ∷ wordBytes number ++ pad 506 content
 
-front-long : (kind entries number : ℕ) (content : Bytes) → length content ≤ 506 → length (frontBytes kind entries number content) ≡ 510
+pub front-long : (kind entries number : ℕ) (content : Bytes) → length content ≤ 506 → length (frontBytes kind entries number content) ≡ 510
 unfolding wordBytes
 front-long kind entries number content fits = omega (arith, pad-long 506 content fits)
 

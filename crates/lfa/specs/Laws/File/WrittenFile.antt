@@ -14,7 +14,7 @@ use Rattle.lfa.specs.Laws.File.WrittenBlock.{block-long, entries-long, e
 use Rattle.lfa.specs.Laws.File.WrittenEntry.{link-long, prefix-long}
 use Rattle.lfa.specs.Laws.File.WrittenBlocks.{linkBlocksFor, prefixBlocksFor, blocksFor, headContent, linkEntries, prefixEntries, links-back, blocks-long, link-block-at, prefix-block-at, each-block}
 
--- ---- the entries of a block
+-- ---- networks within the limits, by number
 
 module _ (net : Network) (within : WithinLimits net) where
   pub link-within-at : (k a b ab ba : ℕ) → k < length (net .links) → getD (net .links) k (link 0 0 0 0) ≡ link a b ab ba → LinkWithin (net .routers) a b ab ba
@@ -23,6 +23,16 @@ module _ (net : Network) (within : WithinLimits net) where
   pub prefix-within-at : (k : ℕ) → k < length (net .prefixes) → PrefixWithin (net .routers) (getD (net .prefixes) k [])
   prefix-within-at k h = within .prefix-within (getD-in (net .prefixes) k [] h)
 
+-- What follows needs no more of the network than that the attachments of each prefix fit into its entry.
+abbrev pub FewAttached : Network → Type 0
+FewAttached net = (k : ℕ) → k < length (net .prefixes) → length (getD (net .prefixes) k []) ≤ 8
+
+pub limits-few : (net : Network) → WithinLimits net → FewAttached net
+limits-few net within k h = prefix-within-at net within k h .few
+
+-- ---- the entries of a block
+
+module _ (net : Network) (few : FewAttached net) where
   -- link block j
   pub links-count : (j : ℕ) → length (linkEntries net j) ≡ entriesIn 84 (length (net .links)) j
   unfolding entriesIn
@@ -41,7 +51,7 @@ module _ (net : Network) (within : WithinLimits net) where
   prefixes-count j = group-count prefixBytes (net .prefixes) [] 14 j
 
   pub prefixes-long : (j : ℕ) → EachLong 34 (prefixEntries net j)
-  prefixes-long j = group-each prefixBytes (net .prefixes) [] 14 j (λ b. length b ≡ 34) (λ k h. prefix-long (getD (net .prefixes) k []) (prefix-within-at k h .few))
+  prefixes-long j = group-each prefixBytes (net .prefixes) [] 14 j (λ b. length b ≡ 34) (λ k h. prefix-long (getD (net .prefixes) k []) (few k h))
 
   pub prefixes-fit : (j : ℕ) → 34 * length (prefixEntries net j) ≤ 506
   unfolding entriesIn
@@ -49,11 +59,11 @@ module _ (net : Network) (within : WithinLimits net) where
 
   -- ---- the blocks of the file
 
-  head-long : length (headBlock net) ≡ 512
+  pub head-long : length (headBlock net) ≡ 512
   unfolding headBlock wordBytes
   head-long = block-long 1 0 0 (headContent net) (omega arith)
 
-  link-block-long : (j : ℕ) → length (linkBlock net j) ≡ 512
+  pub link-block-long : (j : ℕ) → length (linkBlock net j) ≡ 512
   unfolding linkBlock
   link-block-long j = entries-long 2 (1 + j) 6 (linkEntries net j) (links-long j) (links-fit j)
 

@@ -7,7 +7,7 @@ use native.Mathlib.Omega.{arith}
 use borrow.Author.Needs.{needs}
 use Rattle.lfa.specs.Lists.{countUp, below, select}
 use Rattle.order.specs.Order.{earliestIn}
-use Rattle.search.specs.Hops.{hopIn}
+use Rattle.arcs.specs.Arcs.{hopIn}
 use Rattle.search.specs.Choice.{firstOf, hopPairs, mayEnd}
 use Rattle.search.proofs.ChoiceLaws.{end-more, end-same}
 use Rattle.search.proofs.pair.over_hop.Statement.{statement}

@@ -1,0 +1,48 @@
+-- What the answer of `pose` tells of a question: it is turned away with that refusal, or no row before 14 applies to it, and the work area
+-- holds the distances.
+-- Assumes nothing.
+use Prim.Native.Nat.{ℕ, _<_}
+use mathlib.Core.Path.{_≡_, sym, ap, _∙_}
+use mathlib.Core.List.{List}
+use Rattle.lfa.specs.File.{byteAt, networkOf}
+use Rattle.lfa.specs.Distance.{filled}
+use Rattle.lfa.specs.Question.{Question}
+use Rattle.lfa.specs.Refusal.{Posed}
+use Rattle.lfa.specs.Answer.{networkLoaded}
+use Rattle.lfa.specs.Contract.{Answered}
+use Rattle.lfa.specs.Laws.Accepted.{accepted-loaded}
+use Rattle.lfa.specs.Laws.Turned.{TurnedAway, answer-turned-away, answer-posed}
+use Rattle.network_file.specs.declared.network.Network.{Network}
+use Rattle.question.specs.declared.Refusal.{Refusal}
+use Rattle.question.specs.declared.Turned.{Turned}
+use Rattle.question.specs.declared.Turned.the-variants.{Refused, Ready}
+use Rattle.question.specs.Turning.{refusalAnswer, turnedRow, turnedAnswer, areaPosed, Judges}
+use Rattle.question.specs.Taken.{Taken}
+use Rattle.question.specs.Laws.Loaded.{taken-posed}
+
+module _ {q : Question} {turned : Turned} {network : Network} {area after : List ℕ} (j : Judges q turned network area after) where
+  -- where it is turned away
+  module _ {x : Refusal} (e : turned ≡ Refused x) where
+    pub refused-away : TurnedAway q (refusalAnswer x)
+    unfolding turnedAnswer turnedRow refusalAnswer
+    refused-away = answer-turned-away q (refusalAnswer x) (sym (j .turned-is) ∙ ap turnedAnswer e)
+
+    pub area-lent : after ≡ area
+    unfolding areaPosed
+    area-lent = j .area-is ∙ ap (λ (t : Turned). areaPosed t (networkLoaded (q .file)) area) e
+
+    pub refused-answered : Answered q (refusalAnswer x) area after
+    refused-answered = record { answer-is = sym (refused-away .answered); area-is = area-lent ∙ sym (refused-away .area-left area) }
+
+  -- where it is not
+  module _ (bytes : (i : ℕ) → byteAt (q .file) i < 256) (e : turned ≡ Ready) where
+    pub ready-posed : Posed q
+    unfolding turnedAnswer turnedRow
+    ready-posed = answer-posed q bytes (sym (j .turned-is) ∙ ap turnedAnswer e)
+
+    pub ready-taken : Taken (q .file) network
+    ready-taken = taken-posed q ready-posed (j .network-is)
+
+    pub area-filled : after ≡ filled (networkOf (q .file)) area
+    unfolding areaPosed
+    area-filled = j .area-is ∙ ap (λ (t : Turned). areaPosed t (networkLoaded (q .file)) area) e ∙ ap (λ (net : _). filled net area) (accepted-loaded (q .file) (ready-posed .file))

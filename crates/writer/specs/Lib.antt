@@ -1,0 +1,3 @@
+pub mod Put
+pub mod Block
+pub mod File
