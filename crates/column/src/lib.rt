@@ -1,6 +1,6 @@
-// The distances to a target, one for each router, read from an area that holds the distances.
+// The distances to a target, one for each router, read from an area that holds the distances; and the routers attached to a prefix.
 //
-// The two public functions take any numbers. Where they are not those of a network, the column is all zeros.
+// The public functions take any numbers. Where they are not those of a network, the column is all zeros, and the set is empty.
 use fit::slots_fit;
 use metric::Distance;
 use metric::read::cell;
@@ -12,10 +12,11 @@ ghost use Prim.Native.Nat.{_*_, _≤_, _<_};
 ghost use lib.ListN.{length};
 ghost use Rattle.lfa.specs.Distance.{towards};
 ghost use Rattle.lfa.specs.Network.{router};
+ghost use Rattle.lfa.specs.Space.{setOf};
 ghost use Rattle.metric.specs.Fit.{SlotsWithin};
 ghost use Rattle.metric.specs.Area.{held};
 ghost use Rattle.metric.specs.Column.{column, slotsIn};
-ghost use Rattle.column.specs.Calls.{routerColumn, prefixColumn};
+ghost use Rattle.column.specs.Calls.{routerColumn, prefixColumn, inSlots, attachedSet};
 
 // The distances to a router from each of the n routers.
 fn router_column(dist: &[u32], n: usize, t: usize) -> [u32; 64]
@@ -111,4 +112,28 @@ pub fn towards_prefix<'a>(
         return none;
     }
     prefix_column(dist, n, at, own, slot, count)
+}
+
+// The routers that the slots hold.
+fn attached_in(at: &[u8; 1024], slot: usize, count: usize) -> u64
+    requires { ⌜ SlotsWithin 64 slot count (now at) ⌝ }
+    ensures { λ r. ⌜ r ≡ setOf 64 (inSlots (now (at .entry)) slot count) ⌝ }
+{
+    let mut set: u64 = 0;
+    let mut s = 0;
+    while s < count {
+        set = set | (1u64 << wide(at[slot + s]));
+        s += 1;
+    }
+    set
+}
+
+// The set of the routers attached to the prefix whose first slot is `slot`.
+pub fn attached_routers(at: &[u8; 1024], slot: usize, count: usize) -> u64
+    ensures { λ r. ⌜ r ≡ attachedSet (now (at .entry)) slot count ⌝ }
+{
+    if !slots_fit(64, at, slot, count) {
+        return 0;
+    }
+    attached_in(at, slot, count)
 }

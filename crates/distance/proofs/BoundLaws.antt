@@ -7,8 +7,8 @@ use mathlib.Core.List.{List, map, List·Memᴰ}
 use native.Mathlib.Omega.{arith}
 use Rattle.lfa.specs.Network.{Arc, arc}
 use Rattle.lfa.specs.Distance.{unreachable, RouterPath, stay, via, LeastCosts, stage, distanceIn}
-use Rattle.lfa.specs.Laws.Walk.{Descends, level, measure}
-use Rattle.lfa.specs.Laws.Arrive.{Within, measure-falls}
+use Rattle.lfa.specs.Laws.Walk.{Descends, level}
+use Rattle.lfa.specs.Laws.Arrive.{Within}
 use Rattle.lfa.specs.Laws.Bound.{Sound, distance-small, path-finite}
 use Rattle.lfa.specs.Laws.Distance.{distances-least}
 use Rattle.lfa.specs.Laws.List.{map-gives, map-make}
@@ -56,7 +56,8 @@ module _ (hops : List Arc) where
     sound = record {
       few = few;
       within = record { from = λ m. within .from (down m .1); to = λ m. within .to (down m .1) };
-      falls = λ d to. (measure level d to, measure-falls d to descends);
+      height = level;
+      descends = descends;
       capped = λ m. omega (arith, down m .2);
     }
 

@@ -6,6 +6,7 @@ pub mod Table
 pub mod Chunks
 pub mod Ranks
 pub mod Target
+pub mod Attached
 pub mod Hop
 pub mod Distance
 pub mod Local

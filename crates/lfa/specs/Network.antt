@@ -1,7 +1,10 @@
 -- The network: "Routers, links and prefixes count from 0 in file order."
 -- Assumes nothing.
 use Prim.Native.Nat.{ℕ, suc}
-use mathlib.Core.List.{List, [], _∷_}
+use mathlib.Core.Bool.{Bool}
+use mathlib.Core.List.{List, [], _∷_, List·Memᴰ}
+use lib.Dec.{eqb}
+use Rattle.lfa.specs.Lists.{anyOf}
 
 -- link: router a, router b, cost a to b, cost b to a
 pub data Link : Type 0 where
@@ -14,6 +17,18 @@ pub data Attachment : Type 0 where
 -- target of traffic: the attached routers, each with its own cost. A prefix is its attachments.
 abbrev pub Target : Type 0
 Target = List Attachment
+
+-- router x is attached to the target, at its own cost
+pub record Attached (to : Target) (x : ℕ) : Type 0 where
+  pub own : ℕ
+  pub listed : List·Memᴰ (at x own) to
+
+-- and the test of it: some attachment is x's
+unfoldable pub attachmentOf : ℕ → Attachment → Bool
+attachmentOf x (at a c) = eqb a x
+
+unfoldable pub isAttached : Target → ℕ → Bool
+isAttached to x = anyOf (attachmentOf x) to
 
 pub record Network : Type 0 where
   pub routers : ℕ

@@ -1,16 +1,14 @@
--- Laws of the spaces by numbers: one first hop more, and the test of crossing.
+-- Laws of the spaces by numbers: one first hop more, and the test whether a question is searched for.
 -- Assumes nothing.
-use Prim.Native.Nat.{ℕ, _+_, _≤_, _<_, min}
+use Prim.Native.Nat.{ℕ, _+_, _≤_, _<_}
 use mathlib.Core.Path.{_≡_, refl, sym, ap, ap₂, _∙_}
 use mathlib.Core.Bool.{true}
 use mathlib.Core.List.{List, [], _∷_, _++_}
 use native.Mathlib.Omega.{arith}
 use lib.Bits.{bitOr}
-use lib.Dec.{ltb, eqb}
 use lib.ListN.{getD}
-use borrow.Author.Tests.{ltb-true, lt-ltb, le-ltb, leb-true}
+use borrow.Author.Tests.{ltb-true, leb-true}
 use Rattle.lfa.specs.Lists.{countUp, below}
-use Rattle.lfa.specs.Distance.{unreachable}
 use Rattle.lfa.specs.Space.{Protected, FirstHop}
 use Rattle.lfa.specs.Laws.Test.{and-left, and-right}
 use Rattle.metric.specs.Fit.{cellsFit}
@@ -18,7 +16,7 @@ use Rattle.avoid.specs.Calls.{readable}
 use Rattle.search.specs.Calls.{searchable}
 use Rattle.arcs.specs.Arcs.{sideOf, hopBy}
 use Rattle.search.specs.Hops.{hopsIn}
-use Rattle.search.specs.Spaces.{avoidedFrom, gathered, crossesOut}
+use Rattle.search.specs.Spaces.{avoidedFrom, gathered}
 use Rattle.search.proofs.HopLaws.{hops-more}
 
 -- ---- extended P
@@ -41,16 +39,6 @@ module _ (n : ℕ) (q : Protected) (area : List ℕ) where
     hop-more {m} i e f g =
         ap₂ bitOr e (g ∙ ap (avoidedFrom n q area) f)
         ∙ sym (ap (gathered n q area 0) (hops-more from to out back i arcs) ∙ gathered-append 0 (hopsIn from to out back i arcs) (hopBy from to out back (getD arcs i 0) ∷ []))
-
--- ---- crossing
-
-pub crossing-tried : {own sum : ℕ} (q : Protected) (h : ℕ → ℕ) → own < unreachable → own ≡ h (q .near) → sum ≡ min (q .out + h (q .far)) unreachable → eqb sum own ≡ crossesOut q h
-unfolding crossesOut
-crossing-tried {own} q h f e s = rw (s, e, lt-ltb (h (q .near)) unreachable (rw (← e) f))
-
-pub crossing-fails : {own : ℕ} (q : Protected) (h : ℕ → ℕ) → unreachable ≤ own → own ≡ h (q .near) → ltb own unreachable ≡ crossesOut q h
-unfolding crossesOut
-crossing-fails {own} q h f e = rw (← e, le-ltb own unreachable f)
 
 -- ---- the test whether a question is searched for
 

@@ -15,7 +15,8 @@ use Rattle.metric.specs.Columns.{arcsIn}
 use Rattle.column.specs.Calls.{routerColumn, prefixColumn}
 use Rattle.avoid.specs.Calls.{readable}
 use Rattle.search.specs.Hops.{protectedIn}
-use Rattle.search.specs.Spaces.{avoidingIn, spaceFor, crossesOut}
+use Rattle.steps.specs.Crossing.{stepsOver, avoidingBySteps}
+use Rattle.search.specs.Spaces.{avoidingIn, spaceFor}
 use Rattle.search.specs.Choice.{outcomeFor, firstServing}
 
 -- the columns have a cell for each link, and the area one for each two routers, the ends of the link among them
@@ -27,23 +28,27 @@ searchable n links q cells = leb links 128 && readable n q cells
 unfoldable pub spaceIf : Bool → Space → (n : ℕ) → List Arc → Protected → (area : List ℕ) → ℕ
 spaceIf passes s n hops q area = elim passes [ true ↦ spaceFor s n hops q area | false ↦ 0 ]
 
--- the pair that serves a target to which a column holds the distances
-unfoldable pub pairFor : (ranks : List ℕ) → (n : ℕ) → List Arc → Protected → (area column : List ℕ) → Outcome
-pairFor ranks n hops q area column = outcomeFor (firstServing ranks n hops q area column (avoidingIn n q area column))
+-- the pair that serves a target to which a column holds the distances; from the routers of `onward` the second leg avoids the link
+unfoldable pub pairFor : (ranks : List ℕ) → (n : ℕ) → List Arc → Protected → (area column : List ℕ) → (onward : ℕ) → Outcome
+pairFor ranks n hops q area column onward = outcomeFor (firstServing ranks n hops q area column onward)
+
+-- what is found for E: from the routers of Q the second leg avoids the link
+unfoldable pub linkFor : (ranks : List ℕ) → (n : ℕ) → List Arc → Protected → (area column : List ℕ) → Outcome
+linkFor ranks n hops q area column = pairFor ranks n hops q area column (avoidingIn n q area column)
 
 unfoldable pub linkIf : (ranks : List ℕ) → Bool → (n : ℕ) → List Arc → Protected → (area : List ℕ) → Outcome
-linkIf ranks passes n hops q area = elim passes [ true ↦ pairFor ranks n hops q area (routerColumn n (q .far) area) | false ↦ noneServes ]
+linkIf ranks passes n hops q area = elim passes [ true ↦ linkFor ranks n hops q area (routerColumn n (q .far) area) | false ↦ noneServes ]
 
--- what is found for a prefix to which a column holds the distances
-unfoldable pub prefixFor : (ranks : List ℕ) → (n : ℕ) → List Arc → Protected → (area column : List ℕ) → Outcome
-prefixFor ranks n hops q area column =
+-- what is found for a prefix to which a column holds the distances; every walk towards it ends at the routers of `ends`
+unfoldable pub prefixFor : (ranks : List ℕ) → (n : ℕ) → List Arc → Protected → (area : List ℕ) → (ends : ℕ) → (column : List ℕ) → (onward : ℕ) → Outcome
+prefixFor ranks n hops q area ends column onward =
     elim (ltb (getD column (q .near) 0) unreachable) [
       | false ↦ prefixUnreachable
-      | true ↦ elim (crossesOut q (λ x. getD column x 0)) [ false ↦ prefixUntouched | true ↦ pairFor ranks n hops q area column ]
+      | true ↦ elim (stepsOver q ends column) [ false ↦ prefixUntouched | true ↦ pairFor ranks n hops q area column onward ]
     ]
 
-unfoldable pub prefixIf : (ranks : List ℕ) → Bool → (n : ℕ) → List Arc → Protected → (area column : List ℕ) → Outcome
-prefixIf ranks passes n hops q area column = elim passes [ true ↦ prefixFor ranks n hops q area column | false ↦ noneServes ]
+unfoldable pub prefixIf : (ranks : List ℕ) → Bool → (n : ℕ) → List Arc → Protected → (area : List ℕ) → (ends : ℕ) → (column : List ℕ) → (onward : ℕ) → Outcome
+prefixIf ranks passes n hops q area ends column onward = elim passes [ true ↦ prefixFor ranks n hops q area ends column onward | false ↦ noneServes ]
 
 -- ---- by a network and a question
 
@@ -68,7 +73,12 @@ linkBy network ranks link end area = linkIf ranks (searches network link end are
 abbrev pub columnTo : Network → (prefix : ℕ) → (area : List ℕ) → List ℕ
 columnTo network prefix area = prefixColumn (network .routers) (network .at) (network .own) (8 * prefix) (getD (network .attached) prefix 0) area
 
+-- the routers from which the second leg avoids the link
+abbrev pub onwardTo : Network → (link end ends : ℕ) → (column : List ℕ) → ℕ
+onwardTo network link end ends column = avoidingBySteps (network .routers) (network .links) (network .from) (network .to) (network .out) (network .back) (protectedOf network link end) ends column
+
 -- what a prefix repair finds
 unfoldable pub prefixBy : Network → (ranks : List ℕ) → (link end prefix : ℕ) → (area : List ℕ) → Outcome
 prefixBy network ranks link end prefix area =
-    prefixIf ranks (ltb prefix 128 && searches network link end area) (network .routers) (hopsOf network) (protectedOf network link end) area (columnTo network prefix area)
+    let column = columnTo network prefix area in
+    prefixIf ranks (ltb prefix 128 && searches network link end area) (network .routers) (hopsOf network) (protectedOf network link end) area 0 column (onwardTo network link end 0 column)

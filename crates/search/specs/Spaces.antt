@@ -1,13 +1,10 @@
--- The three spaces, and whether traffic may cross the link, by the numbers that an area holds for n routers.
+-- The three spaces, by the numbers that an area holds for n routers.
 -- Assumes nothing.
-use Prim.Native.Nat.{ℕ, _+_, min}
-use mathlib.Core.Bool.{Bool, _&&_}
+use Prim.Native.Nat.{ℕ}
 use mathlib.Core.List.{List, [], _∷_}
 use lib.Bits.{bitOr}
-use lib.Dec.{ltb, eqb}
 use lib.ListN.{getD}
 use Rattle.lfa.specs.Network.{Arc}
-use Rattle.lfa.specs.Distance.{unreachable}
 use Rattle.lfa.specs.Space.{Protected, FirstHop, firstHops, Space, pSpace, extendedP, qSpace}
 use Rattle.column.specs.Calls.{routerColumn}
 use Rattle.avoid.specs.Calls.{avoidingTo, avoidingFrom}
@@ -31,10 +28,6 @@ unfoldable pub spaceFor : Space → (n : ℕ) → List Arc → Protected → (ar
 spaceFor pSpace n hops q area = avoidedFrom n q area (q .near)
 spaceFor extendedP n hops q area = gathered n q area 0 (firstHops q hops)
 spaceFor qSpace n hops q area = avoidingIn n q area (routerColumn n (q .far) area)
-
--- the traffic from S to a target at distance h may cross the link from S to E, by the distances
-unfoldable pub crossesOut : Protected → (h : ℕ → ℕ) → Bool
-crossesOut q h = ltb (h (q .near)) unreachable && eqb (min (q .out + h (q .far)) unreachable) (h (q .near))
 
 -- the space that a value names
 abbrev pub spaceNamed : Which → Space

@@ -134,6 +134,7 @@ pub fn prefix_pair(
         &network.out,
         &network.back,
         protected,
+        0,
         &target,
     )
 }

@@ -4,7 +4,6 @@ use crate::hops::FirstHops;
 use crate::hops::first_hops;
 use crate::space::can_search;
 use crate::space::extended_p;
-use crate::space::may_cross;
 use arcs::Hop;
 use arcs::hop_of;
 use avoid::Protected;
@@ -19,6 +18,8 @@ use order::Pair;
 use order::class_of;
 use order::earlier;
 use order::rank_of;
+use steps::avoiding_by_steps;
+use steps::steps_over;
 ghost use mathlib.Core.Path.{_≡_};
 ghost use mathlib.Core.Option.{none};
 ghost use Prim.Native.Nat.{_≤_, _<_};
@@ -26,6 +27,7 @@ ghost use lib.ListN.{length};
 ghost use Rattle.metric.specs.Columns.{arcsIn};
 ghost use Rattle.order.specs.Order.{earliestIn};
 ghost use Rattle.avoid.specs.Avoiding.{asked};
+ghost use Rattle.steps.specs.Crossing.{avoidingBySteps};
 ghost use Rattle.arcs.specs.Arcs.{hopIn};
 ghost use Rattle.search.specs.Hops.{hopsIn};
 ghost use Rattle.search.specs.Choice.{outcomeIn, firstOf, orderedAt, mayEnd, hopPairs, pairsTried, firstServing};
@@ -162,7 +164,7 @@ fn first_pair(
     )
 }
 
-// The pair that serves a target, `target` holding the distances to it, told without what only orders it.
+// The pair that serves a target, told without what only orders it.
 fn pair_found(
     ranks: &[u8],
     dist: &[u32],
@@ -174,11 +176,11 @@ fn pair_found(
     back: &[u16; 128],
     protected: Protected,
     target: &[u32; 64],
+    onward: u64,
 ) -> Found
     requires { ⌜ (n ≤ 64) × (protected .near < 64) × (links ≤ 128) ⌝ }
-    ensures { λ r. ⌜ outcomeIn r ≡ pairFor (now (ranks .entry)) n (arcsIn (now (from .entry)) (now (to .entry)) (now (out .entry)) (now (back .entry)) links) (asked protected) (now (dist .entry)) (now (target .entry)) ⌝ }
+    ensures { λ r. ⌜ outcomeIn r ≡ pairFor (now (ranks .entry)) n (arcsIn (now (from .entry)) (now (to .entry)) (now (out .entry)) (now (back .entry)) links) (asked protected) (now (dist .entry)) (now (target .entry)) onward ⌝ }
 {
-    let onward = avoiding_to(target, dist, n, protected, target);
     let best = first_pair(
         ranks,
         dist,
@@ -219,6 +221,7 @@ pub(crate) fn link_found<'a>(
     }
     let far = protected.far;
     let target = towards_router(dist, n, far);
+    let onward = avoiding_to(&target, dist, n, protected, &target);
     pair_found(
         ranks,
         dist,
@@ -230,10 +233,11 @@ pub(crate) fn link_found<'a>(
         back,
         protected,
         &target,
+        onward,
     )
 }
 
-// What a prefix repair finds, `target` holding the distances to the prefix.
+// What a prefix repair finds, `target` holding the distances to the prefix, and `ends` the routers at which every walk towards it ends.
 pub(crate) fn prefix_found<'a>(
     ranks: &[u8],
     dist: &[u32],
@@ -244,10 +248,12 @@ pub(crate) fn prefix_found<'a>(
     out: &'a [u16; 128],
     back: &'a [u16; 128],
     protected: Protected,
+    ends: u64,
     target: &'a [u32; 64],
 ) -> Found
     ensures { λ r. ⌜ outcomeIn r ≡ prefixIf (now (ranks .entry)) (searchable n links (asked protected) (length (now (dist .entry)))) n
-        (arcsIn (now (from .entry)) (now (to .entry)) (now (out .entry)) (now (back .entry)) links) (asked protected) (now (dist .entry)) (now (target .entry)) ⌝ }
+        (arcsIn (now (from .entry)) (now (to .entry)) (now (out .entry)) (now (back .entry)) links) (asked protected) (now (dist .entry)) ends (now (target .entry))
+        (avoidingBySteps n links (now (from .entry)) (now (to .entry)) (now (out .entry)) (now (back .entry)) (asked protected) ends (now (target .entry))) ⌝ }
 {
     if !can_search(n, links, protected, dist.len()) {
         return Found::Nothing;
@@ -256,9 +262,10 @@ pub(crate) fn prefix_found<'a>(
     if Distance::UNREACHABLE <= target[near] {
         return Found::Unreachable;
     }
-    if !may_cross(target, protected) {
+    if !steps_over(protected, ends, target) {
         return Found::Untouched;
     }
+    let onward = avoiding_by_steps(n, links, from, to, out, back, protected, ends, target);
     pair_found(
         ranks,
         dist,
@@ -270,5 +277,6 @@ pub(crate) fn prefix_found<'a>(
         back,
         protected,
         target,
+        onward,
     )
 }

@@ -1,4 +1,4 @@
-// The three spaces, and whether traffic may cross the protected link, by the numbers that a table of distances holds.
+// The three spaces, by the numbers that a table of distances holds.
 use crate::Which;
 use crate::hops::FirstHops;
 use crate::hops::first_hops;
@@ -8,16 +8,15 @@ use avoid::avoiding_from;
 use avoid::avoiding_to;
 use avoid::can_read;
 use column::towards_router;
-use metric::Distance;
 ghost use mathlib.Core.Path.{_≡_};
 ghost use mathlib.Core.List.{List, []};
 ghost use Prim.Native.Nat.{ℕ, _≤_, _<_};
-ghost use lib.ListN.{length, getD};
+ghost use lib.ListN.{length};
 ghost use Rattle.lfa.specs.Space.{qSpace};
 ghost use Rattle.metric.specs.Columns.{arcsIn};
 ghost use Rattle.avoid.specs.Avoiding.{asked};
 ghost use Rattle.search.specs.Hops.{hopsIn};
-ghost use Rattle.search.specs.Spaces.{gathered, spaceFor, crossesOut, spaceNamed};
+ghost use Rattle.search.specs.Spaces.{gathered, spaceFor, spaceNamed};
 ghost use Rattle.search.specs.Calls.{searchable, spaceIf};
 
 // Whether a question is searched for: the columns have a cell for each link, and the table one for each two routers, the ends of the
@@ -93,15 +92,4 @@ pub(crate) fn space_of<'a>(
         }
         Which::Q => q_space(dist, n, protected),
     }
-}
-
-// Whether traffic from S to a target may cross the link from S to E, `target` holding the distances to it.
-pub(crate) fn may_cross(target: &[u32; 64], protected: Protected) -> bool
-    requires { ⌜ (protected .near < 64) × (protected .far < 64) ⌝ }
-    ensures { λ r. ⌜ r ≡ crossesOut (asked protected) (λ x. getD (now (target .entry)) x 0) ⌝ }
-{
-    let near = protected.near;
-    let far = protected.far;
-    let own = target[near];
-    own < Distance::UNREACHABLE && Distance::add(protected.out, target[far]) == own
 }

@@ -9,6 +9,10 @@ use Rattle.lfa.specs.Distance.{unreachable}
 use Rattle.lfa.specs.Space.{Protected, has, setOf}
 use Rattle.steps.specs.Steps.{isTight, nextsBy, ledIn}
 
+-- the hop over the link from S to E is a step; not so where an end of the link is no number below 64
+unfoldable pub stepsOver : Protected → (ends : ℕ) → (target : List ℕ) → Bool
+stepsOver q ends target = ltb (q .near) 64 && (ltb (q .far) 64 && isTight ends (λ y. getD target y 0) (q .near) (q .far) (q .out))
+
 -- the ends of the link from which the hop over it is a step
 unfoldable pub overLink : Protected → (ends : ℕ) → (ℕ → ℕ) → ℕ
 overLink q ends target =

@@ -1,3 +1,4 @@
-pub mod Known
+pub mod Next
+pub mod Led
 pub mod Calls
 pub mod Crossing

@@ -17,7 +17,7 @@ ghost use Rattle.metric.specs.Columns.{arcsIn};
 ghost use Rattle.metric.specs.Fit.{ColumnsWithin};
 ghost use Rattle.avoid.specs.Avoiding.{asked};
 ghost use Rattle.steps.specs.Steps.{isTight, nextsIn, nextsBy, ledTo, ledIn};
-ghost use Rattle.steps.specs.Crossing.{overLink, reachesWithout, avoidingBySteps};
+ghost use Rattle.steps.specs.Crossing.{stepsOver, overLink, reachesWithout, avoidingBySteps};
 
 // Whether a hop from u to v at this cost is a step.
 fn is_step(ends: u64, target: &[u32; 64], u: usize, v: usize, cost: u32) -> bool
@@ -139,6 +139,21 @@ fn over_link(protected: Protected, ends: u64, target: &[u32; 64]) -> u64
     let out = one_if(is_step(ends, target, near, far, protected.out), near);
     let back = one_if(is_step(ends, target, far, near, protected.back), far);
     out | back
+}
+
+// Whether the hop over the protected link from S to E is a step: then traffic from S may cross the link.
+pub fn steps_over(protected: Protected, ends: u64, target: &[u32; 64]) -> bool
+    ensures { λ r. ⌜ r ≡ stepsOver (asked protected) ends (now (target .entry)) ⌝ }
+{
+    let near = protected.near;
+    let far = protected.far;
+    if 64 <= near {
+        return false;
+    }
+    if 64 <= far {
+        return false;
+    }
+    is_step(ends, target, near, far, protected.out)
 }
 
 // Whether router x reaches the target and is not in the set.

@@ -14,6 +14,7 @@ use Rattle.lfa.specs.Space.{Protected, setOf}
 use Rattle.lfa.specs.Laws.Test.{and-left, and-right, and-make, same-test}
 use Rattle.lfa.specs.Laws.Set.{setOf-same}
 use Rattle.lfa.specs.Laws.Target.{towards-router}
+use Rattle.lfa.specs.Laws.Bound.{falls}
 use Rattle.lfa.specs.Laws.Avoid.{avoids-gives, avoids-make, avoids-below, below-avoids}
 use Rattle.metric.specs.Area.{held}
 use Rattle.avoid.specs.Avoiding.{clears, clearsTo}
@@ -51,7 +52,7 @@ module _ (n : ℕ) (hops : List Arc) (q : Protected) (area : List ℕ) (known : 
 
         back : avoids n hops d to (q .number) x ≡ true → clears h d q h x ≡ true
         back t =
-            let g = known .sound .falls d to in
+            let g = falls (known .sound) d to in
             let b = avoids-below hops d to q (known .costs) (known .named) x (avoids-gives n hops d to (g .0) (known .sound .within) (g .1) (q .number) x i t) in
             let ex = same x i in
             let es = same (q .near) near-in in

@@ -27,6 +27,10 @@ step-facts : (d : ℕ → ℕ → ℕ) (to : Target) (x u v c l : ℕ) → isSte
 unfolding isStep
 step-facts d to x u v c l e = search (eqb-true, ltb-true, and-left, and-right)
 
+-- a step at x leaves x
+pub step-leaves : (d : ℕ → ℕ → ℕ) (to : Target) (x u v c l : ℕ) → isStep d to x (arc u v c l) ≡ true → u ≡ x
+step-leaves d to x u v c l e = step-facts d to x u v c l e .0
+
 pub step-gives : {hops : List Arc} {u v c l : ℕ} (d : ℕ → ℕ → ℕ) (to : Target) (x : ℕ) → List·Memᴰ (arc u v c l) hops → isStep d to x (arc u v c l) ≡ true →
     (u ≡ x) × Step hops d to u v l
 step-gives {u} {v} {c} {l} d to x m e =

@@ -7,17 +7,21 @@ use native.Mathlib.Omega.{arith}
 use Rattle.lfa.specs.Network.{Arc, arc, at, Target, router}
 use Rattle.lfa.specs.Distance.{unreachable, RouterPath, stay, via, LeastCosts, towards}
 use Rattle.lfa.specs.Walk.{Walk, here, hop, Arrives}
-use Rattle.lfa.specs.Laws.Walk.{tight-walk}
-use Rattle.lfa.specs.Laws.Arrive.{Within, Falls, walk-few, arrives}
+use Rattle.lfa.specs.Laws.Walk.{Descends, measure, tight-walk}
+use Rattle.lfa.specs.Laws.Arrive.{Within, Falls, measure-falls, walk-few, arrives}
 use Rattle.lfa.specs.Laws.Target.{towards-router, towards-over}
 
 -- the hops of an accepted network of n routers
 pub record Sound (n : ℕ) (hops : List Arc) : Type 0 where
   pub few : n ≤ 64
   pub within : Within hops n
-  -- some number falls at each step
-  pub falls : (d : ℕ → ℕ → ℕ) (to : Target) → (m : ℕ → ℕ) × Falls hops d to m
+  pub height : ℕ → ℕ
+  pub descends : Descends hops height
   pub capped : {x z c l : ℕ} → List·Memᴰ (arc x z c l) hops → c ≤ 65535
+
+-- some number falls at each step
+pub falls : {n : ℕ} {hops : List Arc} → Sound n hops → (d : ℕ → ℕ → ℕ) (to : Target) → (m : ℕ → ℕ) × Falls hops d to m
+falls sound d to = (measure (sound .height) d to, measure-falls d to (sound .descends))
 
 -- a target's own costs are 16-bit numbers
 pub record Capped (to : Target) : Type 0 where
@@ -35,7 +39,7 @@ module _ (n : ℕ) (hops : List Arc) (d : ℕ → ℕ → ℕ) (sound : Sound n 
       let e′ = towards-router d t t (dist .most t t) in
       let z : d t t ≤ 0 = dist .least stay in
       let w = tight-walk hops d (router t) dist (dist .path x t f) (omega arith) (omega arith) in
-      let g = sound .falls d (router t) in
+      let g = falls sound d (router t) in
       let k : w .0 < n = walk-few hops d (router t) n (g .0) (sound .within) (g .1) i (w .1) in
       omega (arith, sound .few, walk-small (w .1))
 
@@ -54,4 +58,4 @@ module _ (n : ℕ) (hops : List Arc) (d : ℕ → ℕ → ℕ) (sound : Sound n 
 
   -- every walk from a router at a finite distance from a target arrives in fewer than n hops
   pub towards-arrives : (to : Target) (x : ℕ) → x < n → towards d to x < unreachable → Arrives hops d to n x
-  towards-arrives to = let g = sound .falls d to in arrives hops d to n (g .0) (sound .within) (g .1) dist
+  towards-arrives to = let g = falls sound d to in arrives hops d to n (g .0) (sound .within) (g .1) dist

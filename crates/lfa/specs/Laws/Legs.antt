@@ -3,16 +3,17 @@
 use Prim.Native.Nat.{ℕ, zero, suc, _+_, _<_}
 use mathlib.Core.Path.{_≡_, refl, sym, ap₂, _∙_, subst}
 use mathlib.Core.Bool.{Bool, true, false}
-use mathlib.Core.List.{List, [], _∷_, List·Memᴰ, List·Memᴰ·eq-of-singleton}
+use mathlib.Core.List.{List, [], _∷_}
 use native.Mathlib.Omega.{arith}
 use native.Mathlib.Nat.{not-suc-le-zero}
 use lib.Dec.{eqb}
 use lib.ListN.{length}
 use borrow.Author.Tests.{eqb-true, eqb-false}
-use Rattle.lfa.specs.Network.{Arc, at, Target, router}
+use Rattle.lfa.specs.Network.{Arc, Target, router}
 use Rattle.lfa.specs.Distance.{unreachable, LeastCosts, towards}
 use Rattle.lfa.specs.Walk.{Step, Delivers, Walk, here, hop}
 use Rattle.lfa.specs.Route.{HasMove, Move, deliver, go, options, choiceAt, optionTaken, FirstLeg, arrived, onward, SecondLeg, delivered, playTo, playOn}
+use Rattle.lfa.specs.Laws.Attached.{router-only}
 use Rattle.lfa.specs.Laws.Arrive.{Within, Falls, rank, rank-falls}
 use Rattle.lfa.specs.Laws.Options.{move-next, never-both, taken}
 
@@ -89,10 +90,6 @@ module _ (n : ℕ) (hops : List Arc) (d : ℕ → ℕ → ℕ) (to : Target) (m 
       by rest deliver e t = delivered e
       by rest (go z) e (l, s) = onward e (rest z (omega (arith, s .tight)) (omega (arith, rank-falls hops d to n m within falls s)))
 
-router-only : {a c : ℕ} (t : ℕ) → List·Memᴰ (at a c) (router t) → a ≡ t
-unfolding router
-router-only t m = let e = List·Memᴰ·eq-of-singleton m in cc
-
 module _ (n : ℕ) (hops : List Arc) (d : ℕ → ℕ → ℕ) (y : ℕ) (m : ℕ → ℕ) (dist : LeastCosts hops d) (within : Within hops n) (falls : Falls hops d (router y) m) (choices : List ℕ) where
   pub first-leg-played : (fuel i x : ℕ) → towards d (router y) x < unreachable → rank m n (m x) < fuel →
       (j : ℕ) × FirstLeg (options n hops d (router y)) choices y i x (playTo fuel (options n hops d (router y)) choices y i x) j
@@ -109,7 +106,7 @@ module _ (n : ℕ) (hops : List Arc) (d : ℕ → ℕ → ℕ) (y : ℕ) (m : �
 
       by : Rest → eqb x y ≡ false → (k : Move) → optionTaken (options n hops d (router y) x) (choiceAt choices i) ≡ k → HasMove hops d (router y) x k →
           (j : ℕ) × FirstLeg (options n hops d (router y)) choices y i x (after k) j
-      by rest e deliver p t = absurd (eqb-false x y e (router-only y (t .attached)))
+      by rest e deliver p t = absurd (eqb-false x y e (router-only (record { own = t .own; listed = t .attached })))
       by rest e (go z) p (l, s) =
           let r = rest z (omega (arith, s .tight)) (omega (arith, rank-falls hops d (router y) n m within falls s)) in
           (r .0, onward (eqb-false x y e) p (r .1))

@@ -12,8 +12,7 @@ use Rattle.lfa.specs.Network.{Link, link, arc, Network, arcsFrom, arcs}
 use Rattle.lfa.specs.FileOf.{WithinLimits}
 use Rattle.lfa.specs.Distance.{LeastCosts, distances, distanceIn}
 use Rattle.lfa.specs.Space.{protectedBy, protected}
-use Rattle.lfa.specs.Laws.Walk.{Descends, level, measure}
-use Rattle.lfa.specs.Laws.Arrive.{measure-falls}
+use Rattle.lfa.specs.Laws.Walk.{Descends, level}
 use Rattle.lfa.specs.Laws.Bound.{Sound}
 use Rattle.lfa.specs.Laws.Avoid.{Named}
 use Rattle.lfa.specs.Laws.Distance.{distances-least}
@@ -101,7 +100,8 @@ module _ (net : Network) {height : ℕ → ℕ} (sound : LinksSound net height) 
   limits-sound = record {
     few = sound .few-routers;
     within = record { from = λ m. sound-arc m .0; to = λ m. sound-arc m .1 };
-    falls = λ d to. (measure height d to, measure-falls d to limits-descend);
+    height = height;
+    descends = limits-descend;
     capped = λ m. sound-arc m .3;
   }
 

@@ -14,7 +14,7 @@ use Rattle.lfa.specs.Space.{Protected, FirstHop, IsFirstHop, isFirst, ho
 use Rattle.lfa.specs.Repair.{Pair, IsPair, isEndpoint, pairsOf, pairs, Serves, serves, toldOf, keysOf, First, pairKey, choose, firstPair}
 use Rattle.lfa.specs.Laws.Test.{and-left, and-right, and-make}
 use Rattle.lfa.specs.Laws.List.{mem-below, below-mem, select-gives, select-make, map-gives, map-make, flat-gives, flat-make}
-use Rattle.lfa.specs.Laws.Bound.{Sound}
+use Rattle.lfa.specs.Laws.Bound.{Sound, falls}
 use Rattle.lfa.specs.Laws.Avoid.{avoids-gives, avoids-make}
 use Rattle.lfa.specs.Laws.Order.{Chosen, chosen, key-first}
 
@@ -81,8 +81,8 @@ module _ (n : ℕ) (hops : List Arc) (d : ℕ → ℕ → ℕ) (q : Protected) (
   pub serves-gives : (p : Pair) → p .hop .router < n → p .endpoint < n → serves n hops d q to p ≡ true → ServesBy p
   unfolding serves
   serves-gives p hm hy e =
-      let g = sound .falls d (router (p .endpoint)) in
-      let h = sound .falls d to in
+      let g = falls sound d (router (p .endpoint)) in
+      let h = falls sound d to in
       record {
         tunnel = avoids-gives n hops d (router (p .endpoint)) (g .0) (sound .within) (g .1) (q .number) (p .hop .router) hm (search and-left);
         onward = avoids-gives n hops d to (h .0) (sound .within) (h .1) (q .number) (p .endpoint) hy (search and-right);

@@ -2,21 +2,24 @@
 -- Assumes nothing.
 use Prim.Native.Nat.{ℕ, _+_, _≤_, _<_}
 use mathlib.Core.Path.{_≡_, refl, sym, _∙_, subst}
-use mathlib.Core.Logic.{_↔_}
+use mathlib.Core.Logic.{_⊎_, inl, inr, _↔_}
 use mathlib.Core.Bool.{Bool, true, false, true≢false}
 use mathlib.Core.Option.{Option, none, some}
 use mathlib.Core.List.{List}
 use native.Mathlib.Omega.{arith}
 use lib.Dec.{eqb, ltb}
 use borrow.Author.Tests.{ltb-true, ltb-false, lt-ltb, le-ltb, eqb-true, eqb-false, eq-eqb, ne-eqb}
-use Rattle.lfa.specs.Network.{Arc, Target, router}
+use Rattle.lfa.specs.Network.{Arc, arc, Target, router}
 use Rattle.lfa.specs.Distance.{unreachable, towards}
+use Rattle.lfa.specs.Walk.{Step, here, hop, isStep}
 use Rattle.lfa.specs.Space.{Protected}
 use Rattle.lfa.specs.Ranks.{classes}
 use Rattle.lfa.specs.Repair.{Pair, IsPair, Serves, MayCross, mayCross, HasClass, neighbour-downstream, neighbour-other, tunnel-downstream, tunnel-other, orElse, classOf, Told, Tells, toldOf, keysOf, First, firstPair, Outcome, prefixUnreachable, prefixUntouched, noneServes, serving, outcomeOf, linkOutcome, prefixOutcome}
+use Rattle.lfa.specs.Laws.Test.{same-test}
 use Rattle.lfa.specs.Laws.Target.{towards-most}
-use Rattle.lfa.specs.Laws.Bound.{Sound}
-use Rattle.lfa.specs.Laws.Avoid.{Named, crosses-gives, crosses-make}
+use Rattle.lfa.specs.Laws.Arrive.{never-twice}
+use Rattle.lfa.specs.Laws.Bound.{Sound, falls}
+use Rattle.lfa.specs.Laws.Avoid.{step-gives, step-make, Named, crosses-gives, crosses-make}
 use Rattle.lfa.specs.Laws.Pair.{Best, best}
 
 -- the computed class is the pair's class
@@ -110,7 +113,26 @@ module _ (n : ℕ) (hops : List Arc) (d : ℕ → ℕ → ℕ) (q : Protected) (
 
   pub may-make : (to : Target) → MayCross hops d q to → mayCross n hops d q to ≡ true
   unfolding mayCross
-  may-make to r = let g = sound .falls d to in crosses-make n hops d to (g .0) (sound .within) (g .1) (sound .within .from (named .outward)) r
+  may-make to r = let g = falls sound d to in crosses-make n hops d to (g .0) (sound .within) (g .1) (sound .within .from (named .outward)) r
+
+  -- Traffic from S may cross the link exactly when the hop from S to E is a step at S: a walk does not come back to S, and the link does
+  -- not lead from S to S.
+  pub may-test : (to : Target) → mayCross n hops d q to ≡ isStep d to (q .near) (arc (q .near) (q .far) (q .out) (q .number))
+  may-test to = same-test _ _ (λ t. there (may-gives to t)) back
+    where
+      there : MayCross hops d q to → isStep d to (q .near) (arc (q .near) (q .far) (q .out) (q .number)) ≡ true
+      there r = by (named .only (r .step .joined))
+        where
+          by : ((q .near ≡ q .near) × (q .far ≡ q .far) × (r .step .cost ≡ q .out)) ⊎ ((q .near ≡ q .far) × (q .far ≡ q .near) × (r .step .cost ≡ q .back)) →
+              isStep d to (q .near) (arc (q .near) (q .far) (q .out) (q .number)) ≡ true
+          by (inl k) = rw (← (k .2)) (step-make d to (r .step))
+          by (inr k) =
+              let g = falls sound d to in
+              let round : Step hops d to (q .far) (q .far) (q .number) = rw (k .0) at (r .step) in
+              absurd (never-twice hops d to n (g .0) (sound .within) (g .1) (hop round here))
+
+      back : isStep d to (q .near) (arc (q .near) (q .far) (q .out) (q .number)) ≡ true → mayCross n hops d q to ≡ true
+      back t = may-make to (record { count = 0; walk = here; step = step-gives d to (q .near) (named .outward) t .1 })
 
   pub prefix-means : (ranks : List ℕ) (to : Target) → PrefixMeans n hops d q ranks to (prefixOutcome ranks n hops d q to)
   unfolding prefixOutcome

@@ -11,7 +11,7 @@ use Rattle.lfa.specs.Distance.{unreachable, LeastCosts, towards}
 use Rattle.lfa.specs.Walk.{Delivers}
 use Rattle.lfa.specs.Route.{options, NamedRoute, playTo, playOn, routeOf}
 use Rattle.lfa.specs.Laws.Arrive.{rank-few, walk-few}
-use Rattle.lfa.specs.Laws.Bound.{Sound}
+use Rattle.lfa.specs.Laws.Bound.{Sound, falls}
 use Rattle.lfa.specs.Laws.Legs.{first-leg-once, second-leg-once, bytes-used, Trace, trace-walk, first-leg-walk, second-leg-walk, first-leg-played, second-leg-played}
 
 -- Choice bytes name one route: one first leg, after it as many bytes used, and then one second leg.
@@ -40,8 +40,8 @@ module _ (n : ℕ) (hops : List Arc) (d : ℕ → ℕ → ℕ) (to : Target) (ch
   pub route-named : NamedRoute n hops d to choices s m y (routeOf n hops d to choices s m y)
   unfolding routeOf
   route-named =
-      let (m₁, falls₁) = sound .falls d (router y) in
-      let (m₂, falls₂) = sound .falls d to in
+      let (m₁, falls₁) = falls sound d (router y) in
+      let (m₂, falls₂) = falls sound d to in
       let leg : List ℕ = playTo n (options n hops d (router y)) choices y 0 m in
       let first = first-leg-played n hops d y m₁ dist (sound .within) falls₁ choices n 0 m fm (rank-few hops d (router y) n m₁ (sound .within) falls₁ m hm) in
       let used : first .0 ≡ length leg = omega (arith, bytes-used (options n hops d (router y)) choices (first .1)) in
@@ -59,8 +59,8 @@ module _ (n : ℕ) (hops : List Arc) (d : ℕ → ℕ → ℕ) (to : Target) (ch
   -- first hop have at most 2 × N routers.
   pub route-walks : {route : List ℕ} → NamedRoute n hops d to choices s m y route → FollowsWalks n hops d to s m y route
   route-walks r =
-      let (m₁, falls₁) = sound .falls d (router y) in
-      let (m₂, falls₂) = sound .falls d to in
+      let (m₁, falls₁) = falls sound d (router y) in
+      let (m₂, falls₂) = falls sound d to in
       let t₁ = first-leg-walk n hops d dist (sound .within) fm (r .first-leg) in
       let t₂ = second-leg-walk n hops d dist (sound .within) fy (r .second-leg) in
       record {

@@ -15,7 +15,7 @@ use Rattle.lfa.specs.Laws.Walk.{crossing-equation, equation-crossing}
 use Rattle.lfa.specs.Laws.Arrive.{never-twice}
 use Rattle.lfa.specs.Laws.Avoid.{Named}
 use Rattle.lfa.specs.Laws.Target.{towards-router, hop-bound, route-bound}
-use Rattle.lfa.specs.Laws.Bound.{Sound, Capped, towards-small, distance-small, towards-arrives}
+use Rattle.lfa.specs.Laws.Bound.{Sound, falls, Capped, towards-small, distance-small, towards-arrives}
 
 module _ (n : ℕ) (hops : List Arc) (d : ℕ → ℕ → ℕ) (q : Protected) (sound : Sound n hops) (dist : LeastCosts hops d) (named : Named hops q) where
   -- What avoids to E avoids to every prefix whose traffic may cross the link. D(S,p) is the cost S to E plus D(E,p). Were the link
@@ -57,7 +57,7 @@ module _ (n : ℕ) (hops : List Arc) (d : ℕ → ℕ → ℕ) (q : Protected) (
       -- from E to S: then some walk leads from S to E and back
       cross u v r (inr k) =
           let back : Step hops d to (q .far) (q .near) (q .number) = rw (k .0, k .1) at (r .step) in
-          let g = sound .falls d to in
+          let g = falls sound d to in
           never-twice hops d to n (g .0) (sound .within) (g .1) (hop (may .step) (hop back here))
 
   -- a pair that serves the far router serves every prefix whose traffic may cross the link

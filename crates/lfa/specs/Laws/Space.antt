@@ -13,14 +13,14 @@ use Rattle.lfa.specs.Walk.{Avoids, avoids}
 use Rattle.lfa.specs.Space.{Protected, FirstHop, firstHops, Space, pSpace, extendedP, qSpace, NeighbourAvoids, Member, inSpace, setOf, spaceOf, has, sizeOf}
 use Rattle.lfa.specs.Laws.List.{any-gives, any-make}
 use Rattle.lfa.specs.Laws.Counting.{counted-holds}
-use Rattle.lfa.specs.Laws.Bound.{Sound}
+use Rattle.lfa.specs.Laws.Bound.{Sound, falls}
 use Rattle.lfa.specs.Laws.Avoid.{Named, avoids-gives, avoids-make}
 use Rattle.lfa.specs.Laws.Pair.{firsts-give, firsts-make}
 use Rattle.lfa.specs.Laws.Set.{in-set, has-setOf, setOf-lt, ones-setOf, size-ones}
 
 module _ (n : ℕ) (hops : List Arc) (d : ℕ → ℕ → ℕ) (q : Protected) (sound : Sound n hops) (named : Named hops q) where
   decided : (t x : ℕ) → x < n → avoids n hops d (router t) (q .number) x ≡ true → Avoids hops d (router t) (q .number) x
-  decided t x h e = let g = sound .falls d (router t) in avoids-gives n hops d (router t) (g .0) (sound .within) (g .1) (q .number) x h e
+  decided t x h e = let g = falls sound d (router t) in avoids-gives n hops d (router t) (g .0) (sound .within) (g .1) (q .number) x h e
 
   in-gives : (s : Space) (r : ℕ) → r < n → inSpace s n hops d q r ≡ true → Member s hops d q r
   unfolding inSpace

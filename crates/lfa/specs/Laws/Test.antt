@@ -37,6 +37,10 @@ pub fails-make : (a : Bool) → (a ≡ true → ⊥) → a ≡ false
 fails-make true f = absurd (f refl)
 fails-make false f = refl
 
+pub fails-gives : (a : Bool) → a ≡ false → a ≡ true → ⊥
+fails-gives true e p = true≢false e
+fails-gives false e p = false≢true p
+
 pub not-of : (a : Bool) → a ≡ false → not a ≡ true
 not-of a e = rw e
 

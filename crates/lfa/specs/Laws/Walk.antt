@@ -9,10 +9,11 @@ use mathlib.Core.Bool.{true, false}
 use lib.Dec.{ltb}
 use borrow.Author.Tests.{ltb-true, ltb-false}
 use Rattle.lfa.specs.Laws.Test.{decide}
-use Rattle.lfa.specs.Network.{Arc, arc, at, Target}
+use Rattle.lfa.specs.Network.{Arc, arc, at, Target, router}
 use Rattle.lfa.specs.Distance.{unreachable, RouterPath, stay, via, LeastCosts, towards}
 use Rattle.lfa.specs.Walk.{Step, Delivers, Walk, here, hop, Crosses}
-use Rattle.lfa.specs.Laws.Target.{towards-most, towards-least, towards-over, hop-bound, route-bound}
+use Rattle.lfa.specs.Laws.Target.{towards-most, towards-least, towards-over, towards-router, hop-bound, route-bound}
+use Rattle.lfa.specs.Laws.Attached.{router-self}
 
 -- Each router has a height (a potential, in the words of graph theory), and no hop climbs as much as twice its cost. So a hop that costs
 -- nothing leads down, and such hops do not lead round in a circle.
@@ -26,6 +27,20 @@ level x = 0
 -- the number that falls at each step of a walk: twice the distance to the target, and the height
 abbrev pub measure : (height : ℕ → ℕ) → (ℕ → ℕ → ℕ) → Target → ℕ → ℕ
 measure height d to x = 2 * towards d to x + height x
+
+-- along a path the height rises by at most twice the path's cost
+path-height : {hops : List Arc} {height : ℕ → ℕ} {x u k : ℕ} → Descends hops height → RouterPath hops x u k → height u ≤ 2 * k + height x
+path-height g stay = omega arith
+path-height g (via m r) = omega (arith, g .hop m, path-height g r)
+
+-- No hop from a router is tight towards this router: the hop and a path back would cost nothing, and lead down in a circle. So a walk
+-- towards a router ends there.
+pub router-ends : {hops : List Arc} {height : ℕ → ℕ} {d : ℕ → ℕ → ℕ} {t z c l : ℕ} → Descends hops height → LeastCosts hops d → List·Memᴰ (arc t z c l) hops →
+    c + towards d (router t) z ≡ towards d (router t) t → ⊥
+router-ends {hops} {height} {d} {t} {z} g dist m e =
+    let self = router-self hops d dist t in
+    let there = towards-router d t z (dist .most z t) in
+    omega (arith, g .hop m, path-height g (dist .path z t (omega arith)))
 
 module _ {hops : List Arc} {d : ℕ → ℕ → ℕ} {to : Target} where
   -- A step lowers it: the distance falls by the cost of the hop, and the height rises by less than twice that.

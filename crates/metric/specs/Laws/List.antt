@@ -56,6 +56,12 @@ module _ {A : Type 0} where
   any-same p q [] h = refl
   any-same p q (x ∷ l) h = ap₂ (λ (a b : Bool). a || b) (h x (List·Memᴰ·head refl)) (any-same p q l (λ y m. h y (List·Memᴰ·tail m)))
 
+  -- a test of what a list is mapped to
+  pub any-map : {B : Type 0} (p : B → Bool) (f : A → B) (l : List A) → anyOf p (map f l) ≡ anyOf (λ x. p (f x)) l
+  unfolding anyOf
+  any-map p f [] = refl
+  any-map p f (x ∷ l) = ap (λ (b : Bool). p (f x) || b) (any-map p f l)
+
   pub select-same : (p q : A → Bool) (l : List A) → ((x : A) → List·Memᴰ x l → p x ≡ q x) → select p l ≡ select q l
   unfolding select
   select-same p q [] h = refl

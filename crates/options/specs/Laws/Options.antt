@@ -20,7 +20,7 @@ use Rattle.lfa.specs.Laws.Arrive.{Within}
 use Rattle.metric.specs.Column.{column, slotsIn}
 use Rattle.metric.specs.Laws.List.{select-append, select-same}
 use Rattle.metric.specs.Laws.Column.{column-at}
-use Rattle.steps.specs.Laws.Known.{RightNexts}
+use Rattle.steps.specs.Laws.Next.{RightNexts}
 use Rattle.options.specs.Options.{deliversBy, membersOf, fits, moveBy}
 
 -- ---- the options

@@ -55,7 +55,7 @@ module _ {q : Question} (p : Posed q) {network : Network} (t : Taken (q .file) n
   asking : HasInput q (lent workArea) → Asking network (q .link) (q .end) after
   asking has-area = record {
     link-in = rw (links-are t, ← link-count (q .file) (t .is-accepted)) link-there;
-    few-links = columns-within t .few-links;
+    within = columns-within t;
     known = same-known (routers-same t) (hops-are t) (protected-is t (q .link) (q .end) link-there) full
         (known-filled (networkOf (q .file)) (limits-links (limits t)) area (enough has-area) (q .link) (q .end) link-there);
   }

@@ -7,6 +7,7 @@ use lib.ListN.{length}
 use borrow.Author.Tests.{lt-ltb, le-ltb}
 use Rattle.lfa.specs.Space.{Protected}
 use Rattle.column.specs.Calls.{prefixColumn}
+use Rattle.steps.specs.Crossing.{avoidingBySteps}
 use Rattle.search.specs.Calls.{searchable, prefixIf, hopsOf, prefixBy}
 use borrow.Author.Needs.{needs}
 use Rattle.search.proofs.prefix_pair.Statement.{statement}
@@ -46,7 +47,8 @@ returns-3 c =
     let a = e .before .before .before .before .args in
     let target = c .before .before .before .before .before .before .before .before .before .before .before .before .before .towards-prefix .ensures ∙ ap (λ (k : ℕ). prefixColumn (a .t1 .routers) (a .t1 .at) (a .t1 .own) (8 * a .prefix) k (a .dist .now)) (w .wide .ensures) in
     let found = c .prefix-found .ensures
-    ∙ ap₂ (λ (q : Protected) (l : List ℕ). prefixIf (a .ranks .now) (searchable (a .t1 .routers) (a .t1 .links) q (length (a .dist .now))) (a .t1 .routers) (hopsOf (a .t1)) q (a .dist .now) l) (c .before .before .before .before .before .before .before .protect .ensures) target in
+    ∙ ap₂ (λ (q : Protected) (l : List ℕ). prefixIf (a .ranks .now) (searchable (a .t1 .routers) (a .t1 .links) q (length (a .dist .now))) (a .t1 .routers) (hopsOf (a .t1)) q (a .dist .now) 0 l
+    (avoidingBySteps (a .t1 .routers) (a .t1 .links) (a .t1 .from) (a .t1 .to) (a .t1 .out) (a .t1 .back) q 0 l)) (c .before .before .before .before .before .before .before .protect .ensures) target in
     rw (lt-ltb _ _ (e .before .if1 .left), lt-ltb _ _ (e .if2 .left)) found
 
 pub prefix-pair-spec : {M : Type 1} → statement M

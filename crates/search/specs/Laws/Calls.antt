@@ -1,7 +1,7 @@
 -- The answers of the public functions, where the area holds the distances of the network: they are document 01's.
 -- Assumes nothing.
 use Prim.Native.Nat.{ℕ, _*_, _≤_, _<_}
-use mathlib.Core.Path.{_≡_, refl}
+use mathlib.Core.Path.{_≡_, refl, sym, _∙_}
 use mathlib.Core.Bool.{true}
 use mathlib.Core.List.{List}
 use native.Mathlib.Omega.{arith}
@@ -11,21 +11,24 @@ use Rattle.lfa.specs.Network.{router}
 use Rattle.lfa.specs.Space.{Space, spaceOf}
 use Rattle.lfa.specs.Repair.{linkOutcome, prefixOutcome}
 use Rattle.lfa.specs.Laws.Test.{and-make}
+use Rattle.lfa.specs.Laws.Repair.{may-test}
 use Rattle.network_file.specs.declared.network.Network.{Network}
 use Rattle.metric.specs.Area.{held}
 use Rattle.metric.specs.Column.{slotsIn}
-use Rattle.metric.specs.Fit.{SlotsWithin}
+use Rattle.metric.specs.Fit.{ColumnsWithin, SlotsWithin}
 use Rattle.column.specs.Laws.Calls as column
 use Rattle.avoid.specs.Known.{Known}
 use Rattle.avoid.specs.Laws.Calls.{passes}
 use Rattle.avoid.specs.Laws.Known.{can-read}
-use Rattle.search.specs.Calls.{searchable, spaceIf, linkIf, prefixIf, hopsOf, protectedOf, searches, spaceBy, linkBy, prefixBy}
-use Rattle.search.specs.Laws.Known.{far-in, space-known}
+use Rattle.steps.specs.Laws.Next.{no-ends}
+use Rattle.steps.specs.Laws.Crossing.{over-known, by-steps-known}
+use Rattle.search.specs.Calls.{searchable, spaceIf, linkFor, linkIf, prefixIf, hopsOf, protectedOf, searches, spaceBy, linkBy, prefixBy}
+use Rattle.search.specs.Laws.Known.{far-in, avoiding-known, space-known}
 use Rattle.search.specs.Laws.Pairs.{pair-known, prefix-known}
 
--- the columns have a cell for each link, and the area holds the distances of the network, an end of a link of which is named
+-- the columns hold a network and the area its distances, and an end of one of its links is named
 pub record Asking (network : Network) (l e : ℕ) (area : List ℕ) : Type 0 where
-  pub few-links : network .links ≤ 128
+  pub within : ColumnsWithin (network .routers) (network .links) (network .from) (network .to)
   pub link-in : l < network .links
   pub known : Known (network .routers) (hopsOf network) (protectedOf network l e) area
 
@@ -39,24 +42,29 @@ module _ {network : Network} {l e : ℕ} {area : List ℕ} (a : Asking network l
   -- the test passes
   searched : searches network l e area ≡ true
   unfolding searchable
-  searched = and-make _ _ (lt-ltb l 128 (omega (arith, a .few-links, a .link-in))) (and-make _ _ (le-leb (network .links) 128 (a .few-links)) (passes (can-read n (hopsOf network) (protectedOf network l e) area (a .known))))
+  searched = and-make _ _ (lt-ltb l 128 (omega (arith, a .within .few-links, a .link-in))) (and-make _ _ (le-leb (network .links) 128 (a .within .few-links)) (passes (can-read n (hopsOf network) (protectedOf network l e) area (a .known))))
 
   pub space-found : (s : Space) → spaceBy s network l e area ≡ spaceOf s n (hopsOf network) d (protectedOf network l e)
   unfolding spaceBy spaceIf
   space-found s = rw (searched, spaceIf) (space-known n (hopsOf network) (protectedOf network l e) area (a .known) s)
 
   pub link-found : (ranks : List ℕ) → linkBy network ranks l e area ≡ linkOutcome ranks n (hopsOf network) d (protectedOf network l e)
-  unfolding linkBy linkIf linkOutcome
+  unfolding linkBy linkIf linkFor linkOutcome
   link-found ranks =
       let q = protectedOf network l e in
       let known = a .known in
       let to-far = column.router-known n area (known .sound .few) (known .long) (q .far) (far-in n (hopsOf network) q area known) refl in
-      rw (searched, linkIf) (pair-known ranks n (hopsOf network) q area known (router (q .far)) _ to-far)
+      rw (searched, linkIf) (pair-known ranks n (hopsOf network) q area known (router (q .far)) _ to-far _ (avoiding-known n (hopsOf network) q area known (router (q .far)) _ to-far))
 
   pub prefix-found : (ranks : List ℕ) (x : ℕ) → x < 128 → SlotsWithin n (8 * x) (getD (network .attached) x 0) (network .at) →
       prefixBy network ranks l e x area ≡ prefixOutcome ranks n (hopsOf network) d (protectedOf network l e) (slotsIn (network .at) (network .own) (8 * x) (getD (network .attached) x 0))
   unfolding prefixBy prefixIf
   prefix-found ranks x x-in slots =
+      let q = protectedOf network l e in
       let known = a .known in
+      let target = slotsIn (network .at) (network .own) (8 * x) (getD (network .attached) x 0) in
       let to-prefix = column.prefix-known n area (known .sound .few) (known .long) (network .at) (network .own) (8 * x) (getD (network .attached) x 0) slots refl in
-      rw (searched, lt-ltb x 128 x-in, prefixIf) (prefix-known ranks n (hopsOf network) (protectedOf network l e) area known _ _ to-prefix)
+      let ends = no-ends n target in
+      let avoiding = by-steps-known (a .within) (network .out) (network .back) d target 0 ends _ to-prefix q (known .named) in
+      let crosses = over-known (a .within) (network .out) (network .back) d target 0 ends _ to-prefix q (known .named) ∙ sym (may-test n (hopsOf network) d q (known .sound) (known .named) target) in
+      rw (searched, lt-ltb x 128 x-in, prefixIf) (prefix-known ranks n (hopsOf network) q area known target _ to-prefix _ avoiding 0 crosses)

@@ -1,27 +1,18 @@
--- What the numbers of an area say of spaces and crossing is what document 01 defines by walks, where the area holds the distances of the
--- network.
+-- What the numbers of an area say of spaces is what document 01 defines by walks, where the area holds the distances of the network.
 -- Assumes nothing.
-use Prim.Native.Nat.{ℕ, _+_, _≤_, _<_, min}
+use Prim.Native.Nat.{ℕ, _<_}
 use mathlib.Core.Path.{_≡_, refl, ap, _∙_}
-use mathlib.Core.Logic.{_⊎_, inl, inr}
 use mathlib.Core.Bool.{Bool, true, false, _||_}
 use mathlib.Core.List.{List, [], _∷_, List·Memᴰ, List·Memᴰ·head, List·Memᴰ·tail}
-use native.Mathlib.Omega.{arith}
 use lib.Bits.{bitOr}
 use lib.ListN.{getD}
-use borrow.Author.Tests.{ltb-true, lt-ltb, eqb-true, eq-eqb}
 use Rattle.lfa.specs.Lists.{anyOf}
 use Rattle.lfa.specs.Network.{Arc, Target, router}
-use Rattle.lfa.specs.Distance.{unreachable, towards, stay}
-use Rattle.lfa.specs.Walk.{Step, here, hop, avoids}
+use Rattle.lfa.specs.Distance.{towards}
+use Rattle.lfa.specs.Walk.{avoids}
 use Rattle.lfa.specs.Space.{Protected, FirstHop, firstHops, Space, pSpace, extendedP, qSpace, inSpace, spaceOf, setOf}
-use Rattle.lfa.specs.Repair.{MayCross, mayCross}
-use Rattle.lfa.specs.Laws.Test.{and-left, and-right, and-make, same-test}
 use Rattle.lfa.specs.Laws.Set.{setOf-same}
-use Rattle.lfa.specs.Laws.Walk.{equation-crossing}
-use Rattle.lfa.specs.Laws.Arrive.{never-twice}
 use Rattle.lfa.specs.Laws.Pair.{firsts-give}
-use Rattle.lfa.specs.Laws.Repair.{may-gives, may-make}
 use Rattle.metric.specs.Area.{held}
 use Rattle.metric.specs.Column.{column}
 use Rattle.metric.specs.Laws.Column.{column-at}
@@ -29,7 +20,7 @@ use Rattle.metric.specs.Laws.Set.{or-setOf, setOf-none}
 use Rattle.column.specs.Laws.Calls.{router-known}
 use Rattle.avoid.specs.Known.{Known}
 use Rattle.avoid.specs.Laws.Known.{can-read, avoiding-to, avoiding-from}
-use Rattle.search.specs.Spaces.{avoidedFrom, avoidingIn, gathered, spaceFor, crossesOut}
+use Rattle.search.specs.Spaces.{avoidedFrom, avoidingIn, gathered, spaceFor}
 
 module _ (n : ℕ) (hops : List Arc) (q : Protected) (area : List ℕ) (known : Known n hops q area) where
   abbrev d : ℕ → ℕ → ℕ
@@ -79,44 +70,3 @@ module _ (n : ℕ) (hops : List Arc) (q : Protected) (area : List ℕ) (known : 
   space-known extendedP =
       ap (λ (s : ℕ). gathered n q area s (firstHops q hops)) (setOf-none n) ∙ gathered-known (λ r. false) (firstHops q hops) hop-in
   space-known qSpace = avoiding-known (router (q .far)) _ (router-known n area (known .sound .few) (known .long) (q .far) far-in refl)
-
-  -- ---- crossing
-
-  -- Traffic from S may cross the link just where its distance is that over the link; the link does not lead from S to S, since a walk
-  -- never visits a router twice.
-  module _ (target : Target) (l : List ℕ) (e : l ≡ column n (towards d target)) where
-    pub near-held : getD l (q .near) 0 ≡ towards d target (q .near)
-    near-held = rw e (column-at n (towards d target) (q .near) near-in)
-
-    far-held : getD l (q .far) 0 ≡ towards d target (q .far)
-    far-held = rw e (column-at n (towards d target) (q .far) far-in)
-
-    pub crosses-may : crossesOut q (λ x. getD l x 0) ≡ mayCross n hops d q target
-    unfolding crossesOut
-    crosses-may = same-test _ _ there back
-      where
-        self : d (q .near) (q .near) ≤ 0
-        self = known .costs .least stay
-
-        there : crossesOut q (λ x. getD l x 0) ≡ true → mayCross n hops d q target ≡ true
-        there t =
-            let f : getD l (q .near) 0 < unreachable = search (ltb-true, and-left) in
-            let s : min (q .out + getD l (q .far) 0) unreachable ≡ getD l (q .near) 0 = search (eqb-true, and-right) in
-            may-make n hops d q (known .sound) (known .named) target
-            (equation-crossing hops d target (known .costs) (known .named .outward) (omega (arith, near-held, far-held, self)) (omega (arith, near-held)))
-
-        cost : (r : MayCross hops d q target) → ((q .near ≡ q .near) × (q .far ≡ q .far) × (r .step .cost ≡ q .out)) ⊎ ((q .near ≡ q .far) × (q .far ≡ q .near) × (r .step .cost ≡ q .back)) →
-            q .out + towards d target (q .far) ≡ towards d target (q .near)
-        cost r (inl k) = omega (arith, k .2, r .step .tight)
-        cost r (inr k) =
-            let g = known .sound .falls d target in
-            let back : Step hops d target (q .far) (q .far) (q .number) = rw (k .0) at (r .step) in
-            absurd (never-twice hops d target n (g .0) (known .sound .within) (g .1) (hop back here))
-
-        back : mayCross n hops d q target ≡ true → crossesOut q (λ x. getD l x 0) ≡ true
-        back t =
-            let r = may-gives n hops d q (known .sound) (known .named) target t in
-            let f = r .step .finite in
-            let c = cost r (known .named .only (r .step .joined)) in
-            let s : min (q .out + getD l (q .far) 0) unreachable ≡ getD l (q .near) 0 = omega (arith, near-held, far-held, c, f) in
-            and-make _ _ (lt-ltb (getD l (q .near) 0) unreachable (omega (arith, near-held, f))) (eq-eqb _ _ s)

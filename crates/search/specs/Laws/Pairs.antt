@@ -15,8 +15,8 @@ use Rattle.lfa.specs.Lists.{below, select, flat}
 use Rattle.lfa.specs.Network.{Arc, Target, router}
 use Rattle.lfa.specs.Distance.{unreachable, towards}
 use Rattle.lfa.specs.Walk.{avoids}
-use Rattle.lfa.specs.Space.{Protected, FirstHop, firstHops, extendedP, inSpace, spaceOf, has}
-use Rattle.lfa.specs.Repair.{Pair, isEndpoint, pairsOf, pairs, serves, classOf, firstPair, Outcome, outcomeOf, prefixUnreachable, prefixUntouched, prefixOutcome}
+use Rattle.lfa.specs.Space.{Protected, FirstHop, firstHops, extendedP, inSpace, spaceOf, has, setOf}
+use Rattle.lfa.specs.Repair.{Pair, isEndpoint, pairsOf, pairs, serves, classOf, firstPair, Outcome, outcomeOf, prefixUnreachable, prefixUntouched, mayCross, prefixOutcome}
 use Rattle.lfa.specs.Laws.Test.{and-left, and-right}
 use Rattle.lfa.specs.Laws.List.{any-make, below-mem, select-gives}
 use Rattle.lfa.specs.Laws.Set.{has-setOf, has-and}
@@ -30,20 +30,22 @@ use Rattle.metric.specs.Laws.Column.{column-at}
 use Rattle.metric.specs.Laws.List.{select-same}
 use Rattle.order.specs.declared.Ordered.{Ordered}
 use Rattle.avoid.specs.Known.{Known}
-use Rattle.search.specs.Spaces.{avoidedFrom, avoidingIn, spaceFor}
+use Rattle.steps.specs.Crossing.{stepsOver}
+use Rattle.search.specs.Spaces.{avoidedFrom, spaceFor}
 use Rattle.search.specs.Choice.{outcomeFor, firstOf, orderedAt, mayEnd, hopPairs, pairsOver, pairsTried, firstServing}
 use Rattle.search.specs.Calls.{pairFor, prefixFor}
 use Rattle.metric.specs.Laws.Select.{and-reorder, select-select, select-map, map-same, select-flat, map-flat}
 use Rattle.search.specs.Laws.First.{orderedFor, first-chosen}
-use Rattle.search.specs.Laws.Known.{near-in, hop-in, avoided-known, avoiding-known, space-known, near-held, crosses-may}
+use Rattle.search.specs.Laws.Known.{near-in, hop-in, avoided-known, space-known}
 
-module _ (ranks : List ℕ) (n : ℕ) (hops : List Arc) (q : Protected) (area : List ℕ) (known : Known n hops q area) (target : Target) (l : List ℕ) (e : l ≡ column n (towards (held n area) target)) where
+module _ (ranks : List ℕ) (n : ℕ) (hops : List Arc) (q : Protected) (area : List ℕ) (known : Known n hops q area) (target : Target) (l : List ℕ) (e : l ≡ column n (towards (held n area) target))
+    (onward : ℕ) (onward-is : onward ≡ setOf n (avoids n hops (held n area) target (q .number))) where
   abbrev d : ℕ → ℕ → ℕ
   d = held n area
 
   -- the routers that are in extended P and avoid to the target
   abbrev mask : ℕ
-  mask = bitAnd (spaceFor extendedP n hops q area) (avoidingIn n q area l)
+  mask = bitAnd (spaceFor extendedP n hops q area) onward
 
   module _ (f : FirstHop) (j : List·Memᴰ f (firstHops q hops)) where
     in-extended : (y : ℕ) → y < n → has (spaceFor extendedP n hops q area) y ≡ inSpace extendedP n hops d q y
@@ -66,8 +68,8 @@ module _ (ranks : List ℕ) (n : ℕ) (hops : List Arc) (q : Protected) (area : 
         let t = avoids n hops d target (q .number) y in
         let a = avoids n hops d (router y) (q .number) (f .router) in
         let in-mask : has mask y ≡ (x && t) =
-        has-and (spaceFor extendedP n hops q area) (avoidingIn n q area l) y
-        ∙ ap₂ (λ (u v : Bool). u && v) (in-extended y k) (ap (λ (s : ℕ). has s y) (avoiding-known n hops q area known target l e) ∙ has-setOf n (avoids n hops d target (q .number)) y k) in
+        has-and (spaceFor extendedP n hops q area) onward y
+        ∙ ap₂ (λ (u v : Bool). u && v) (in-extended y k) (ap (λ (s : ℕ). has s y) onward-is ∙ has-setOf n (avoids n hops d target (q .number)) y k) in
         let in-ends : has (bitAnd mask (avoidedFrom n q area (f .router))) y ≡ ((x && t) && a) =
         has-and mask (avoidedFrom n q area (f .router)) y
         ∙ ap₂ (λ (u v : Bool). u && v) in-mask
@@ -112,15 +114,18 @@ module _ (ranks : List ℕ) (n : ℕ) (hops : List Arc) (q : Protected) (area : 
       ∙ sym (ap (map (orderedFor ranks d q target)) (select-flat (serves n hops d q target) (pairsOf q n) (firstHops q hops)) ∙ map-flat (orderedFor ranks d q target) (λ f. select (serves n hops d q target) (pairsOf q n f)) (firstHops q hops))
 
   -- The first of them gives document 01's outcome.
-  pub pair-known : pairFor ranks n hops q area l ≡ outcomeOf d q target (firstPair ranks n hops d q target)
+  pub pair-known : pairFor ranks n hops q area l onward ≡ outcomeOf d q target (firstPair ranks n hops d q target)
   unfolding pairFor firstServing firstPair
   pair-known = ap (λ (os : List Ordered). outcomeFor (firstOf none os)) tried ∙ first-chosen ranks d q target (select (serves n hops d q target) (pairs q n hops))
 
   -- Of a prefix, unreachable and untouched come first.
-  pub prefix-known : prefixFor ranks n hops q area l ≡ prefixOutcome ranks n hops d q target
+  pub prefix-known : (ends : ℕ) → stepsOver q ends l ≡ mayCross n hops d q target → prefixFor ranks n hops q area ends l onward ≡ prefixOutcome ranks n hops d q target
   unfolding prefixFor prefixOutcome
-  prefix-known = same (ap (λ (v : ℕ). ltb v unreachable) (near-held n hops q area known target l e)) (crosses-may n hops q area known target l e) pair-known
+  prefix-known ends crosses = same (ap (λ (v : ℕ). ltb v unreachable) near-held) crosses pair-known
     where
+      near-held : getD l (q .near) 0 ≡ towards d target (q .near)
+      near-held = rw e (column-at n (towards d target) (q .near) (near-in n hops q area known))
+
       outcome : Bool → Bool → Outcome → Outcome
       outcome a b o = elim a [ false ↦ prefixUnreachable | true ↦ elim b [ false ↦ prefixUntouched | true ↦ o ] ]
 

@@ -13,6 +13,7 @@ use Rattle.metric.specs.Area.{held}
 use Rattle.metric.specs.Column.{slotsIn}
 use Rattle.column.specs.Laws.Calls.{prefix-known}
 use Rattle.metric.specs.Laws.Columns.{columns-within}
+use Rattle.steps.specs.Laws.Next.{no-ends}
 use Rattle.steps.specs.Laws.Calls.{nexts-known}
 use Rattle.options.specs.Options.{moveIn}
 use Rattle.options.specs.Laws.Options.{move-known}
@@ -79,7 +80,7 @@ moved c =
     let d = held (a .n) (a .dist .now) in
     let slots = slotsIn (a .at .now) (a .own .now) (a .slot) (a .count) in
     let target-is = prefix-known (a .n) (a .dist .now) (net .within .few-routers) (net .long) (a .at .now) (a .own .now) (a .slot) (a .count) (net .slots) (l .before .before .before .towards-prefix .ensures) in
-    let right = nexts-known (net .within) (a .out .now) (a .back .now) d slots _ _ target-is (l .before .next-routers .ensures) in
+    let right = nexts-known (net .within) (a .out .now) (a .back .now) d slots _ _ 0 (no-ends (a .n) slots) target-is (l .before .next-routers .ensures) in
     let hops = arcsIn (a .from .now) (a .to .now) (a .out .now) (a .back .now) (a .links) in
     ap (optionTaken _) (sym (c .before .before .choice .ensures))
     ∙ sym (c .move-at .ensures ∙ move-known (net .within .few-routers) hops (columns-within _ _ _ _ _ (a .n) (net .within)) _ _ _ _ (net .slots .few) d _ target-is _ right _ _ (l .loop .inv .inside))

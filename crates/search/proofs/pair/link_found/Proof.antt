@@ -6,7 +6,7 @@ use Prim.Native.Nat.{ℕ}
 use borrow.Author.Tests.{not-true, not-false}
 use Rattle.metric.specs.Columns.{arcsIn}
 use Rattle.avoid.specs.Avoiding.{asked}
-use Rattle.search.specs.Calls.{pairFor, linkIf}
+use Rattle.search.specs.Calls.{pairFor, linkFor, linkIf}
 use Rattle.search.proofs.SpaceLaws.{can-search}
 use borrow.Author.Needs.{needs}
 use Rattle.search.proofs.pair.link_found.Statement.{statement}
@@ -22,22 +22,27 @@ returns c = rw (sym (c .before .can-search .ensures) ∙ not-true _ (c .if1 .tak
 towards-router-requires : tie.Need-towards-router-requires
 towards-router-requires c κs = search needs
 
+avoiding-to-requires : tie.Need-avoiding-to-requires
+avoiding-to-requires c κs = search needs
+
 pair-found-requires : tie.Need-pair-found-requires
 pair-found-requires c κs =
-    let e = c .before .before in
+    let e = c .before .before .before .before .before in
     let s = can-search _ _ _ _ (sym (e .before .can-search .ensures) ∙ not-false _ (e .if1 .left)) in
     (s .0, s .1, s .3)
 
 returns-2 : tie.Need-returns-2
-unfolding linkIf
+unfolding linkIf linkFor
 returns-2 c =
-    let e = c .before .before .before in
+    let e = c .before .before .before .before .before .before in
     let a = e .before .before .before .before .args in
     let passes = sym (e .before .can-search .ensures) ∙ not-false _ (e .if1 .left) in
-    let found = c .pair-found .ensures ∙ ap (λ (l : List ℕ). pairFor (a .ranks .now) (a .n) (arcsIn (a .from .now) (a .to .now) (a .out .now) (a .back .now) (a .links)) (asked (a .protected)) (a .dist .now) l) (c .before .before .towards-router .ensures) in
+    let found = c .pair-found .ensures
+    ∙ ap (pairFor (a .ranks .now) (a .n) (arcsIn (a .from .now) (a .to .now) (a .out .now) (a .back .now) (a .links)) (asked (a .protected)) (a .dist .now) _) (c .before .before .avoiding-to .ensures)
+    ∙ ap (linkFor (a .ranks .now) (a .n) (arcsIn (a .from .now) (a .to .now) (a .out .now) (a .back .now) (a .links)) (asked (a .protected)) (a .dist .now)) (c .before .before .before .before .before .towards-router .ensures) in
     rw passes found
 
 pub link-found-spec : {M : Type 1} → statement M
 link-found-spec =
     tie.close
-    (tie.spec can-search-requires returns towards-router-requires pair-found-requires returns-2)
+    (tie.spec can-search-requires returns towards-router-requires avoiding-to-requires pair-found-requires returns-2)

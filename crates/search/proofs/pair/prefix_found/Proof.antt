@@ -1,12 +1,13 @@
 -- `search::pair::prefix_found` meets its contract. Unreachable, untouched, or the pair that serves.
 -- Assumes nothing.
-use mathlib.Core.Path.{_≡_, sym, _∙_}
+use mathlib.Core.Path.{_≡_, sym, ap, _∙_}
 use mathlib.Core.Bool.{true}
 use native.Mathlib.Omega.{arith}
 use borrow.Author.Tests.{not-true, not-false, lt-ltb, le-ltb}
 use Rattle.avoid.specs.Avoiding.{asked}
 use lib.ListN.{length}
-use Rattle.search.specs.Calls.{searchable, prefixIf, prefixFor}
+use Rattle.metric.specs.Columns.{arcsIn}
+use Rattle.search.specs.Calls.{searchable, pairFor, prefixIf, prefixFor}
 use Rattle.search.proofs.SpaceLaws.{can-search}
 use borrow.Author.Needs.{needs}
 use Rattle.search.proofs.pair.prefix_found.Statement.{statement}
@@ -33,24 +34,29 @@ returns-2 : tie.Need-returns-2
 unfolding prefixIf prefixFor
 returns-2 c = rw (passes (c .before .before), prefixIf, le-ltb _ _ (c .if2 .taken), prefixFor)
 
-may-cross-requires : tie.Need-may-cross-requires
-may-cross-requires c κs = let s = can-search _ _ _ _ (passes (c .before .before)) in (s .1, s .2)
+steps-over-requires : tie.Need-steps-over-requires
+steps-over-requires c κs = search needs
 
 returns-3 : tie.Need-returns-3
 unfolding prefixIf prefixFor
 returns-3 c =
     let e = c .before .before in
-    rw (passes (e .before .before), prefixIf, lt-ltb _ _ (e .if2 .left), prefixFor, sym (c .before .may-cross .ensures) ∙ not-true _ (c .if3 .taken))
+    rw (passes (e .before .before), prefixIf, lt-ltb _ _ (e .if2 .left), prefixFor, sym (c .before .steps-over .ensures) ∙ not-true _ (c .if3 .taken))
+
+avoiding-by-steps-requires : tie.Need-avoiding-by-steps-requires
+avoiding-by-steps-requires c κs = search needs
 
 pair-found-requires : tie.Need-pair-found-requires
-pair-found-requires c κs = let s = can-search _ _ _ _ (passes (c .before .before .before .before)) in (s .0, s .1, s .3)
+pair-found-requires c κs = let s = can-search _ _ _ _ (passes (c .before .before .before .before .before)) in (s .0, s .1, s .3)
 
 returns-4 : tie.Need-returns-4
 unfolding prefixIf prefixFor
 returns-4 c =
-    let m = c .before .before in
+    let m = c .before .before .before in
     let e = m .before in
-    rw (passes (e .before .before), prefixIf, lt-ltb _ _ (e .if2 .left), prefixFor, sym (m .may-cross .ensures) ∙ not-false _ (c .before .if3 .left)) (c .pair-found .ensures)
+    let a = e .before .before .before .before .before .before .args in
+    rw (passes (e .before .before), prefixIf, lt-ltb _ _ (e .if2 .left), prefixFor, sym (m .steps-over .ensures) ∙ not-false _ (c .before .before .if3 .left))
+    (c .pair-found .ensures ∙ ap (pairFor (a .ranks .now) (a .n) (arcsIn (a .from .now) (a .to .now) (a .out .now) (a .back .now) (a .links)) (asked (a .protected)) (a .dist .now) (a .target .now)) (c .before .avoiding-by-steps .ensures))
 
 pub prefix-found-spec : {M : Type 1} → statement M
 prefix-found-spec =
@@ -61,7 +67,8 @@ prefix-found-spec =
     mul-if2
     element-copy-out-if2
     returns-2
-    may-cross-requires
+    steps-over-requires
     returns-3
+    avoiding-by-steps-requires
     pair-found-requires
     returns-4)

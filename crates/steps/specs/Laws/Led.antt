@@ -1,95 +1,27 @@
--- What the sets mean, where the column holds the distances to a target: the next routers are those of document 01's walks, and the
--- rounds that follow them backwards find the routers from which some walk takes a wanted hop.
+-- Where steps lead: the rounds that follow the next routers backwards find the routers from which some walk takes a wanted hop.
 -- Assumes nothing.
-use Prim.Native.Nat.{ℕ, zero, suc, _+_, _^_, _≤_, _<_, min}
-use mathlib.Core.Path.{_≡_, refl, sym, ap, ap₂, _∙_}
+use Prim.Native.Nat.{ℕ, zero, suc, _^_, _≤_, _<_}
+use mathlib.Core.Path.{_≡_, refl, sym, ap, _∙_}
 use mathlib.Core.Logic.{_⊎_, inl, inr}
 use mathlib.Core.Bool.{Bool, true, false, not, _&&_, _||_, false≢true}
 use mathlib.Core.List.{List, List·Memᴰ}
 use native.Mathlib.Omega.{arith}
-use lib.Dec.{eqb, ltb}
+use lib.Dec.{eqb}
 use lib.ListN.{getD}
 use lib.Bits.{bitAnd, bitOr, and-le-l}
-use borrow.Author.Tests.{ltb-true, eqb-true, eqb-false, eq-eqb, ne-eqb, not-true}
+use borrow.Author.Tests.{eqb-true, eqb-false, eq-eqb, ne-eqb, not-true}
 use Rattle.lfa.specs.Lists.{below, anyOf, memberOf}
 use Rattle.lfa.specs.Network.{Arc, arc, Target}
-use Rattle.lfa.specs.Distance.{unreachable, towards}
 use Rattle.lfa.specs.Walk.{isStep, leads, takers}
-use Rattle.lfa.specs.Space.{has, setOf}
+use Rattle.lfa.specs.Space.{has}
 use Rattle.lfa.specs.Route.{isStepTo}
 use Rattle.lfa.specs.Laws.Test.{and-left, and-right, and-make, or-cases, or-left, or-right, same-test, decide}
 use Rattle.lfa.specs.Laws.List.{any-gives, any-make, mem-below, below-mem, select-gives, select-make, member-gives, member-make}
-use Rattle.lfa.specs.Laws.Counting.{map-below-at}
-use Rattle.lfa.specs.Laws.Set.{setOf-lt, has-setOf, has-and}
+use Rattle.lfa.specs.Laws.Set.{has-setOf, has-and}
 use Rattle.lfa.specs.Laws.Arrive.{Within}
-use Rattle.metric.specs.Column.{column}
-use Rattle.metric.specs.Laws.Column.{column-at}
-use Rattle.metric.specs.Laws.List.{any-same}
 use Rattle.metric.specs.Laws.Set.{has-or, has-none, no-member}
-use Rattle.steps.specs.Steps.{isTight, stepTo, nextBy, nextsIn, ledTo, ledIn}
-
--- ---- the next routers
-
--- a sum that is a finite distance is below the cap
-pub capped : (s t : ℕ) → (eqb (min s unreachable) t && ltb t unreachable) ≡ (eqb s t && ltb t unreachable)
-capped s t = same-test _ _ there back
-  where
-    there : (eqb (min s unreachable) t && ltb t unreachable) ≡ true → (eqb s t && ltb t unreachable) ≡ true
-    there k =
-        let f : t < unreachable = ltb-true t unreachable (and-right (eqb (min s unreachable) t) _ k) in
-        let e : min s unreachable ≡ t = eqb-true (min s unreachable) t (and-left _ (ltb t unreachable) k) in
-        let g : s ≡ t = omega arith in
-        and-make (eqb s t) (ltb t unreachable) (eq-eqb s t g) (and-right (eqb (min s unreachable) t) _ k)
-
-    back : (eqb s t && ltb t unreachable) ≡ true → (eqb (min s unreachable) t && ltb t unreachable) ≡ true
-    back k =
-        let f : t < unreachable = ltb-true t unreachable (and-right (eqb s t) _ k) in
-        let e : s ≡ t = eqb-true s t (and-left _ (ltb t unreachable) k) in
-        let g : min s unreachable ≡ t = omega arith in
-        and-make (eqb (min s unreachable) t) (ltb t unreachable) (eq-eqb (min s unreachable) t g) (and-right (eqb s t) _ k)
-
--- the sets are those of the next routers of walks towards the target
-pub record RightNexts (n : ℕ) (hops : List Arc) (d : ℕ → ℕ → ℕ) (to : Target) (nexts : List ℕ) : Type 0 where
-  pub is-set : (x : ℕ) → x < n → getD nexts x 0 < 2 ^ 64
-  pub next : (x z : ℕ) → x < n → z < 64 → has (getD nexts x 0) z ≡ anyOf (isStepTo d to x z) hops
-
--- Distances are read from a column and sums are capped: a finite distance is below the cap. `ends` has no router.
-module _ (n : ℕ) (few : n ≤ 64) (hops : List Arc) (within : Within hops n) (d : ℕ → ℕ → ℕ) (to : Target) (ends : ℕ) (on : (x : ℕ) → x < n → has ends x ≡ false)
-    (held : List ℕ) (held-is : held ≡ column n (towards d to)) where
-  abbrev h : ℕ → ℕ
-  h y = getD held y 0
-
-  at-router : (y : ℕ) → y < n → h y ≡ towards d to y
-  at-router y k = rw held-is (column-at n (towards d to) y k)
-
-  same-step : (x z : ℕ) (a : Arc) → List·Memᴰ a hops → stepTo ends h x z a ≡ isStepTo d to x z a
-  unfolding stepTo isTight isStepTo isStep
-  same-step x z (arc u v c l) m = by (eqb u x) refl
-    where
-      tight : (not (has ends u) && eqb (min (c + h v) unreachable) (h u) && ltb (h u) unreachable) ≡ (eqb (c + towards d to v) (towards d to u) && ltb (towards d to u) unreachable)
-      tight =
-          let free = on u (within .from m) in
-          rw (free) (capped (c + h v) (h u)) ∙ ap₂ (λ (p q : ℕ). eqb (c + p) q && ltb q unreachable) (at-router v (within .to m)) (at-router u (within .from m))
-
-      by : (b : Bool) → eqb u x ≡ b → (eqb u x && ((not (has ends u) && eqb (min (c + h v) unreachable) (h u) && ltb (h u) unreachable) && eqb v z))
-          ≡ ((eqb u x && eqb (c + towards d to v) (towards d to x) && ltb (towards d to x) unreachable) && eqb v z)
-      by true e =
-          let s : u ≡ x = eqb-true u x e in
-          let at-x = tight ∙ ap (λ (y : ℕ). eqb (c + towards d to v) (towards d to y) && ltb (towards d to y) unreachable) s in
-          rw (e) (ap (λ (b : Bool). b && eqb v z) at-x)
-      by false e = rw (e)
-
-  pub right-nexts : RightNexts n hops d to (nextsIn ends (λ y. getD held y 0) hops)
-  unfolding nextsIn nextBy
-  right-nexts = record {
-    is-set = λ x i. rw (at x i) (setOf-lt 64 (nextBy ends h hops x));
-    next = λ x z i k. ap (λ (s : ℕ). has s z) (at x i) ∙ has-setOf 64 (nextBy ends h hops x) z k ∙ any-same (stepTo ends h x z) (isStepTo d to x z) hops (same-step x z);
-  }
-    where
-      at : (x : ℕ) → x < n → getD (nextsIn ends (λ y. getD held y 0) hops) x 0 ≡ setOf 64 (nextBy ends h hops x)
-      at x i = map-below-at (λ x. setOf 64 (nextBy ends h hops x)) 0 64 x (omega arith)
-
--- ---- where steps lead
+use Rattle.steps.specs.Steps.{ledTo, ledIn}
+use Rattle.steps.specs.Laws.Next.{RightNexts}
 
 -- two sets meet exactly when they have a common member
 meet-gives : (a b : ℕ) → a < 2 ^ 64 → (bitAnd a b ≡ 0 → ⊥) → (z : ℕ) × (z < 64) × (has a z ≡ true) × (has b z ≡ true)
