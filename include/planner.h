@@ -50,12 +50,13 @@
 #include <stddef.h>
 #include <stdint.h>
 
-/* The version of this interface. It is one higher wherever a program has to be changed to fit.
+/* The version of this interface. It is one higher with each change of the interface; the list says what has to be changed in a program.
  *
+ *   3   planner_write and planner_drill are new. Nothing has to be changed in a program for version 2.
  *   2   planner_link_repair, planner_prefix_repair and planner_route take `ranks` and `ranks_len` after `work_len`, and may be refused
- *       by row 15. With the ranks 0, 1, 2, 3 they answer as before.
+ *       by row 15. With the ranks 0, 1, 2, 3 they answer as before. A program that calls them has to be changed.
  *   1   had no number: the three calls took no ranks. */
-#define PLANNER_VERSION 2
+#define PLANNER_VERSION 3
 
 #ifdef __cplusplus
 extern "C" {
@@ -84,8 +85,9 @@ typedef struct {
     uint32_t cost;       /* the tunnel cost */
 } planner_answer;
 
-/* The network that a file holds. Link k joins from[k] and to[k], at cost out[k] one way and back[k] the other. Prefix p has
- * attached[p] attachments; its slot s is cell 8 * p + s of at (the router) and of own (its cost). Every other cell is 0. */
+/* The network that a file holds, or of which a file is to be made. Link k joins from[k] and to[k], at cost out[k] one way and back[k]
+ * the other. Prefix p has attached[p] attachments; its slot s is cell 8 * p + s of at (the router) and of own (its cost). planner_load
+ * leaves every other cell 0; planner_write looks at none of them, nor at kind, number and value. */
 typedef struct {
     uint32_t kind;   /* PLANNER_ACCEPTED or PLANNER_REFUSED */
     uint32_t number; /* the row of the table above, 1 to 9, or 0 */
@@ -142,6 +144,21 @@ planner_answer planner_prefix_repair(const uint8_t *file, size_t file_len, uint3
 planner_answer planner_route(const uint8_t *file, size_t file_len, uint32_t *work, size_t work_len, const uint8_t *ranks,
                              size_t ranks_len, size_t link, size_t end, size_t prefix, const uint8_t *choices, size_t choices_len,
                              uint8_t *route, size_t route_len);
+
+/* Writes the network file of a network into `buffer`, and returns how many bytes it has: 512 for each block, at most 6656. Returns 0,
+ * and writes nothing, where the network is outside the limits of docs/SPECIFICATION.md, The network file, or where the buffer is
+ * shorter than the file. The bytes after the file stay as they were. A file that is written is sound, and planner_load hands over the
+ * same network of it; of the network of a sound file the same file is written. */
+size_t planner_write(planner_network network, uint8_t *buffer, size_t buffer_len);
+
+/* Writes the network file of a drill, a network for training that its seed and its number of routers name, into `buffer`, and returns
+ * how many bytes it has, 1024. Returns 0, and writes nothing, where `routers` is not 3 to 64 or where the buffer is shorter than the
+ * file. The bytes after the file stay as they were. Every drill is sound.
+ *
+ * A drill is a ring with no prefixes: link k joins k and k + 1, the last joins routers - 1 and 0. Its costs, in the order out[0],
+ * back[0], out[1], back[1] and so on, are each 1 plus a draw modulo 100. A draw replaces the seed by 1664525 times it plus 1013904223,
+ * modulo 4294967296, and is the upper 16 bits of the new seed. */
+size_t planner_drill(uint32_t seed, size_t routers, uint8_t *buffer, size_t buffer_len);
 
 #ifdef __cplusplus
 }

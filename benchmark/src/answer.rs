@@ -36,22 +36,8 @@ impl From<Refusal> for Answer {
     }
 }
 
-/// The network with nothing in it.
-pub const BLANK: Network = Network {
-    kind: ACCEPTED,
-    number: 0,
-    value: 0,
-    routers: 0,
-    links: 0,
-    prefixes: 0,
-    from: [0; 128],
-    to: [0; 128],
-    out: [0; 128],
-    back: [0; 128],
-    attached: [0; 128],
-    at: [0; 1024],
-    own: [0; 1024],
-};
+/// The network with nothing in it, to be filled.
+pub const BLANK: Network = Network { kind: ACCEPTED, ..Network::EMPTY };
 
 /// One of the three spaces.
 #[derive(Clone, Copy, Debug, PartialEq, Eq)]

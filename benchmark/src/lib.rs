@@ -3,9 +3,11 @@
 
 pub mod answer;
 pub mod baseline;
+pub mod calls;
 pub mod compare;
 pub mod networks;
 pub mod plan;
 pub mod planner;
 pub mod side;
 pub mod timing;
+pub mod written;

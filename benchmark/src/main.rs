@@ -3,28 +3,26 @@
 
 use benchmark::answer::PLAYED;
 use benchmark::baseline::Baseline;
+use benchmark::calls;
 use benchmark::compare::compare;
 use benchmark::networks::{self, Named};
-use benchmark::plan;
 use benchmark::planner::Planner;
 use benchmark::side::Side;
-use benchmark::timing::{measure, Times};
+use benchmark::timing::Times;
+use benchmark::written::{compare_drills, compare_written};
 use planner::ASCENDING_RANKS;
-use std::hint::black_box;
-
-/// Samples of each side for a short call, and for a whole plan.
-const ROUNDS: usize = 301;
-const PLAN_ROUNDS: usize = 31;
 
 /// The calls in the order of the table, with the largest ratio that is wanted.
-const CALLS: [(&str, f64); 7] = [
-    ("load", 1.5),
-    ("load of one block", 1.5),
-    ("distances", 1.5),
-    ("link repair", 1.5),
-    ("prefix repair", 1.5),
-    ("route", 1.5),
-    ("plan", 2.0),
+const CALLS: [(&str, Option<f64>); 9] = [
+    ("load", Some(1.5)),
+    ("load of one block", Some(1.5)),
+    ("distances", Some(1.5)),
+    ("link repair", Some(1.5)),
+    ("prefix repair", Some(1.5)),
+    ("route", Some(1.5)),
+    ("plan", Some(2.0)),
+    ("write", None),
+    ("drill", None),
 ];
 
 /// The times of one call on one network.
@@ -36,16 +34,12 @@ struct Line {
 
 fn main() {
     let networks = networks::all();
-    for network in &networks {
-        match compare::<Planner, Baseline>(&network.file, 1) {
-            Ok(asked) => println!("{}: {asked} questions, the same answers", network.name),
-            Err(question) => {
-                eprintln!("{}: the two sides differ: {question}", network.name);
-                std::process::exit(1);
-            }
-        }
+    for Named { name, file } in &networks {
+        told(name, compare::<Planner, Baseline>(file, 1));
+        told(name, compare_written::<Planner, Baseline>(file));
     }
-    let mut lines = vec![one_block()];
+    told("drills", compare_drills::<Planner, Baseline>());
+    let mut lines = vec![one_block(), drill()];
     for network in &networks {
         lines.extend(time_network(network));
     }
@@ -54,21 +48,30 @@ fn main() {
     println!();
     print_worst(&lines);
     println!();
-    println!("Each call gets the work area as the call before left it: nothing is cleared.");
+    println!("Each call gets its buffers as the call before left them: nothing is cleared.");
+}
+
+/// Tells how many questions were compared, or ends where an answer differs.
+fn told(name: &str, compared: Result<usize, String>) {
+    match compared {
+        Ok(asked) => println!("{name}: {asked} questions, the same answers"),
+        Err(question) => {
+            eprintln!("{name}: the two sides differ: {question}");
+            std::process::exit(1);
+        }
+    }
 }
 
 /// The check of one block alone is no call; the load of a file that has only
 /// its head comes nearest.
 fn one_block() -> Line {
     let file = networks::one_block();
-    Line { call: 1, network: "one router", times: time_load(&file) }
+    Line { call: 1, network: "one router", times: calls::load(&file) }
 }
 
-fn time_load(file: &[u8]) -> Times {
-    fn call<S: Side>(file: &[u8]) {
-        black_box(&S::load(black_box(file)));
-    }
-    measure(ROUNDS, || call::<Planner>(file), || call::<Baseline>(file))
+/// The largest drill.
+fn drill() -> Line {
+    Line { call: 8, network: "64 routers", times: calls::drill(1, 64) }
 }
 
 /// The question with the longest route, the first of them.
@@ -96,80 +99,15 @@ fn time_network(network: &Named) -> Vec<Line> {
     let (link, end, prefix) = question;
     println!("{}: timed with link {link}, end {end}, prefix {prefix}", network.name);
     let times = [
-        (0, time_load(file)),
-        (2, time_distances(file)),
-        (3, time_link_repair(file, link, end)),
-        (4, time_prefix_repair(file, question)),
-        (5, time_route(file, question)),
-        (6, time_plan(file)),
+        (0, calls::load(file)),
+        (2, calls::distances(file)),
+        (3, calls::link_repair(file, link, end)),
+        (4, calls::prefix_repair(file, question)),
+        (5, calls::route(file, question)),
+        (6, calls::plan(file)),
+        (7, calls::write(&Baseline::load(file))),
     ];
     times.map(|(call, times)| Line { call, network: network.name, times }).into()
-}
-
-fn time_distances(file: &[u8]) -> Times {
-    fn call<S: Side>(file: &[u8], work: &mut [u32]) {
-        black_box(S::distances(black_box(file), black_box(work)));
-    }
-    let (mut one, mut other) = (vec![0; 64 * 64], vec![0; 64 * 64]);
-    measure(ROUNDS, || call::<Planner>(file, &mut one), || call::<Baseline>(file, &mut other))
-}
-
-fn time_link_repair(file: &[u8], link: usize, end: usize) -> Times {
-    fn call<S: Side>(file: &[u8], work: &mut [u32], link: usize, end: usize) {
-        let (link, end) = black_box((link, end));
-        let ranks = black_box(&ASCENDING_RANKS);
-        black_box(S::link_repair(black_box(file), black_box(work), ranks, link, end));
-    }
-    let (mut one, mut other) = (vec![0; 64 * 64], vec![0; 64 * 64]);
-    measure(
-        ROUNDS,
-        || call::<Planner>(file, &mut one, link, end),
-        || call::<Baseline>(file, &mut other, link, end),
-    )
-}
-
-fn time_prefix_repair(file: &[u8], question: (usize, usize, usize)) -> Times {
-    fn call<S: Side>(file: &[u8], work: &mut [u32], question: (usize, usize, usize)) {
-        let (link, end, prefix) = black_box(question);
-        let ranks = black_box(&ASCENDING_RANKS);
-        black_box(S::prefix_repair(black_box(file), black_box(work), ranks, link, end, prefix));
-    }
-    let (mut one, mut other) = (vec![0; 64 * 64], vec![0; 64 * 64]);
-    measure(
-        ROUNDS,
-        || call::<Planner>(file, &mut one, question),
-        || call::<Baseline>(file, &mut other, question),
-    )
-}
-
-fn time_route(file: &[u8], question: (usize, usize, usize)) -> Times {
-    fn call<S: Side>(
-        file: &[u8],
-        (work, route): &mut (Vec<u32>, [u8; 128]),
-        question: (usize, usize, usize),
-    ) {
-        let (ranks, question, choices) = black_box((&ASCENDING_RANKS, question, &[][..]));
-        let (file, work, route) = black_box((file, work, route));
-        black_box(S::route(file, work, ranks, question, choices, route));
-    }
-    let mut one = (vec![0; 64 * 64], [0; 128]);
-    let mut other = one.clone();
-    measure(
-        ROUNDS,
-        || call::<Planner>(file, &mut one, question),
-        || call::<Baseline>(file, &mut other, question),
-    )
-}
-
-fn time_plan(file: &[u8]) -> Times {
-    fn call<S: Side>(file: &[u8], (work, text): &mut (Vec<u32>, Vec<u8>)) {
-        text.clear();
-        plan::write::<S>(black_box(file), black_box(work), text);
-        black_box(text);
-    }
-    let mut one = (vec![0; 64 * 64], Vec::with_capacity(1 << 14));
-    let mut other = (vec![0; 64 * 64], Vec::with_capacity(1 << 14));
-    measure(PLAN_ROUNDS, || call::<Planner>(file, &mut one), || call::<Baseline>(file, &mut other))
 }
 
 fn print_lines(lines: &[Line]) {
@@ -190,7 +128,10 @@ fn print_worst(lines: &[Line]) {
     for (call, (name, goal)) in CALLS.iter().enumerate() {
         let ratios = lines.iter().filter(|line| line.call == call).map(|line| line.times.ratio());
         let worst = ratios.fold(0.0, f64::max);
-        let verdict = if worst <= *goal { "met" } else { "missed" };
-        println!("| {name} | {worst:.2} | {goal:.1} | {verdict} |");
+        let verdict = |goal| if worst <= goal { "met" } else { "missed" };
+        match goal {
+            Some(goal) => println!("| {name} | {worst:.2} | {goal:.1} | {} |", verdict(*goal)),
+            None => println!("| {name} | {worst:.2} | none | |"),
+        }
     }
 }

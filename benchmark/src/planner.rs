@@ -97,4 +97,12 @@ impl Side for Planner {
             )
         }
     }
+
+    fn write(network: &Network, buffer: &mut [u8]) -> usize {
+        unsafe { raw::planner_write(network.clone(), buffer.as_mut_ptr(), buffer.len()) }
+    }
+
+    fn drill(seed: u32, routers: usize, buffer: &mut [u8]) -> usize {
+        unsafe { raw::planner_drill(seed, routers, buffer.as_mut_ptr(), buffer.len()) }
+    }
 }

@@ -31,4 +31,12 @@ pub trait Side {
         choices: &[u8],
         route: &mut [u8],
     ) -> Answer;
+
+    /// Both sides get the network in the struct of the C interface. In C it is
+    /// passed by value, so that the planner's side has it copied for each call;
+    /// the baseline reads it where it is, as a program in Rust would. So the
+    /// copy, which the interface asks for, is in the planner's time alone.
+    fn write(network: &Network, buffer: &mut [u8]) -> usize;
+
+    fn drill(seed: u32, routers: usize, buffer: &mut [u8]) -> usize;
 }

@@ -82,8 +82,9 @@ fn plan_agrees(file: &[u8], expected: &Expected) -> bool {
     matches!(expected, Expected::Text(expected) if expected.as_bytes() == text)
 }
 
-/// Whether the baseline gives the same outcome. It has no calls for entries
-/// and for the size of a set, which the benchmark does not time.
+/// Whether the baseline gives the same outcome. It has no calls for entries and
+/// for the size of a set, which the benchmark does not time; `written.rs` has the
+/// files that are written.
 fn agrees(file: &[u8], question: &Question, lent: &Buffers, expected: &Outcome) -> bool {
     let mut left = lent.clone();
     let work = &mut left.work;
@@ -93,6 +94,7 @@ fn agrees(file: &[u8], question: &Question, lent: &Buffers, expected: &Outcome) 
         Question::LinkEntry { .. } | Question::PrefixEntry { .. } | Question::Size { .. } => {
             return true;
         }
+        Question::Drill { .. } | Question::Write { .. } => return true,
         Question::Distances => Baseline::distances(file, work),
         Question::Space { space, link, end } => {
             let space = match space {

@@ -7,6 +7,7 @@ use benchmark::compare::compare;
 use benchmark::networks;
 use benchmark::planner::Planner;
 use benchmark::side::Side;
+use benchmark::written::{compare_drills, compare_written};
 use planner::ASCENDING_RANKS;
 
 #[test]
@@ -72,4 +73,16 @@ fn both_sides_agree() {
         assert!(asked.is_ok(), "{}: {asked:?}", network.name);
     }
     assert!(compare::<Planner, Baseline>(&networks::one_block(), 1).is_ok());
+}
+
+/// All that the command compares.
+#[test]
+fn both_sides_write_the_same_files() {
+    for network in networks::all() {
+        let asked = compare_written::<Planner, Baseline>(&network.file);
+        assert!(asked.is_ok(), "{}: {asked:?}", network.name);
+    }
+    assert!(compare_written::<Planner, Baseline>(&networks::one_block()).is_ok());
+    let asked = compare_drills::<Planner, Baseline>();
+    assert!(asked.is_ok(), "{asked:?}");
 }

@@ -1,15 +1,19 @@
-//! The baseline: the calls of the planner, written for speed. Every call reads
-//! and checks the file, and a call that computes fills the distances, just as
-//! the planner's calls do.
+//! The baseline: the calls of the planner, written for speed. Every call that is
+//! given a file reads and checks it, and a call that computes fills the
+//! distances, just as the planner's calls do.
 
 mod graph;
+mod limits;
 mod read;
 mod route;
+mod rows;
 mod search;
+mod write;
 
 use crate::answer::{self, Answer, Network, Refusal, Space, DONE, REFUSED, SET};
 use crate::side::Side;
 use graph::Graph;
+use rows::{arranged, enough_cells, named, numbered};
 use search::Target;
 
 /// The program that was written for speed.
@@ -20,42 +24,6 @@ fn opened(file: &[u8]) -> Result<Network, Refusal> {
     let mut network = answer::BLANK;
     read::read(file, &mut network)?;
     Ok(network)
-}
-
-/// Row 10.
-fn enough_cells(network: &Network, work: &[u32]) -> Result<(), Refusal> {
-    let cells = network.routers * network.routers;
-    if work.len() < cells {
-        return Err(Refusal::new(10, cells));
-    }
-    Ok(())
-}
-
-/// Row 15, and the ranks as a table that every class has a place in.
-fn arranged(ranks: &[u8]) -> Result<[u8; 4], Refusal> {
-    let ranks: [u8; 4] = ranks.try_into().map_err(|_| Refusal::new(15, 0))?;
-    let seen =
-        ranks.iter().fold(0, |seen, rank| seen | 1u32.checked_shl((*rank).into()).unwrap_or(0));
-    if seen != 0b1111 {
-        return Err(Refusal::new(15, 0));
-    }
-    Ok(ranks)
-}
-
-/// Row 12.
-fn named(network: &Network, link: usize, end: usize) -> Result<(), Refusal> {
-    if link >= network.links || end > 1 {
-        return Err(Refusal::new(12, network.links));
-    }
-    Ok(())
-}
-
-/// Row 13.
-fn numbered(network: &Network, prefix: usize) -> Result<(), Refusal> {
-    if prefix >= network.prefixes {
-        return Err(Refusal::new(13, network.prefixes));
-    }
-    Ok(())
 }
 
 /// The arcs of a network, whose distances are then in the work area.
@@ -192,5 +160,13 @@ impl Side for Baseline {
         buffer: &mut [u8],
     ) -> Answer {
         told(route(file, work, ranks, question, choices, buffer))
+    }
+
+    fn write(network: &Network, buffer: &mut [u8]) -> usize {
+        write::write(network, buffer)
+    }
+
+    fn drill(seed: u32, routers: usize, buffer: &mut [u8]) -> usize {
+        write::drill(seed, routers, buffer)
     }
 }

@@ -6,12 +6,12 @@
 
 use crate::answer::{Network, Refusal};
 
-const BLOCK: usize = 512;
+pub(super) const BLOCK: usize = 512;
 const LARGEST: usize = 13 * BLOCK;
-const LINKS_IN_BLOCK: usize = 84;
-const PREFIXES_IN_BLOCK: usize = 14;
-const LINK_ENTRY: usize = 6;
-const PREFIX_ENTRY: usize = 34;
+pub(super) const LINKS_IN_BLOCK: usize = 84;
+pub(super) const PREFIXES_IN_BLOCK: usize = 14;
+pub(super) const LINK_ENTRY: usize = 6;
+pub(super) const PREFIX_ENTRY: usize = 34;
 
 /// Reads a file into a network that is blank. On a refusal the network is
 /// filled in part.

@@ -1,13 +1,13 @@
 -- The three demands of the co-operative, in its words and its order, about the definitions that the contracts of the public calls cite:
--- `answerTo` and `exitOf` of a question, `networkLoaded`, `linkPart` and `prefixPart` of a file, `sizeOf` of a set. Statements only:
--- `Laws/Demands.antt` proves the last type of this page.
+-- `answerTo` and `exitOf` of a question, `networkLoaded`, `linkPart` and `prefixPart` of a file, `sizeOf` of a set, `Drilled` and `Wrote`
+-- of a buffer. Statements only: `Laws/Demands.antt` proves the last type of this page.
 -- Assumes nothing.
 use Prim.Native.Nat.{ℕ, _+_, _*_, _≤_, _<_}
 use mathlib.Core.Path.{_≡_}
 use mathlib.Core.Logic.{_⊎_, _↔_}
 use mathlib.Core.Bool.{true}
 use mathlib.Core.List.{List, [], _∷_, _++_, map, List·Memᴰ}
-use lib.ListN.{getD, length, drop}
+use lib.ListN.{getD, length, take, drop}
 use Rattle.lfa.specs.Lists.{countUp, HowMany}
 use Rattle.lfa.specs.Network.{Arc, arc, Target, Network, router, arcs}
 use Rattle.lfa.specs.File.{Bytes, byteAt, linksOf, prefixesOf, linkEntry, prefixEntry}
@@ -20,6 +20,8 @@ use Rattle.lfa.specs.Repair.{Pair, IsPair, Told, Tells, Keys, First, May
 use Rattle.lfa.specs.Route.{AreOptions, options, NamedRoute}
 use Rattle.lfa.specs.Question.{Question, Call, load, fill, linkRepair, prefixRepair, route, space, loading, filling, askSpace, askLink, askPrefix, askRoute, toPrefixRepair, withoutMaintenance, withRanks, LooksAtFirstHops, Buffer, workArea, routeBuffer, aRankTable, aPrefix, lent, HasInput, networkAsked, linkAsked, prefixAsked}
 use Rattle.lfa.specs.Refusal.{Row, noPair, Applies, entryOf, rowsTried, Decides, Accepted, Posed}
+use Rattle.lfa.specs.Writing.{Wrote}
+use Rattle.lfa.specs.Drill.{IsDrill, Drilled}
 use Rattle.lfa.specs.Answer.{Answer, refused, accepted, done, untouched, unreached, set, repair, played, answerTo, leave, writtenTo, exitOf, networkLoaded, linkPart, prefixPart}
 
 -- ---- demand 1: "every public call takes every input, always returns" (no contract has a `requires`, and each function is proved to
@@ -246,6 +248,26 @@ pub record Point2 (q : Question) : Type 0 where
   -- a call that takes no table answers and writes the same whatever stands in its place
   pub none-taken : (HasInput q aRankTable → ⊥) → (ranks : List ℕ) → SameReply q (withRanks ranks q)
 
+-- ---- Point 13: calls that make a network file in a lent buffer
+
+-- What a call leaves that is lent the buffer `before`: it has a file to write or none, of so many bytes, which holds such a network.
+pub record FileMade (Has : Type 0) (size : ℕ) (Holds : Network → Type 0) (count : ℕ) (before after : Bytes) : Type 0 where
+  -- "The call returns the bytes written, 0 and none .. with a buffer shorter than the file."
+  pub whole : Has → size ≤ length before → count ≡ size
+  pub none : (Has → ⊥) ⊎ (length before < size) → (count ≡ 0) × (after ≡ before)
+  pub later-untouched : drop count after ≡ drop count before
+  -- the reader accepts what is written ("every drill")
+  pub read : 0 < count → Accepted (take count after) × Holds (networkLoaded (take count after))
+
+pub record Point13 : Type 0 where
+  -- "A drill of N routers, 3 to 64, is the ring of document 01 .."; there is only one for each seed and N. Its file has 1,024 bytes.
+  pub drill-made : (seed n count : ℕ) (before after : Bytes) → Drilled seed n count before after →
+      FileMade ((3 ≤ n) × (n ≤ 64)) 1024 (IsDrill seed n) count before after
+  pub one-drill : (seed n : ℕ) (net other : Network) → IsDrill seed n net → IsDrill seed n other → net ≡ other
+  -- the call that writes a network: those within the limits
+  pub network-made : (net : Network) (count : ℕ) (before after : Bytes) → Wrote net count before after →
+      FileMade (WithinLimits net) (length (fileOf net)) (λ other. other ≡ net) count before after
+
 -- ---- the demands: 1 of every question at all; 2 and 3 of those that no row before 14 turns away, "for every accepted file, every link and
 -- end of it, and every prefix .. with work area enough"
 
@@ -258,6 +280,7 @@ pub record Demands : Type 0 where
   pub ranks-lent : RanksLent
   pub ascending-arranged : Arrangement ascending
   pub point-2 : (q : Question) → Point2 q
+  pub point-13 : Point13
   -- of a file of bytes, that is what `Posed` means
   pub posed-when : (q : Question) → ((i : ℕ) → byteAt (q .file) i < 256) →
       Posed q ↔ ((r : Row) (v : ℕ) → List·Memᴰ r (rowsTried (q .call)) → (r ≡ noPair → ⊥) → Applies q r v → ⊥)

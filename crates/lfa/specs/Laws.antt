@@ -30,6 +30,8 @@ pub mod FileRows
 pub mod Answers
 pub mod Accepted
 pub mod Writing
+pub mod Ring
+pub mod Drill
 pub mod Turned
 pub mod Asked
 pub mod Work
@@ -42,4 +44,5 @@ pub mod Maintenance
 pub mod Point1
 pub mod SameKind
 pub mod Point2
+pub mod Point13
 pub mod Demands

@@ -12,6 +12,8 @@ pub mod Question
 pub mod Causes
 pub mod Refusal
 pub mod Writing
+pub mod Ring
+pub mod Drill
 pub mod Answer
 pub mod Contract
 pub mod Demands

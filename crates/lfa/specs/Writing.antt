@@ -43,19 +43,24 @@ hasFile net = countsFit net && areBytes (fileOf net) && passesRows (fileOf net)
 
 -- ---- what is written
 
+-- "The call returns the bytes written, 0 and none .. with a buffer shorter than the file" (Point 13): so many bytes, where the file may be
+-- written or not ..
+unfoldable pub countWritten : Bool → Bytes → ℕ
+countWritten fits file = elim fits [ true ↦ length file | false ↦ 0 ]
+
+-- .. and what the buffer holds afterwards: the file, and after it what it held before
+unfoldable pub bufferWritten : Bool → (file before : Bytes) → Bytes
+bufferWritten fits file before = elim fits [ true ↦ file ++ drop (length file) before | false ↦ before ]
+
+-- what a call that writes a file owes, where it may be written or not: the number of bytes that it returns, and its buffer at exit
+pub record Written (fits : Bool) (file : Bytes) (count : ℕ) (before after : Bytes) : Type 0 where
+  pub count-right : count ≡ countWritten fits file
+  pub buffer-right : after ≡ bufferWritten fits file before
+
 -- the network is within the limits, and a buffer of so many bytes is not shorter than its file
 unfoldable pub fileFits : Network → ℕ → Bool
 fileFits net size = hasFile net && leb (length (fileOf net)) size
 
--- "The call returns the bytes written, 0 and none .. with a buffer shorter than the file" (Point 13): so many bytes ..
-unfoldable pub bytesWritten : Network → ℕ → ℕ
-bytesWritten net size = elim (fileFits net size) [ true ↦ length (fileOf net) | false ↦ 0 ]
-
--- .. and what the buffer holds afterwards: the file, and after it what it held before
-unfoldable pub bufferWritten : Network → Bytes → Bytes
-bufferWritten net before = elim (fileFits net (length before)) [ true ↦ fileOf net ++ drop (length (fileOf net)) before | false ↦ before ]
-
--- what a call that writes a network owes: the number of bytes that it returns, and its buffer at exit
-pub record Wrote (net : Network) (count : ℕ) (before after : Bytes) : Type 0 where
-  pub count-right : count ≡ bytesWritten net (length before)
-  pub buffer-right : after ≡ bufferWritten net before
+-- what a call that writes a network owes
+abbrev pub Wrote : Network → (count : ℕ) → (before after : Bytes) → Type 0
+Wrote net count before after = Written (fileFits net (length before)) (fileOf net) count before after

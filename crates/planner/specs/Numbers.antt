@@ -29,6 +29,22 @@ loadedAs answer net =
       own = net .own;
     }
 
+-- the network by itself
+unfoldable pub networkIn : LoadedNetwork → file.Network
+networkIn loaded =
+    record {
+      routers = loaded .routers;
+      links = loaded .links;
+      prefixes = loaded .prefixes;
+      from = loaded .from;
+      to = loaded .to;
+      out = loaded .out;
+      back = loaded .back;
+      attached = loaded .attached;
+      at = loaded .at;
+      own = loaded .own;
+    }
+
 -- What a C function owes for a question: its answer as numbers, and what each lent buffer holds at exit.
 pub record Numbered (q : Question) (r : Numbers) (area areaAfter : List ℕ) : Type 0 where
   pub numbers-are : r ≡ numbersOf (answerTo q)

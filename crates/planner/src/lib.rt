@@ -2,9 +2,11 @@
 // length. `include/planner.h` tells C programs the same.
 use answers::size;
 use copy::copy_part;
+use drill::drill;
 use entries::link_entry;
 use entries::prefix_entry;
 use network_file::load;
+use network_file::network::Network;
 use numbers::Numbers;
 use numbers::filled_numbers;
 use numbers::played_numbers;
@@ -18,19 +20,23 @@ use repair::p_space;
 use repair::prefix_repair;
 use repair::q_space;
 use route::route;
+use writer::write;
 ghost use mathlib.Core.Path.{_≡_};
 ghost use lib.ListN.{length};
 ghost use Rattle.lfa.specs.Space.{pSpace, extendedP, qSpace, sizeOf};
 ghost use Rattle.lfa.specs.Question.{loading, filling, askSpace, askLink, askPrefix, askRoute};
 ghost use Rattle.lfa.specs.Answer.{answerTo, networkLoaded, linkPart, prefixPart};
+ghost use Rattle.lfa.specs.Writing.{Wrote};
+ghost use Rattle.lfa.specs.Drill.{Drilled};
 ghost use Rattle.network_file.specs.Struct.{structOf};
+ghost use Rattle.network_file.specs.Held.{networkHeld};
 ghost use Rattle.numbers.specs.Numbers.{numbersOf};
-ghost use Rattle.planner.specs.Numbers.{loadedAs, Numbered, NumberedRoute};
+ghost use Rattle.planner.specs.Numbers.{loadedAs, networkIn, Numbered, NumberedRoute};
 ghost use Rattle.planner.specs.Copied.{copiedTo};
 
 mod copy;
 
-// The verdict on a file as numbers, and the network that the file holds.
+// The verdict on a file as numbers, and the network that the file holds or is to hold.
 #[repr(C)]
 pub struct LoadedNetwork {
     pub kind: u32,
@@ -79,6 +85,42 @@ pub extern "C" fn planner_load(file: &[u8]) -> LoadedNetwork
         at,
         own,
     }
+}
+
+// Writes the network file of a network into the buffer, and tells how many bytes it has; 0 where nothing is written. The verdict beside the
+// network is not looked at.
+#[no_mangle]
+pub extern "C" fn planner_write(given: LoadedNetwork, buffer: &mut [u8]) -> usize
+    ensures { λ r. ⌜ Wrote (networkHeld (networkIn given)) r (now (buffer .entry)) (now (buffer .exit)) ⌝ }
+{
+    let from = given.from;
+    let to = given.to;
+    let out = given.out;
+    let back = given.back;
+    let attached = given.attached;
+    let at = given.at;
+    let own = given.own;
+    let plain = Network {
+        routers: given.routers,
+        links: given.links,
+        prefixes: given.prefixes,
+        from,
+        to,
+        out,
+        back,
+        attached,
+        at,
+        own,
+    };
+    write(plain, buffer)
+}
+
+// Writes the network file of a drill into the buffer, and tells how many bytes it has; 0 where nothing is written.
+#[no_mangle]
+pub extern "C" fn planner_drill(seed: u32, routers: usize, buffer: &mut [u8]) -> usize
+    ensures { λ r. ⌜ Drilled seed routers r (now (buffer .entry)) (now (buffer .exit)) ⌝ }
+{
+    drill(seed, routers, buffer)
 }
 
 // Copies the bytes of a link's entry into the buffer, and tells how many they are.

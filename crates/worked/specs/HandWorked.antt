@@ -1,16 +1,17 @@
 -- "Hand-worked networks": the starred rows, as one table, what ranks do (Point 2) as another, and the lone theorem that the definitions
 -- yield every row of both. Each is asked through the definitions that the public contracts cite, from the bytes of its network's file.
 -- Assumes nothing.
-use Prim.Native.Nat.{ℕ, zero, suc, _+_, _^_}
+use Prim.Native.Nat.{ℕ, _+_, _^_}
 use mathlib.Core.Path.{_≡_, refl, sym, ap, _∙_}
 use mathlib.Core.Logic.{inl}
 use mathlib.Core.Option.{none}
 use mathlib.Core.List.{List, [], _∷_, List·Memᴰ}
 use native.Mathlib.Omega.{arith}
 use Rattle.lfa.specs.Lists.{countUp, below, select, anyOf, everyBelow, memberOf, flat, count, firstFailing, unless, table, cell}
-use Rattle.lfa.specs.Network.{Network, Link, link, Target, at, router, arcs, arcsFrom}
+use Rattle.lfa.specs.Network.{Network, link, Target, at, router, arcs, arcsFrom}
 use Rattle.lfa.specs.File.{byteAt, wordAt, partOf, allZero, blocksIn, blockOf, sumWords, checkOf, routersOf, linksOf, prefixesOf, ceil, linkBlocks, prefixBlocks, blocksNeeded, linkEntry, linkIn, prefixEntry, attachments, slotRouter, slot, prefixIn, linkOf, prefixOf, networkOf, lengthGood, checkGood, headGood, blockCountGood, laterGood, entriesIn, soundBlock, blockGood, soundLink, linkGood, joinSame, linkNew, slotGood, soundPrefix, prefixGood, slotNew, routersNew}
 use Rattle.lfa.specs.FileOf.{fileOf, blocksOf, prefixBlock, linkBlock, entriesBlock, prefixBytes, slotBytes, linkBytes, headBlock, blockBytes, pad, wordBytes}
+use Rattle.lfa.specs.Ring.{nextOnRing, ringLink, ringOf}
 use Rattle.lfa.specs.Distance.{least, costOver, towards, hopCost, direct, through, stage, distances, distanceIn}
 use Rattle.lfa.specs.Walk.{isStep, leads, takers, over, overFrom, avoids, crosses}
 use Rattle.lfa.specs.Space.{underMaintenance, Protected, Space, pSpace, extendedP, qSpace, protectedBy, protected, isFirst, hopOver, firstHops, inSpace, setOf, spaceOf}
@@ -25,15 +26,9 @@ use Rattle.lfa.specs.Answer.{Answer, refused, accepted, set, repair, played, un
 
 -- ---- the networks
 
--- the links of a ring from router i on: n of them, the last one back to router 0, all costs 1
-unfoldable pub ringFrom : ℕ → ℕ → List Link
-ringFrom i zero = []
-ringFrom i (suc zero) = link i 0 1 1 ∷ []
-ringFrom i (suc (suc n)) = link i (suc i) 1 1 ∷ ringFrom (suc i) (suc n)
-
 -- "Ring k: routers 0 to k−1, link i joins i and i+1, the last joins k−1 and 0, all costs 1."
 unfoldable pub ring : ℕ → List Target → Network
-ring k prefixes = record { routers = k; links = ringFrom 0 k; prefixes = prefixes }
+ring k prefixes = ringOf k (λ i. 1) (λ i. 1) prefixes
 
 -- ring 4, "prefix at 1 and 2, cost 0 each"
 unfoldable pub ring4prefix : Network
@@ -141,11 +136,11 @@ opened = tt
 
 -- the table; the lone router's "any link question" follows
 rows-yielded : yieldedAll starred ≡ starred
-unfolding opened ringFrom ring ring4prefix ring5prefix ring3cost2 ring4cost10 twoRouters oneRouter members told starred yielded yieldedAll
+unfolding opened nextOnRing ringLink ringOf ring ring4prefix ring5prefix ring3cost2 ring4cost10 twoRouters oneRouter members told starred yielded yieldedAll
 rows-yielded = refl
 
 ranked-yielded : yieldedAll ranked ≡ ranked
-unfolding opened ringFrom ring ring4prefix told ranked yielded yieldedAll
+unfolding opened nextOnRing ringLink ringOf ring ring4prefix told ranked yielded yieldedAll
 ranked-yielded = refl
 
 -- ---- "One router alone: accepted; any link question 12, value 0."
@@ -197,5 +192,5 @@ pub record Yielded : Type 0 where
   pub lone : (q : Question) → q .file ≡ fileOf oneRouter → NoneBefore12 q → HasInput q aLink → answerTo q ≡ refused 12 0
 
 pub hand-worked : Yielded
-unfolding opened ringFrom ring ring5d ring5link overHop4 ring5keys
+unfolding opened nextOnRing ringLink ringOf ring ring5d ring5link overHop4 ring5keys
 hand-worked = record { rows = rows-yielded; by-ranks = ranked-yielded; ring-5-tie = (refl, refl, refl); lone = lone-refused }

@@ -1,1 +1,2 @@
 pub mod HandWorked
+pub mod Drills

@@ -4,20 +4,19 @@ use Prim.Native.Nat.{ℕ, _+_, _≤_, _<_}
 use mathlib.Core.Path.{_≡_, refl, sym, ap, _∙_}
 use mathlib.Core.Bool.{Bool, true, false, _&&_}
 use mathlib.Core.Option.{Option, none, some}
-use mathlib.Core.List.{_++_}
 use native.Mathlib.Omega.{arith}
 use lib.Dec.{leb}
-use lib.ListN.{length, getD, drop}
+use lib.ListN.{length, getD}
 use borrow.Author.Tests.{leb-true, le-leb, lt-leb}
 use Rattle.lfa.specs.Lists.{everyBelow}
 use Rattle.lfa.specs.Network as lfa
 use Rattle.lfa.specs.File.{Bytes, byteAt}
 use Rattle.lfa.specs.FileOf.{fileOf}
 use Rattle.lfa.specs.Refusal.{FileRow, Decided, fileRefusal}
-use Rattle.lfa.specs.Writing.{entryFits, headFits, countsFit, areBytes, passesRows, hasFile, fileFits, bytesWritten, bufferWritten, Wrote}
+use Rattle.lfa.specs.Writing.{entryFits, headFits, countsFit, areBytes, passesRows, hasFile, fileFits, Wrote}
 use Rattle.lfa.specs.Laws.Test.{and-left, and-right, and-make, fails-left, fails-right, same-test}
 use Rattle.lfa.specs.Laws.List.{every-gives, every-make}
-use Rattle.lfa.specs.Laws.Writing.{bytes-make}
+use Rattle.lfa.specs.Laws.Writing.{owes-nothing, owes-file, bytes-make}
 use Rattle.network_file.specs.declared.Verdict.{Verdict}
 use Rattle.network_file.specs.declared.network.Network.{Network}
 use Rattle.network_file.specs.Load.{verdictDecided, undecided}
@@ -85,8 +84,7 @@ module _ (s : Network) where
 
 module _ (net : lfa.Network) (before : Bytes) where
   nothing : fileFits net (length before) ≡ false → Wrote net 0 before before
-  unfolding bytesWritten bufferWritten
-  nothing e = record { count-right = sym (rw (bytesWritten, e)); buffer-right = sym (rw (bufferWritten, e)) }
+  nothing e = owes-nothing before e
 
   -- the counts do not fit, a row applies, or the buffer is shorter
   pub counts-fail : countsFit net ≡ false → Wrote net 0 before before
@@ -105,12 +103,11 @@ module _ (net : lfa.Network) (before : Bytes) where
   pub all-written : countsFit net ≡ true → areBytes (fileOf net) ≡ true → passesRows (fileOf net) ≡ true →
       length (fileOf net) ≤ length before →
       Wrote net (length (fileOf net)) before (putAt 0 (fileOf net) before)
-  unfolding putAt fileFits hasFile bytesWritten bufferWritten
+  unfolding putAt fileFits hasFile
   all-written counts bytes rows fits =
       let e : fileFits net (length before) ≡ true = and-make _ _ (and-make _ _ (and-make _ _ counts bytes) rows) (le-leb _ _ fits) in
       let z : 0 + length (fileOf net) ≡ length (fileOf net) = omega arith in
-      let right : bufferWritten net before ≡ fileOf net ++ drop (length (fileOf net)) before = rw (bufferWritten, e) in
-      record { count-right = sym (rw (bytesWritten, e)); buffer-right = rw z (sym right) }
+      rw z (owes-file (fileOf net) before e)
 
 -- The same of the file as it was put together: a row applies, the buffer is shorter, or all is well.
 module _ (file before : Bytes) (net : lfa.Network) (is : file ≡ fileOf net) where

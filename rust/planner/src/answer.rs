@@ -1,6 +1,7 @@
 //! The answers of the calls, and how they are read from the answers of the C interface.
 
-use crate::network::{Attachment, Link, Network, MOST_ATTACHMENTS};
+use crate::columns::network_of;
+use crate::network::Network;
 use crate::raw::{self, kind};
 use crate::refusal::Refusal;
 use std::fmt::{self, Display, Formatter};
@@ -144,24 +145,6 @@ fn pair_of(answer: &raw::Answer) -> Pair {
         class: narrow(answer.pair_class),
         cost: answer.cost,
     }
-}
-
-/// The network of an accepted file. Its limits are tested once more, which costs little, so that
-/// one place alone answers for them.
-fn network_of(raw: &raw::Network) -> Network {
-    const KEPT: &str = "a network of an accepted file keeps the limits";
-    let mut network = Network::new(narrow(raw.routers)).expect(KEPT);
-    for k in 0..narrow(raw.links) {
-        let (a, b, out, back) = (raw.from[k], raw.to[k], raw.out[k], raw.back[k]);
-        network.add_link(Link { a, b, out, back }).expect(KEPT);
-    }
-    for p in 0..narrow(raw.prefixes) {
-        let slots = MOST_ATTACHMENTS * p..MOST_ATTACHMENTS * p + usize::from(raw.attached[p]);
-        let attachment = |slot| Attachment { router: raw.at[slot], cost: raw.own[slot] };
-        let attachments: Vec<Attachment> = slots.map(attachment).collect();
-        network.add_prefix(&attachments).expect(KEPT);
-    }
-    network
 }
 
 /// A number of the library in a narrower type, which is wide enough for it by the contracts.

@@ -8,6 +8,7 @@
 //! written there.
 
 use crate::answer::{self, Pair, Played, Repair, Set};
+use crate::columns::columns_of;
 use crate::file::{LINK_ENTRY, PREFIX_ENTRY};
 use crate::network::{Network, MOST_ROUTERS};
 use crate::raw;
@@ -22,6 +23,12 @@ pub const ROUTE_BYTES: usize = 2 * MOST_ROUTERS;
 
 /// Ranks by which the lower class is preferred, as the program `plan` does.
 pub const ASCENDING_RANKS: [u8; 4] = [0, 1, 2, 3];
+
+/// The fewest routers of a drill.
+pub const LEAST_DRILL_ROUTERS: usize = 3;
+
+/// The most routers of a drill.
+pub const MOST_DRILL_ROUTERS: usize = MOST_ROUTERS;
 
 /// The distance between routers that no path joins.
 pub const UNREACHABLE: u32 = u32::MAX;
@@ -203,6 +210,29 @@ pub fn route(
         )
     };
     answer::played(answer)
+}
+
+/// Writes the network file of a network into the buffer, and tells how many bytes it has. The bytes
+/// after them stay as they were.
+///
+/// The answer is 0, and nothing is written, where the buffer is shorter than the file;
+/// [`LARGEST_FILE`](crate::LARGEST_FILE) bytes are enough for every network.
+pub fn write(network: &Network, buffer: &mut [u8]) -> usize {
+    // SAFETY: the pointer and length are those of one slice, and the network is passed by value.
+    unsafe { raw::planner_write(columns_of(network), buffer.as_mut_ptr(), buffer.len()) }
+}
+
+/// Writes the network file of a drill into the buffer, and tells how many bytes it has,
+/// [`DRILL_BYTES`](crate::DRILL_BYTES). The bytes after them stay as they were.
+///
+/// A drill is a network for training, which its seed and its number of routers name: a ring without
+/// prefixes, whose costs, 1 to 100, are drawn from the seed. [`load`] accepts it.
+///
+/// The answer is 0, and nothing is written, where the routers are not [`LEAST_DRILL_ROUTERS`] to
+/// [`MOST_DRILL_ROUTERS`], or where the buffer is shorter than the file.
+pub fn drill(seed: u32, routers: usize, buffer: &mut [u8]) -> usize {
+    // SAFETY: the pointer and length are those of one slice.
+    unsafe { raw::planner_drill(seed, routers, buffer.as_mut_ptr(), buffer.len()) }
 }
 
 /// A shared slice, or a copy of it where it overlaps another one: shared slices may overlap in

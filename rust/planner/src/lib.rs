@@ -11,7 +11,7 @@
 //! says what a network file holds, and what distances, spaces, repairs and routes are.
 //!
 //! ```
-//! use planner::{Pair, Played, Repair, ASCENDING_RANKS, ROUTE_BYTES, WORK_CELLS};
+//! use planner::{Pair, Played, Repair, ASCENDING_RANKS, DRILL_BYTES, ROUTE_BYTES, WORK_CELLS};
 //!
 //! // Four routers in a ring, and a prefix that is attached to routers 1 and 2.
 //! let network = planner::text::parse(
@@ -39,6 +39,11 @@
 //! // Ranks that prefer tunnels, classes 2 and 3: one ends at router 2.
 //! let repair = planner::prefix_repair(&file, &mut work, &[2, 3, 0, 1], 0, 0, 0)?;
 //! assert_eq!(repair, Repair::Pair(Pair { first: 3, endpoint: 2, class: 2, cost: 2 }));
+//!
+//! // A drill, which is a network for training: five routers in a ring, with costs drawn from seed 8.
+//! let mut file = [0; DRILL_BYTES];
+//! assert_eq!(planner::drill(8, 5, &mut file), DRILL_BYTES);
+//! assert_eq!(planner::load(&file)?.links().len(), 5);
 //! # Ok::<(), Box<dyn std::error::Error>>(())
 //! ```
 #![deny(unsafe_op_in_unsafe_fn)]
@@ -48,6 +53,7 @@
 mod answer;
 #[allow(unsafe_code)]
 mod call;
+mod columns;
 mod file;
 mod network;
 #[allow(unsafe_code)]
@@ -57,10 +63,11 @@ pub mod text;
 
 pub use answer::{Pair, Played, Repair, Set};
 pub use call::{
-    distances, extended_p_space, link_entry, link_repair, load, p_space, prefix_entry,
-    prefix_repair, q_space, route, ASCENDING_RANKS, ROUTE_BYTES, UNREACHABLE, WORK_CELLS,
+    distances, drill, extended_p_space, link_entry, link_repair, load, p_space, prefix_entry,
+    prefix_repair, q_space, route, write, ASCENDING_RANKS, LEAST_DRILL_ROUTERS, MOST_DRILL_ROUTERS,
+    ROUTE_BYTES, UNREACHABLE, WORK_CELLS,
 };
-pub use file::LARGEST_FILE;
+pub use file::{DRILL_BYTES, LARGEST_FILE};
 pub use network::{
     Attachment, LimitError, Link, Network, Prefix, MAINTENANCE, MOST_ATTACHMENTS, MOST_LINKS,
     MOST_PREFIXES, MOST_ROUTERS,

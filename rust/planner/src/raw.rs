@@ -4,7 +4,7 @@
 #![allow(missing_docs)]
 
 /// `PLANNER_VERSION`: the version of the interface.
-pub const VERSION: u32 = 2;
+pub const VERSION: u32 = 3;
 
 /// The kinds of an answer.
 pub mod kind {
@@ -31,7 +31,8 @@ pub struct Answer {
     pub cost: u32,
 }
 
-/// `planner_network`: the network that a file holds, in arrays of their largest size.
+/// `planner_network`: the network that a file holds, or of which a file is to be made, in arrays of
+/// their largest size.
 #[repr(C)]
 #[derive(Clone, Debug, PartialEq, Eq)]
 pub struct Network {
@@ -48,6 +49,25 @@ pub struct Network {
     pub attached: [u8; 128],
     pub at: [u8; 1024],
     pub own: [u16; 1024],
+}
+
+impl Network {
+    /// The network with nothing in it.
+    pub const EMPTY: Network = Network {
+        kind: 0,
+        number: 0,
+        value: 0,
+        routers: 0,
+        links: 0,
+        prefixes: 0,
+        from: [0; 128],
+        to: [0; 128],
+        out: [0; 128],
+        back: [0; 128],
+        attached: [0; 128],
+        at: [0; 1024],
+        own: [0; 1024],
+    };
 }
 
 // SAFETY: each declaration is the one of `include/planner.h`: the same parameters in the same
@@ -134,6 +154,8 @@ unsafe extern "C" {
         route: *mut u8,
         route_len: usize,
     ) -> Answer;
+    pub fn planner_write(network: Network, buffer: *mut u8, buffer_len: usize) -> usize;
+    pub fn planner_drill(seed: u32, routers: usize, buffer: *mut u8, buffer_len: usize) -> usize;
 }
 
 #[cfg(test)]

@@ -2,13 +2,14 @@
 //! and `planner::raw` repeats it.
 //! It shows what the safe crate keeps to itself: the 34 bytes that an entry is
 //! copied into, the numbers of the kinds, the fields of which a kind does not
-//! speak, the cells of a network after the last entry, and null pointers for
-//! buffers of no cells.
+//! speak, the cells of a network after the last entry, networks outside the
+//! limits, and null pointers for buffers of no cells.
 
 use crate::call::{Call, ENTRY, Planner, Told};
 use crate::plan;
 use oracle::answer::Question;
-use oracle::network::{Attachment, Link, Network, Prefix};
+use oracle::columns::Columns;
+use oracle::network::Network;
 use oracle::ranks::ASCENDING;
 use oracle::space::Space;
 use planner::raw::{self, Answer};
@@ -22,7 +23,7 @@ pub struct CInterface;
 
 impl Planner for CInterface {
     fn ask(&self, call: Call) -> Told {
-        let Call { file, question, choices, ranks, work, route, entry } = call;
+        let Call { file, question, choices, ranks, work, route, entry, made } = call;
         match *question {
             Question::Load => load(file),
             Question::LinkEntry { link } => copied(raw::planner_link_entry, file, link, entry),
@@ -51,6 +52,8 @@ impl Planner for CInterface {
                 let repair = |link, end| link_repair(file, &mut own, &ASCENDING, link, end);
                 Told::Text(plan::text(&load(file), repair))
             }
+            Question::Drill { seed, routers } => drill(seed, routers, made),
+            Question::Write { ref network } => write(&by_value(network, UNSPOKEN), made),
         }
     }
 }
@@ -186,68 +189,64 @@ fn told(answer: Answer) -> Told {
     }
 }
 
+fn drill(seed: u32, routers: u64, made: &mut [u8]) -> Told {
+    // SAFETY: the pointer and the length are those of one slice.
+    let count = unsafe { raw::planner_drill(seed, place(routers), to(made), made.len()) };
+    Told::Written(count as u64)
+}
+
+/// The call that writes a network.
+pub fn write(network: &raw::Network, made: &mut [u8]) -> Told {
+    // SAFETY: the pointer and the length are those of one slice.
+    let count = unsafe { raw::planner_write(network.clone(), to(made), made.len()) };
+    Told::Written(count as u64)
+}
+
+/// Kind, number and value of a network, which the call that writes it does not
+/// look at.
+pub type Unspoken = (u32, u32, u64);
+
+/// Such as no load leaves them.
+const UNSPOKEN: Unspoken = (0xdead_beef, 77, u64::MAX);
+
+/// A network as it is handed to the call that writes it.
+pub fn by_value(columns: &Columns, (kind, number, value): Unspoken) -> raw::Network {
+    let Columns { from, to, out, back, attached, at, own, .. } = columns.clone();
+    let [routers, links, prefixes] = [columns.routers, columns.links, columns.prefixes].map(place);
+    raw::Network {
+        kind,
+        number,
+        value,
+        routers,
+        links,
+        prefixes,
+        from,
+        to,
+        out,
+        back,
+        attached,
+        at,
+        own,
+    }
+}
+
+/// The counts and columns of a network.
+fn columns(raw: &raw::Network) -> Columns {
+    let raw::Network { from, to, out, back, attached, at, own, .. } = raw.clone();
+    let [routers, links, prefixes] =
+        [raw.routers, raw.links, raw.prefixes].map(|count| count as u64);
+    Columns { routers, links, prefixes, from, to, out, back, attached, at, own }
+}
+
 /// What a loaded network tells. Every cell that no entry speaks of is 0.
 fn network(raw: &raw::Network) -> Told {
     let refusal = Told::Refused { number: u64::from(raw.number), value: raw.value };
-    let found = entries(raw);
-    let whole = found.as_ref().is_some_and(|network| cells_of(network) == cells(raw));
-    match (raw.kind, found) {
-        (0, Some(network)) if whole && network == Network::default() => refusal,
-        (1, Some(network)) if whole && (raw.number, raw.value) == (0, 0) => Told::Accepted(network),
+    let columns = columns(raw);
+    let network = columns.network();
+    let whole = Columns::of(&network) == columns;
+    match raw.kind {
+        0 if whole && network == Network::default() => refusal,
+        1 if whole && (raw.number, raw.value) == (0, 0) => Told::Accepted(network),
         _ => Told::Other(format!("a network of kind {}, {refusal:?}", raw.kind)),
     }
-}
-
-/// The entries of a network, if its counts have room in its cells.
-fn entries(raw: &raw::Network) -> Option<Network> {
-    let attached = raw.attached.get(..raw.prefixes)?;
-    if raw.links > raw.from.len() || attached.iter().any(|count| *count > 8) {
-        return None;
-    }
-    let link =
-        |k: usize| Link { a: raw.from[k], b: raw.to[k], forth: raw.out[k], back: raw.back[k] };
-    let slot = |cell: usize| Attachment { router: raw.at[cell], cost: raw.own[cell] };
-    let prefix = |p: usize| Prefix {
-        attachments: (0..usize::from(raw.attached[p])).map(|s| slot(8 * p + s)).collect(),
-    };
-    Some(Network {
-        routers: u8::try_from(raw.routers).ok()?,
-        links: (0..raw.links).map(link).collect(),
-        prefixes: (0..raw.prefixes).map(prefix).collect(),
-    })
-}
-
-/// All cells of a network's columns, one column after the other.
-fn cells(raw: &raw::Network) -> Vec<u16> {
-    let bytes = |column: &[u8]| column.iter().copied().map(u16::from).collect::<Vec<u16>>();
-    let columns = [&raw.from, &raw.to, &raw.attached].map(|column| bytes(column));
-    [columns.concat(), bytes(&raw.at), raw.out.into(), raw.back.into(), raw.own.into()].concat()
-}
-
-/// The cells that a network has to have: all are 0 where no entry stands.
-fn cells_of(network: &Network) -> Vec<u16> {
-    let links = |field: fn(&Link) -> u16| column(128, network.links.iter().map(field));
-    let slots = |field: fn(&Attachment) -> u16| {
-        let prefixes = network.prefixes.iter();
-        let slots = prefixes.map(|prefix| column(8, prefix.attachments.iter().map(field)));
-        column(1024, slots.flatten())
-    };
-    let attached = network.prefixes.iter().map(|prefix| prefix.attachments.len() as u16);
-    [
-        links(|link| u16::from(link.a)),
-        links(|link| u16::from(link.b)),
-        column(128, attached),
-        slots(|attachment| u16::from(attachment.router)),
-        links(|link| link.forth),
-        links(|link| link.back),
-        slots(|attachment| attachment.cost),
-    ]
-    .concat()
-}
-
-/// A column of this many cells: those given, then zeros.
-fn column(length: usize, cells: impl Iterator<Item = u16>) -> Vec<u16> {
-    let mut column: Vec<u16> = cells.collect();
-    column.resize(length, 0);
-    column
 }

@@ -20,6 +20,8 @@ pub struct Call<'a> {
     pub work: &'a mut [u32],
     pub route: &'a mut [u8],
     pub entry: &'a mut [u8],
+    /// The buffer that a file is written into.
+    pub made: &'a mut [u8],
 }
 
 /// Something that answers calls: the library, or a stand-in for it.
@@ -53,6 +55,8 @@ pub enum Told {
     Played(u64),
     /// The text of a plan.
     Text(String),
+    /// So many bytes of a file were written.
+    Written(u64),
     /// Something that the interface does not have, in words.
     Other(String),
 }
@@ -73,6 +77,7 @@ impl From<&Answer> for Told {
             Answer::Pair(pair) => told_pair(pair),
             Answer::Count(count) => Told::Played(*count as u64),
             Answer::Text(text) => Told::Text(text.clone()),
+            Answer::Written(count) => Told::Written(*count as u64),
         }
     }
 }

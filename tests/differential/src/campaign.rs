@@ -28,6 +28,8 @@ pub enum Breadth {
     Arrangements,
     /// Every wrong table of ranks.
     WrongRanks,
+    /// Questions that write a file; the one of the case gives their seed alone.
+    Writing,
 }
 
 /// A file and what is asked about it. Both follow from seeds.
@@ -53,6 +55,12 @@ impl Case {
         Case::of_file(NamedFile { name: named.name, bytes }, breadth)
     }
 
+    /// A case of questions that write files, from a seed.
+    pub fn of_writing(seed: u8) -> Case {
+        let file = NamedFile { name: format!("writing, seed {seed}"), bytes: vec![seed] };
+        Case::of_file(file, Breadth::Writing)
+    }
+
     /// The network, if the file is accepted.
     pub fn network(&self) -> Option<Network> {
         load(&Context::sound(), &self.file).ok()
@@ -63,6 +71,7 @@ impl Case {
         let random = &mut Random::new(self.seed);
         match (self.network(), self.breadth) {
             (_, Breadth::WrongRanks) => questions::every_wrong_table(random),
+            (_, Breadth::Writing) => questions::writing(random),
             (None, _) => questions::of_refused(random),
             (Some(network), Breadth::Whole(routes)) => questions::whole(&network, routes, random),
             (Some(network), Breadth::Reading) => questions::reading(&network, random),

@@ -4,7 +4,7 @@ use crate::call::{Call, ENTRY, Planner, Told};
 use crate::lent::{Lent, filled};
 use oracle::answer::{Answer, Buffers, Opened, Outcome, Question};
 
-/// A question and the lengths of the two buffers lent for it.
+/// A question and the lengths of the three buffers lent for it.
 #[derive(Clone, Debug, PartialEq, Eq)]
 pub struct Asked {
     pub question: Question,
@@ -12,12 +12,24 @@ pub struct Asked {
     pub cells: usize,
     /// Bytes of the route buffer.
     pub bytes: usize,
+    /// Bytes of the buffer that a file is written into.
+    pub made: usize,
 }
 
 impl Asked {
+    /// A question about a file, with a work area and a route buffer.
+    pub fn of_file(question: Question, cells: usize, bytes: usize) -> Asked {
+        Asked { question, cells, bytes, made: 0 }
+    }
+
+    /// A question that writes a file, with a buffer for it.
+    pub fn of_buffer(question: Question, made: usize) -> Asked {
+        Asked { question, cells: 0, bytes: 0, made }
+    }
+
     /// What the oracle is lent: the same pattern without guards.
     pub fn buffers(&self) -> Buffers {
-        Buffers { work: filled(self.cells), route: filled(self.bytes) }
+        Buffers { work: filled(self.cells), route: filled(self.bytes), made: filled(self.made) }
     }
 }
 
@@ -31,6 +43,7 @@ pub struct Heard {
     pub work: Lent<u32>,
     pub route: Lent<u8>,
     pub entry: Lent<u8>,
+    pub made: Lent<u8>,
 }
 
 /// Asks a planner one question. Every buffer is new, with the pattern in it.
@@ -41,6 +54,7 @@ pub fn ask(planner: &dyn Planner, file: &[u8], asked: &Asked) -> Heard {
     let mut work = Lent::of_length(asked.cells);
     let mut route = Lent::of_length(asked.bytes);
     let mut entry = Lent::of_length(ENTRY);
+    let mut made = Lent::of_length(asked.made);
     let told = planner.ask(Call {
         file: file.contents(),
         question: &asked.question,
@@ -49,8 +63,9 @@ pub fn ask(planner: &dyn Planner, file: &[u8], asked: &Asked) -> Heard {
         work: work.lend(),
         route: route.lend(),
         entry: entry.lend(),
+        made: made.lend(),
     });
-    Heard { told, file, choices, ranks, work, route, entry }
+    Heard { told, file, choices, ranks, work, route, entry, made }
 }
 
 /// The first thing in which a planner differs from what is expected.
@@ -68,6 +83,7 @@ pub fn difference(file: &[u8], asked: &Asked, expected: &Outcome, heard: &Heard)
         ("the work area", in_work),
         ("the route buffer", heard.route.difference(&expected.left.route)),
         ("the entry buffer", heard.entry.difference(&entry)),
+        ("the buffer for a file", heard.made.difference(&expected.left.made)),
         ("the file", heard.file.difference(file)),
         ("the choices", heard.choices.difference(choices_of(&asked.question))),
         ("the ranks", heard.ranks.difference(ranks_of(&asked.question))),

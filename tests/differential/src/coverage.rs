@@ -5,6 +5,7 @@ use crate::compare::Asked;
 use crate::maintenance;
 use crate::ranks;
 use crate::routes::Met;
+use crate::writing;
 use oracle::answer::{Answer, Opened, Outcome, Question, inputs};
 use oracle::network::{LinkEnd, Network};
 use oracle::repair::{deciding_key, serving};
@@ -109,6 +110,7 @@ impl Coverage {
             }
             Answer::Accepted(network) => self.network(network),
             Answer::Set(_) => self.e_to_s(opened, &asked.question),
+            Answer::Written(count) => self.written(&asked.question, *count),
             other => self.met(of_answer(&asked.question, other), 1),
         }
     }
@@ -199,6 +201,7 @@ pub fn everything() -> Vec<String> {
     things.extend(of_repairs());
     things.extend(maintenance::thing::ALL.map(str::to_string));
     things.extend(ranks::things());
+    things.extend(writing::things());
     things.extend(Cause::ALL.iter().map(|cause| of_cause(*cause)));
     things
 }

@@ -22,5 +22,6 @@ pub mod ranks;
 pub mod routes;
 pub mod stand_in;
 mod threads;
+pub mod writing;
 
 pub use threads::each;

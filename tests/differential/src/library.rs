@@ -4,16 +4,17 @@
 use crate::call::{Call, Planner, Told};
 use crate::plan;
 use oracle::answer::Question;
+use oracle::columns::Columns;
 use oracle::network as theirs;
 use oracle::space::Space;
-use planner::{Network, Pair, Played, Refusal, Repair, Set};
+use planner::{Attachment, Link, Network, Pair, Played, Refusal, Repair, Set};
 
 /// The planner's library.
 pub struct Library;
 
 impl Planner for Library {
     fn ask(&self, call: Call) -> Told {
-        let Call { file, question, choices, ranks, work, route, entry } = call;
+        let Call { file, question, choices, ranks, work, route, entry, made } = call;
         match *question {
             Question::Load => load(file),
             Question::LinkEntry { link } => copied(planner::link_entry(file, place(link)), entry),
@@ -40,6 +41,13 @@ impl Planner for Library {
                 told(planner::route(file, work, ranks, link, end, prefix, choices, route), played)
             }
             Question::Plan => planned(file),
+            Question::Drill { seed, routers } => {
+                written(planner::drill(seed, place(routers), made))
+            }
+            Question::Write { ref network } => match network_from(network) {
+                Some(network) => written(planner::write(&network, made)),
+                None => written(0),
+            },
         }
     }
 }
@@ -80,6 +88,30 @@ fn copied<const COUNT: usize>(bytes: Option<[u8; COUNT]>, entry: &mut [u8]) -> T
     };
     entry[..COUNT].copy_from_slice(&bytes);
     Told::Copied(COUNT as u64)
+}
+
+fn written(count: usize) -> Told {
+    Told::Written(count as u64)
+}
+
+/// A network as the crate has it. The crate keeps the limits of the network file:
+/// it makes no network outside them, and then there is nothing to write.
+pub fn network_from(columns: &Columns) -> Option<Network> {
+    if !columns.in_room() {
+        return None;
+    }
+    let theirs = columns.network();
+    let mut network = Network::new(theirs.routers).ok()?;
+    for theirs::Link { a, b, forth, back } in theirs.links {
+        network.add_link(Link { a, b, out: forth, back }).ok()?;
+    }
+    for prefix in theirs.prefixes {
+        let attached =
+            |found: &theirs::Attachment| Attachment { router: found.router, cost: found.cost };
+        let attachments: Vec<Attachment> = prefix.attachments.iter().map(attached).collect();
+        network.add_prefix(&attachments).ok()?;
+    }
+    Some(network)
 }
 
 fn pair(pair: Pair) -> Told {

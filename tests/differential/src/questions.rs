@@ -1,6 +1,6 @@
 //! The questions about a file: all there are, those at the limits of numbers
 //! and lengths, those with ranks of every kind, and those about a file that is
-//! refused.
+//! refused. And those that write a file.
 
 use crate::compare::Asked;
 use oracle::answer::Question;
@@ -9,6 +9,7 @@ use oracle::network::Network;
 use oracle::random::Random;
 use oracle::ranks::{ASCENDING, arrangements, wrong_tables};
 use oracle::space::Space;
+use oracle::write_questions;
 
 /// Every question with numbers in range, for each prefix question that many
 /// routes; the repairs with the ranks ascending, and then once more, with one
@@ -64,9 +65,15 @@ pub fn every_wrong_table(random: &mut Random) -> Vec<Asked> {
         let mut questions = vec![Question::link_repair(link, 0)];
         questions.extend(prefix_questions(link, 0, prefix));
         let ranked = questions.into_iter().map(|question| question.with_ranks(&ranks));
-        asked.extend(ranked.map(|question| Asked { question, cells: 4096, bytes: 128 }));
+        asked.extend(ranked.map(|question| Asked::of_file(question, 4096, 128)));
     }
     asked
+}
+
+/// Questions that write a file, drills and networks of every kind.
+pub fn writing(random: &mut Random) -> Vec<Asked> {
+    let asked = write_questions::questions(random).into_iter();
+    asked.map(|(question, length)| Asked::of_buffer(question, length)).collect()
 }
 
 /// What the file alone decides: load, distances, sizes, and every entry.
@@ -77,11 +84,8 @@ pub fn reading(network: &Network, random: &mut Random) -> Vec<Asked> {
 /// Questions with buffers that are just enough or a little longer.
 fn lent(network: &Network, questions: Vec<Question>, random: &mut Random) -> Vec<Asked> {
     let (cells, bytes) = enough(network);
-    let mut lend = |question| Asked {
-        question,
-        cells: cells + random.below(3),
-        bytes: bytes + random.below(3),
-    };
+    let mut lend =
+        |question| Asked::of_file(question, cells + random.below(3), bytes + random.below(3));
     questions.into_iter().map(&mut lend).collect()
 }
 
@@ -137,7 +141,7 @@ pub fn numbers_at_limits(network: &Network, random: &mut Random) -> Vec<Asked> {
         }
     }
     let questions = wrongly_ranked_too(questions, random).into_iter();
-    questions.map(|question| Asked { question, cells, bytes }).collect()
+    questions.map(|question| Asked::of_file(question, cells, bytes)).collect()
 }
 
 /// Every mixture of buffer lengths: none, one short, exact, and longer; with
@@ -153,7 +157,7 @@ pub fn lengths_at_limits(network: &Network, random: &mut Random) -> Vec<Asked> {
             let end = random.below(2) as u64;
             let questions = mixed(link, links as u64, end, prefix, prefixes as u64);
             for question in wrongly_ranked_too(questions, random) {
-                asked.push(Asked { question, cells, bytes });
+                asked.push(Asked::of_file(question, cells, bytes));
             }
         }
     }
@@ -187,9 +191,9 @@ pub fn of_refused(random: &mut Random) -> Vec<Asked> {
         questions.extend(link_questions(number, random.below(3) as u64));
         questions.extend(prefix_questions(number, random.below(3) as u64, number));
         let questions = wrongly_ranked_too(questions, random).into_iter();
-        asked.extend(questions.map(|question| Asked { question, cells, bytes }));
+        asked.extend(questions.map(|question| Asked::of_file(question, cells, bytes)));
     }
-    asked.push(Asked { question: Question::Plan, cells: 0, bytes: 0 });
+    asked.push(Asked::of_file(Question::Plan, 0, 0));
     asked
 }
 

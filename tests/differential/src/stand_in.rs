@@ -12,10 +12,12 @@ pub struct StandIn {
 
 impl Planner for StandIn {
     fn ask(&self, call: Call) -> Told {
-        let lent = Buffers { work: call.work.to_vec(), route: call.route.to_vec() };
+        let (work, route, made) = (call.work.to_vec(), call.route.to_vec(), call.made.to_vec());
+        let lent = Buffers { work, route, made };
         let outcome = ask(&self.ctx, call.file, call.question, &lent);
         call.work.copy_from_slice(&outcome.left.work);
         call.route.copy_from_slice(&outcome.left.route);
+        call.made.copy_from_slice(&outcome.left.made);
         if let Answer::Part { bytes, .. } = &outcome.answer {
             call.entry[..bytes.len()].copy_from_slice(bytes);
         }

@@ -18,7 +18,7 @@ use oracle::stored::cases::Cases;
 fn loaded(file: &[u8]) -> Answer {
     let sound = Context::sound();
     let opened = Opened::new(&sound, file);
-    let asked = Asked { question: Question::Load, cells: 0, bytes: 0 };
+    let asked = Asked::of_file(Question::Load, 0, 0);
     let planners: [&dyn Planner; 2] = [&Library, &CInterface];
     let [library, c_interface] = planners.map(|planner| compare(planner, &opened, file, &asked));
     assert_eq!(library.difference, None);

@@ -24,6 +24,7 @@ fn cases() -> Vec<Case> {
     cases.extend(files::repeated_bytes().into_iter().map(file));
     let edges = corpus::edges().into_iter().map(named);
     cases.extend(edges.map(|file| Case::of_file(file, Breadth::Reading)));
+    cases.push(Case::of_writing(71));
     cases
 }
 

@@ -30,6 +30,7 @@ fn cases() -> Vec<Case> {
     cases.extend(files::changed_bytes(200, 1063).into_iter().map(file));
     cases.extend(files::random_bytes(50, 1064).into_iter().map(file));
     cases.extend(files::repeated_bytes().into_iter().map(file));
+    cases.push(Case::of_writing(70));
     cases
 }
 

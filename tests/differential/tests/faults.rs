@@ -43,7 +43,7 @@ impl Recorded {
 /// Files of every kind; those that take the least time first.
 fn cases() -> Vec<Case> {
     let file = |file| Case::of_file(file, Breadth::Limits);
-    let mut cases = Vec::new();
+    let mut cases: Vec<Case> = (1..=ENOUGH as u8).map(Case::of_writing).collect();
     for breadth in [Breadth::Whole(5), Breadth::Limits, Breadth::Arrangements] {
         cases.extend(files::worked().into_iter().map(|file| Case::of_file(file, breadth)));
     }

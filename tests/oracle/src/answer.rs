@@ -1,6 +1,7 @@
 //! Every public call of the planner as a pure function: the answer, and what
 //! the call leaves in every buffer lent to it.
 
+use crate::columns::Columns;
 use crate::fault::{Context, Fault};
 use crate::file::{self, Bytes, Head};
 use crate::network::{LinkEnd, Network};
@@ -11,6 +12,7 @@ use crate::route;
 use crate::row::{self, Cause, Inputs, Refusal};
 use crate::space::{self, Space};
 use crate::workings::Workings;
+use crate::writing;
 use std::cell::OnceCell;
 
 /// A call with its inputs, but for the file and the buffers lent to be written.
@@ -52,6 +54,15 @@ pub enum Question {
     },
     /// What the program `plan` prints.
     Plan,
+    /// The drill of a seed with so many routers. It looks at no file.
+    Drill {
+        seed: u32,
+        routers: u64,
+    },
+    /// The file of a network. It looks at no file either.
+    Write {
+        network: Box<Columns>,
+    },
 }
 
 impl Question {
@@ -122,14 +133,18 @@ pub enum Answer {
     Count(usize),
     /// The text of a plan.
     Text(String),
+    /// The number of bytes written of a file.
+    Written(usize),
 }
 
-/// The buffers that a caller lends: a work area of 32-bit cells and a route
-/// buffer of bytes. A call that takes neither leaves both.
+/// The buffers that a caller lends: a work area of 32-bit cells, a route buffer
+/// of bytes, and a buffer of bytes that a file is written into. A call leaves
+/// those that it does not take.
 #[derive(Clone, Debug, Default, PartialEq, Eq)]
 pub struct Buffers {
     pub work: Vec<u32>,
     pub route: Vec<u8>,
+    pub made: Vec<u8>,
 }
 
 /// The answer of a call and the contents of the lent buffers after it.
@@ -234,8 +249,23 @@ pub fn ask(ctx: &Context, file: &[u8], question: &Question, lent: &Buffers) -> O
     Opened::new(ctx, file).ask(question, lent)
 }
 
+/// The call that writes a drill.
+pub fn drill(ctx: &Context, seed: u32, routers: u64, made: &[u8]) -> Outcome {
+    ask(ctx, &[], &Question::Drill { seed, routers }, &made_only(made))
+}
+
+/// The call that writes a network.
+pub fn write(ctx: &Context, network: &Columns, made: &[u8]) -> Outcome {
+    let network = Box::new(network.clone());
+    ask(ctx, &[], &Question::Write { network }, &made_only(made))
+}
+
 fn work_only(work: &[u32]) -> Buffers {
-    Buffers { work: work.to_vec(), route: Vec::new() }
+    Buffers { work: work.to_vec(), ..Buffers::default() }
+}
+
+fn made_only(made: &[u8]) -> Buffers {
+    Buffers { made: made.to_vec(), ..Buffers::default() }
 }
 
 /// A file that questions are asked about. What several questions need is
@@ -294,6 +324,12 @@ impl<'a> Opened<'a> {
             }
             Question::Size { set } => leave_all(Answer::Size(size(self.ctx, *set))),
             Question::Plan => leave_all(Answer::Text(plan::text(self))),
+            Question::Drill { seed, routers } => {
+                written(lent, |made| writing::drill(self.ctx, *seed, *routers, made))
+            }
+            Question::Write { network } => {
+                written(lent, |made| writing::write(self.ctx, network, made))
+            }
             Question::Distances
             | Question::Space { .. }
             | Question::LinkRepair { .. }
@@ -460,6 +496,13 @@ fn write_route(route_buffer: &mut [u8], routers: &[usize]) {
     for (byte, router) in route_buffer.iter_mut().zip(routers) {
         *byte = u8::try_from(*router).unwrap_or(u8::MAX);
     }
+}
+
+/// The outcome of a call that writes a file.
+fn written(lent: &Buffers, write: impl Fn(&mut [u8]) -> usize) -> Outcome {
+    let mut left = lent.clone();
+    let count = write(&mut left.made);
+    Outcome { answer: Answer::Written(count), left }
 }
 
 /// The answer of a refusal.

@@ -60,7 +60,8 @@ pub fn choice_strings() -> Vec<Vec<u8>> {
 /// writes: each cell is one less than unreachable, each byte is 255.
 pub fn enough() -> Buffers {
     let cells = MOST_ROUTERS * MOST_ROUTERS;
-    Buffers { work: vec![UNREACHABLE - 1; cells], route: vec![255; 2 * MOST_ROUTERS] }
+    let (work, route) = (vec![UNREACHABLE - 1; cells], vec![255; 2 * MOST_ROUTERS]);
+    Buffers { work, route, ..Buffers::default() }
 }
 
 /// The lines of some sections, with a newline after each.

@@ -1,6 +1,6 @@
 //! The command line. The program `oracle` only passes words and input on.
 
-use crate::answer::{Buffers, Question, ask, load, plan_text};
+use crate::answer::{Answer, Buffers, Outcome, Question, ask, drill, load, plan_text};
 use crate::batch::{self, Section};
 use crate::fault::{Context, Fault};
 use crate::file;
@@ -39,6 +39,7 @@ oracle [OPTION ...] COMMAND
                                    at most ROUTERS routers
   sized ROUTERS LINKS PREFIXES SEED
                                    the text of a random network of this size
+  drill SEED ROUTERS > FILE        the network file of a drill
   families                         the families of random networks
   faults                           the faults that can be turned on
 
@@ -84,6 +85,7 @@ pub fn run(arguments: &[String], input: &mut dyn Read) -> Result<Vec<u8>, String
             text_of(&generate::network(family, most, &mut random))
         }
         ("sized", [routers, links, prefixes, seed]) => sized(routers, links, prefixes, seed),
+        ("drill", [seed, routers]) => drill_file(&options.ctx, seed, routers),
         ("families", []) => {
             let lines =
                 Family::ALL.iter().map(|family| format!("{family:?}: {}\n", family.words()));
@@ -162,6 +164,15 @@ fn sized(routers: &str, links: &str, prefixes: &str, seed: &str) -> Result<Vec<u
     checked(links <= file::MOST_LINKS, "there are at most 128 links")?;
     checked(prefixes <= file::MOST_PREFIXES, "there are at most 128 prefixes")?;
     text_of(&generate::sized(routers, links, prefixes, &mut Random::new(number(seed)?)))
+}
+
+fn drill_file(ctx: &Context, seed: &str, routers: &str) -> Result<Vec<u8>, String> {
+    let seed = u32::from_str(seed).map_err(|_| format!("`{seed}` is no number of 32 bits"))?;
+    let Outcome { answer, mut left } = drill(ctx, seed, number(routers)?, &[0; file::LARGEST]);
+    let written = if let Answer::Written(count) = answer { count } else { 0 };
+    checked(written > 0, "a drill has 3 to 64 routers")?;
+    left.made.truncate(written);
+    Ok(left.made)
 }
 
 fn ask_words(options: &Options, words: &[&str], input: &mut dyn Read) -> Result<Vec<u8>, String> {

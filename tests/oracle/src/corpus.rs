@@ -12,6 +12,7 @@ use crate::ranks::{ASCENDING, Arrangement, WRONG, arrangements};
 use crate::row::Cause;
 use crate::space::Space;
 use crate::worked;
+use crate::write_questions;
 
 /// A file with the questions about it, each with the buffers lent to it.
 pub struct Case {
@@ -52,6 +53,7 @@ pub fn marked(cells: usize, bytes: usize) -> Buffers {
     Buffers {
         work: (0..cells).map(|place| 0xc0de_0000 + place as u32).collect(),
         route: (0..bytes).map(|place| 0x80 | (place % 128) as u8).collect(),
+        made: Vec::new(),
     }
 }
 
@@ -68,7 +70,19 @@ pub fn cases(seed: u64) -> Vec<Case> {
     files.extend(random_networks(random));
     files.extend(edges());
     files.push(("the largest size".into(), write(&generate::largest(random))));
-    files.into_iter().map(|(name, file)| Case::new(name, file, random)).collect()
+    let of_files = files.into_iter().map(|(name, file)| Case::new(name, file, random));
+    [written_files(seed)].into_iter().chain(of_files).collect()
+}
+
+/// The questions that look at no file, in one case.
+fn written_files(seed: u64) -> Case {
+    let lend = |(question, length): (Question, usize)| {
+        let made = (0..length).map(|place| 0x80 | (place % 128) as u8).collect();
+        (question, Buffers { made, ..Buffers::default() })
+    };
+    let questions = write_questions::questions(&mut Random::new(seed)).into_iter().map(lend);
+    let file = write(&worked::lone_router());
+    Case { name: "files that are written".into(), file, questions: questions.collect() }
 }
 
 /// Files of zeros of the lengths about row 1's limits.

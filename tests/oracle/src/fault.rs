@@ -30,6 +30,9 @@ listed! {
         LeastRanks: "there are at least four ranks",
         MostRanks: "there are at most four ranks",
         Rank: "a rank is at most 3",
+        LeastDrillRouters: "a drill has at least 3 routers",
+        MostDrillRouters: "a drill has at most 64 routers",
+        FileBuffer: "the buffer has at least the bytes of the file written into it",
     }
 }
 
@@ -56,6 +59,8 @@ macro_rules! faults {
             KeyDropped(u8),
             /// This key and the next one (1 to 4) change places.
             KeysSwapped(u8),
+            /// A network is written though this cause puts it outside the limits.
+            WrittenThough(Cause),
         }
 
         impl Fault {
@@ -197,6 +202,34 @@ faults! {
     PlanEndOneFirst: "a plan has end 1 before end 0",
     PlanHopAndEndpointSwapped: "a plan line has y before n",
     PlanLastNewlineMissing: "a plan lacks its last newline",
+
+    // Drills. How many routers they have is said by limits.
+    DrawOfLowerBits: "a draw uses the lower 16 bits",
+    DrawOfOldValue: "a draw uses the value before it is replaced",
+    DrawOf15Bits: "a draw uses the upper 16 bits but for the highest, as `rand` of C does",
+    DrawNotReduced: "a value is not taken modulo 4,294,967,296",
+    DrawWithoutSum: "a draw does not add 1,013,904,223",
+    DrillModulo99: "a cost of a drill is 1 plus a draw modulo 99",
+    DrillCostFromZero: "a cost of a drill is a draw modulo 100, without the 1",
+    DrillBackFirst: "the cost b to a of a link is drawn before the cost a to b",
+    DrillAllForthFirst: "the costs a to b of all links are drawn before the costs b to a",
+    DrillLastLinkFirst: "costs are drawn from the last link to the first",
+    DrillOneDrawForLink: "both costs of a link are one draw",
+    DrillLastLinkForgotten: "no link of a drill joins N - 1 and 0",
+    DrillLastLinkTurned: "the last link of a drill has 0 as router a and N - 1 as router b",
+    DrillWithPrefix: "a drill has a prefix at router 0",
+
+    // Files that are written, drills too. A buffer one byte short is said by a limit.
+    FilePartWritten: "a buffer that is too short gets the part of the file that fits",
+    FileByteBeyond: "the byte after a written file is cleared",
+    FileNotWrittenClears: "where nothing is written the first byte is cleared",
+    FileCountOfBlocks: "the blocks of a written file are returned, not its bytes",
+    FileCheckForgotten: "the checks of a written file are zero",
+
+    // Networks that are written.
+    WriteCostsTurned: "a link is written with its two costs in the other order",
+    WriteUnusedSlots: "the slots after the attachments of a prefix are written as they stand",
+    WriteUnusedJudged: "a network is not written where a cell that no entry speaks of is not zero",
 }
 
 impl Fault {
@@ -260,6 +293,46 @@ impl Fault {
         Fault::LimitTight(Limit::Rank),
     ];
 
+    /// The ways to make a drill wrongly.
+    pub const OF_DRILLS: [Fault; 18] = [
+        Fault::DrawOfLowerBits,
+        Fault::DrawOfOldValue,
+        Fault::DrawOf15Bits,
+        Fault::DrawNotReduced,
+        Fault::DrawWithoutSum,
+        Fault::DrillModulo99,
+        Fault::DrillCostFromZero,
+        Fault::DrillBackFirst,
+        Fault::DrillAllForthFirst,
+        Fault::DrillLastLinkFirst,
+        Fault::DrillOneDrawForLink,
+        Fault::DrillLastLinkForgotten,
+        Fault::DrillLastLinkTurned,
+        Fault::DrillWithPrefix,
+        Fault::LimitLoose(Limit::LeastDrillRouters),
+        Fault::LimitLoose(Limit::MostDrillRouters),
+        Fault::LimitTight(Limit::LeastDrillRouters),
+        Fault::LimitTight(Limit::MostDrillRouters),
+    ];
+
+    /// The ways to write a file wrongly, a drill or a network.
+    pub const OF_FILES: [Fault; 7] = [
+        Fault::FilePartWritten,
+        Fault::FileByteBeyond,
+        Fault::FileNotWrittenClears,
+        Fault::FileCountOfBlocks,
+        Fault::FileCheckForgotten,
+        Fault::LimitLoose(Limit::FileBuffer),
+        Fault::LimitTight(Limit::FileBuffer),
+    ];
+
+    /// The ways to take a network wrongly that is to be written.
+    pub fn of_writing() -> Vec<Fault> {
+        let mut faults = Cause::OF_NETWORKS.map(Fault::WrittenThough).to_vec();
+        faults.extend([Fault::WriteCostsTurned, Fault::WriteUnusedSlots, Fault::WriteUnusedJudged]);
+        faults
+    }
+
     /// The faults that no link repair, prefix repair or route shows while the
     /// ranks ascend: a pair whose endpoint is S or E, or whose tunnel crosses the
     /// link from E to S, then stands behind a serving pair of a lower class.
@@ -278,6 +351,7 @@ impl Fault {
         all.extend(Limit::ALL.iter().map(|limit| Fault::LimitTight(*limit)));
         all.extend((1..=5).map(Fault::KeyDropped));
         all.extend((1..=4).map(Fault::KeysSwapped));
+        all.extend(Cause::OF_NETWORKS.map(Fault::WrittenThough));
         all
     }
 
@@ -306,6 +380,7 @@ impl Fault {
             Fault::LimitTight(limit) => format!("one too strict: {}", limit.words()),
             Fault::KeyDropped(key) => format!("key {key} of the order of pairs is left out"),
             Fault::KeysSwapped(key) => format!("keys {key} and {} change places", key + 1),
+            Fault::WrittenThough(cause) => format!("a network is written though {}", cause.words()),
             plain => plain.plain_words().unwrap_or_default().to_string(),
         }
     }

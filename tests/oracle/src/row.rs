@@ -57,6 +57,26 @@ listed! {
 }
 
 impl Cause {
+    /// The causes that a network itself can have, not its file alone: they put it
+    /// outside the limits of the network file.
+    pub const OF_NETWORKS: [Cause; 15] = [
+        Cause::RoutersZero,
+        Cause::RoutersOver,
+        Cause::LinksOver,
+        Cause::PrefixesOver,
+        Cause::LinkRouterA,
+        Cause::LinkRouterB,
+        Cause::LinkLoop,
+        Cause::LinkCostForth,
+        Cause::LinkCostBack,
+        Cause::LinkRepeated,
+        Cause::LinkRepeatedReversed,
+        Cause::AttachmentsZero,
+        Cause::AttachmentsOver,
+        Cause::AttachedRouter,
+        Cause::RouterTwice,
+    ];
+
     /// The number of the row that the cause belongs to.
     pub fn row(self) -> u8 {
         match self {

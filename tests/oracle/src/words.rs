@@ -35,6 +35,7 @@ pub fn short(outcome: &Outcome) -> String {
             format!("count {count} route {}", spaced(route))
         }
         Answer::Text(text) => text.trim_end().to_string(),
+        Answer::Written(count) => format!("written {count}"),
     }
 }
 

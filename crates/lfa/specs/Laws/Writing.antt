@@ -1,8 +1,8 @@
--- What is written of a network: the test of the limits is the limits, both ways; within them, and where the buffer is long enough, the
--- file is written, and else nothing; and what was written reads back as the network.
+-- What is written: a call that writes a file leaves the file, and after it what was there before, or nothing; and the test of the limits is
+-- the limits, both ways.
 -- Assumes nothing.
-use Prim.Native.Nat.{ℕ, _≤_, _<_}
-use mathlib.Core.Path.{_≡_, refl, subst, _∙_}
+use Prim.Native.Nat.{ℕ, _<_}
+use mathlib.Core.Path.{_≡_, refl, sym, subst, _∙_}
 use mathlib.Core.Logic.{_⊎_, inl, inr}
 use mathlib.Core.Bool.{Bool, true, false, _&&_, false≢true}
 use mathlib.Core.Option.{Option, none, some}
@@ -10,20 +10,19 @@ use mathlib.Core.List.{_++_}
 use native.Mathlib.Omega.{arith}
 use lib.Dec.{ltb}
 use lib.ListN.{getD, length, take, drop, List·getD-eq-default}
-use lib.Seq.{take-at}
+use lib.Seq.{take-at, drop-at}
 use borrow.Author.Tests.{ltb-true, ltb-false, lt-ltb, leb-true, le-leb}
 use Rattle.lfa.specs.Network.{Network}
 use Rattle.lfa.specs.File.{Bytes, byteAt}
 use Rattle.lfa.specs.FileOf.{fileOf, WithinLimits}
-use Rattle.lfa.specs.Refusal.{FileRow, Decided, fileRefusal, Accepted}
-use Rattle.lfa.specs.Answer.{networkLoaded}
-use Rattle.lfa.specs.Writing.{entryFits, headFits, countsFit, areBytes, passesRows, hasFile, fileFits, bytesWritten, bufferWritten, Wrote}
-use Rattle.lfa.specs.Laws.Test.{and-left, and-right, and-make, fails-make, decide}
+use Rattle.lfa.specs.Refusal.{FileRow, Decided, fileRefusal}
+use Rattle.lfa.specs.Writing.{entryFits, headFits, countsFit, areBytes, passesRows, hasFile, countWritten, bufferWritten, Written}
+use Rattle.lfa.specs.Laws.Test.{and-left, and-right, and-make, decide}
 use Rattle.lfa.specs.Laws.List.{every-gives, every-make}
 use Rattle.lfa.specs.Laws.FileRows.{accepted-passes-rows, load-accepted}
 use Rattle.lfa.specs.Laws.File.WrittenFile.{FewAttached, limits-few}
 use Rattle.lfa.specs.Laws.File.Written.{written-network}
-use Rattle.lfa.specs.Laws.Accepted.{written-accepted, written-loaded, accepted-limits}
+use Rattle.lfa.specs.Laws.Accepted.{written-accepted, accepted-limits}
 
 -- ---- each part of the test
 
@@ -51,6 +50,51 @@ rows-give b e = go (fileRefusal b) refl e
 pub rows-make : (b : Bytes) → fileRefusal b ≡ none → passesRows b ≡ true
 unfolding passesRows
 rows-make b e = rw (passesRows, e)
+
+-- ---- what a call that writes a file leaves
+
+-- nothing is owed where the file may not be written ..
+pub owes-nothing : {fits : Bool} {file : Bytes} (before : Bytes) → fits ≡ false → Written fits file 0 before before
+unfolding countWritten bufferWritten
+owes-nothing before e = record { count-right = sym (rw (countWritten, e)); buffer-right = sym (rw (bufferWritten, e)) }
+
+-- .. and else the file
+pub owes-file : {fits : Bool} (file before : Bytes) → fits ≡ true → Written fits file (length file) before (file ++ drop (length file) before)
+unfolding countWritten bufferWritten
+owes-file file before e = record { count-right = sym (rw (countWritten, e)); buffer-right = sym (rw (bufferWritten, e)) }
+
+module _ {fits : Bool} {file : Bytes} {count : ℕ} {before after : Bytes} (w : Written fits file count before after) where
+  -- where it may be written: the file, and after it what was there before ..
+  pub written-whole : fits ≡ true → (count ≡ length file) × (after ≡ file ++ drop (length file) before)
+  unfolding countWritten bufferWritten
+  written-whole e = (w .count-right ∙ rw (countWritten, e), w .buffer-right ∙ rw (bufferWritten, e))
+
+  -- .. and else nothing
+  pub written-nothing : fits ≡ false → (count ≡ 0) × (after ≡ before)
+  unfolding countWritten bufferWritten
+  written-nothing e = (w .count-right ∙ rw (countWritten, e), w .buffer-right ∙ rw (bufferWritten, e))
+
+  -- where a byte was written, the file was
+  pub written-fits : 0 < count → fits ≡ true
+  written-fits h = go (decide fits)
+    where
+      go : (fits ≡ true) ⊎ (fits ≡ false) → fits ≡ true
+      go (inl t) = t
+      go (inr t) = absurd (omega (arith, h, written-nothing t .0))
+
+  -- the bytes that were written are the file
+  pub written-file : 0 < count → take count after ≡ file
+  written-file h =
+      let e = written-whole (written-fits h) in
+      rw (e .0, e .1) (take-at file (drop (length file) before) (length file) refl)
+
+  -- and those after them are as before
+  pub written-rest : drop count after ≡ drop count before
+  written-rest = go (decide fits)
+    where
+      go : (fits ≡ true) ⊎ (fits ≡ false) → drop count after ≡ drop count before
+      go (inl t) = let e = written-whole t in rw (e .0, e .1) (drop-at file (drop (length file) before) (length file) refl)
+      go (inr t) = let e = written-nothing t in rw (e .1) refl
 
 module _ (net : Network) where
   counts-few : countsFit net ≡ true → FewAttached net
@@ -86,50 +130,3 @@ module _ (net : Network) where
       let a = written-accepted net w in
       and-make _ _ (and-make _ _ (limits-counts w) (bytes-make (fileOf net) (a .bytes)))
       (rows-make (fileOf net) (accepted-passes-rows (fileOf net) a))
-
-  -- ---- what is written
-
-  -- within the limits, and not longer than the buffer
-  abbrev pub Fits : ℕ → Type 0
-  Fits size = WithinLimits net × (length (fileOf net) ≤ size)
-
-  pub fits-give : (size : ℕ) → fileFits net size ≡ true → Fits size
-  unfolding fileFits
-  fits-give size e = (has-limits (and-left (hasFile net) _ e), leb-true _ size (and-right (hasFile net) _ e))
-
-  pub fits-make : (size : ℕ) → Fits size → fileFits net size ≡ true
-  unfolding fileFits
-  fits-make size f = and-make _ _ (limits-have (f .0)) (le-leb _ size (f .1))
-
-  -- ---- what a call that writes a network leaves
-
-  module _ {count : ℕ} {before after : Bytes} (w : Wrote net count before after) where
-    -- A network within the limits whose file is not longer than the buffer is written: the file, and after it what was there before ..
-    pub wrote-file : Fits (length before) → (count ≡ length (fileOf net)) × (after ≡ fileOf net ++ drop (length (fileOf net)) before)
-    unfolding bytesWritten bufferWritten
-    wrote-file f = let e = fits-make (length before) f in (w .count-right ∙ rw (bytesWritten, e), w .buffer-right ∙ rw (bufferWritten, e))
-
-    -- .. and of any other network, or in a shorter buffer, nothing.
-    pub wrote-nothing : (Fits (length before) → ⊥) → (count ≡ 0) × (after ≡ before)
-    unfolding bytesWritten bufferWritten
-    wrote-nothing f =
-        let e : fileFits net (length before) ≡ false = fails-make _ (λ t. f (fits-give (length before) t)) in
-        (w .count-right ∙ rw (bytesWritten, e), w .buffer-right ∙ rw (bufferWritten, e))
-
-    -- where a byte was written, the file was
-    pub wrote-fits : 0 < count → Fits (length before)
-    unfolding bytesWritten
-    wrote-fits h = go (decide (fileFits net (length before)))
-      where
-        go : (fileFits net (length before) ≡ true) ⊎ (fileFits net (length before) ≡ false) → Fits (length before)
-        go (inl t) = fits-give (length before) t
-        go (inr t) = let z : bytesWritten net (length before) ≡ 0 = rw (bytesWritten, t) in absurd (omega (arith, h, w .count-right))
-
-    -- The round trip: the reader accepts the bytes that were written, and gives the network.
-    pub wrote-reads : 0 < count → Accepted (take count after) × (networkLoaded (take count after) ≡ net)
-    wrote-reads h =
-        let f = wrote-fits h in
-        let e = wrote-file f in
-        let same : take count after ≡ fileOf net =
-        rw (e .0, e .1) (take-at (fileOf net) (drop (length (fileOf net)) before) (length (fileOf net)) refl) in
-        rw same (written-accepted net (f .0), written-loaded net (f .0))

@@ -15,7 +15,7 @@ returns : tie.Need-returns
 returns c = λ net counts is. refused _ _ net is (sym (not-true _ (c .if1 .taken)) ∙ c .before .is-accepted .ensures)
 
 returns-2 : tie.Need-returns-2
-returns-2 c = λ net counts is. shorter _ _ net is (c .if2 .taken)
+returns-2 c = λ net counts is. shorter _ _ net is (omega (arith, c .if2 .taken))
 
 put-bytes-requires : tie.Need-put-bytes-requires
 put-bytes-requires c κs = search needs

@@ -5,8 +5,11 @@ mod output;
 mod words;
 
 use input::Input;
-use output::same_file;
-use planner::{Pair, Played, Refusal, Repair, Set, LARGEST_FILE, ROUTE_BYTES, WORK_CELLS};
+use output::{same_file, Replaces};
+use planner::{
+    Pair, Played, Refusal, Repair, Set, DRILL_BYTES, LARGEST_FILE, LEAST_DRILL_ROUTERS,
+    MOST_DRILL_ROUTERS, ROUTE_BYTES, WORK_CELLS,
+};
 use std::ffi::{OsStr, OsString};
 use std::fmt::Display;
 use std::io::{self, Write};
@@ -26,7 +29,7 @@ const UNTOUCHED: &str = "untouched: no packet from S to the prefix crosses the l
 
 /// Runs the command that the words name and prints its answer, or what is wrong.
 pub fn run(words: &[OsString]) -> ExitCode {
-    let (message, status) = match answer(words).and_then(|answer| write("-".as_ref(), &answer)) {
+    let (message, status) = match answer(words).and_then(|answer| print(&answer)) {
         Ok(()) => return ExitCode::SUCCESS,
         Err(Failure::Refused(message)) => (message, 1),
         Err(Failure::Usage(message)) => (message, 2),
@@ -48,7 +51,8 @@ fn answer(words: &[OsString]) -> Result<Vec<u8>, Failure> {
         "route" => route(&asked)?,
         "spaces" => spaces(&asked)?,
         "text" => text(&asked)?,
-        _ => make(&asked)?,
+        "make" => make(&asked)?,
+        _ => drill(&asked)?,
     };
     Ok(answer.into_bytes())
 }
@@ -115,7 +119,18 @@ fn make(asked: &Asked) -> Result<String, Failure> {
     let (from, to) = (asked.word(0), asked.word(1));
     let text = Input::read_text(from, to)?;
     let network = planner::text::parse(text.text()?).map_err(|wrong| text.refused(wrong))?;
-    write(to, &network.to_bytes())?;
+    write(to, &network.to_bytes(), Replaces::NetworkFile)?;
+    Ok(String::new())
+}
+
+/// Makes the network file of a drill, and prints as [`make`] does.
+fn drill(asked: &Asked) -> Result<String, Failure> {
+    let seed = asked.number_in(0, 0..=u32::MAX)?;
+    let routers = asked.number_in(1, LEAST_DRILL_ROUTERS..=MOST_DRILL_ROUTERS)?;
+    let mut file = [0; DRILL_BYTES];
+    let written = planner::drill(seed, routers, &mut file);
+    assert_eq!(written, DRILL_BYTES, "a drill of {routers} routers is written");
+    write(asked.word(2), &file, Replaces::Same)?;
     Ok(String::new())
 }
 
@@ -127,16 +142,22 @@ fn file(asked: &Asked) -> Result<Input, Failure> {
 
 /// Writes bytes to standard output, also where a name such as `/dev/stdout` leads to it, or to a
 /// file.
-fn write(word: &OsStr, bytes: &[u8]) -> Result<(), Failure> {
-    let standard = OsStr::new("-");
-    let to_standard = word == standard || same_file(STDOUT.path(word), STDOUT.path(standard));
-    let (name, written) = if to_standard {
-        let written = io::stdout().write_all(bytes).and_then(|()| io::stdout().flush());
-        (STDOUT.name(standard), written.map_err(|wrong| wrong.to_string()))
-    } else {
-        (STDOUT.name(word), output::save(word.as_ref(), bytes))
-    };
-    written.map_err(|wrong| Failure::Usage(format!("{name} cannot be written: {wrong}")))
+fn write(word: &OsStr, bytes: &[u8], replaces: Replaces) -> Result<(), Failure> {
+    if word == "-" || same_file(STDOUT.path(word), STDOUT.path("-".as_ref())) {
+        return print(bytes);
+    }
+    let written = output::save(word.as_ref(), bytes, replaces);
+    written.map_err(|wrong| not_written(word, &wrong))
+}
+
+/// Writes bytes to standard output.
+fn print(bytes: &[u8]) -> Result<(), Failure> {
+    let written = io::stdout().write_all(bytes).and_then(|()| io::stdout().flush());
+    written.map_err(|wrong| not_written("-".as_ref(), &wrong.to_string()))
+}
+
+fn not_written(word: &OsStr, wrong: &str) -> Failure {
+    Failure::Usage(format!("{} cannot be written: {wrong}", STDOUT.name(word)))
 }
 
 /// That no pair serves is an answer too; any other refusal is none.

@@ -4,9 +4,9 @@
 //!
 //! What the name of the target leads to decides:
 //! - nothing: a new file is made, where its directory is there;
-//! - a file: it is replaced, where it may be written and is empty or a network file. The owner and
-//!   the permissions stay where the system allows it. Other names of the file, hard links, keep the
-//!   old one;
+//! - a file: it is replaced, where it may be written and is empty or what the command may replace
+//!   ([`Replaces`]). The owner and the permissions stay where the system allows it. Other names of
+//!   the file, hard links, keep the old one;
 //! - a symbolic link: it stays, and what it leads to is the target; a link to nothing is refused;
 //! - a pipe or a character device, as `/dev/null`: it takes the bytes as they come;
 //! - a directory, a block device or a socket: it is refused.
@@ -18,8 +18,17 @@ use std::os::unix::fs::{fchown, FileTypeExt, MetadataExt};
 use std::path::{Path, PathBuf};
 use std::process;
 
+/// Which file a command may replace, beside an empty one.
+#[derive(Clone, Copy)]
+pub enum Replaces {
+    /// Any network file: it is made anew from its text.
+    NetworkFile,
+    /// Only one with the same bytes: what is there may be a network that no text has.
+    Same,
+}
+
 /// Writes a network file, or says what is wrong and what to do.
-pub fn save(target: &Path, bytes: &[u8]) -> Result<(), String> {
+pub fn save(target: &Path, bytes: &[u8], replaces: Replaces) -> Result<(), String> {
     let found = match fs::metadata(target) {
         Err(wrong) if is_absent(&wrong) => return make(target, bytes),
         found => found.map_err(|wrong| format!("{wrong}; give another name"))?,
@@ -27,11 +36,12 @@ pub fn save(target: &Path, bytes: &[u8]) -> Result<(), String> {
     let kind = found.file_type();
     if kind.is_file() {
         let path = fs::canonicalize(target).map_err(|wrong| wrong.to_string())?;
-        may_replace(&path)?;
+        may_replace(&path, bytes, replaces)?;
         put(&path, Some(&found), bytes)
     } else if kind.is_fifo() || kind.is_char_device() {
         let opened = OpenOptions::new().write(true).open(target);
-        opened.and_then(|mut stream| stream.write_all(bytes)).map_err(|wrong| wrong.to_string())
+        let written = opened.and_then(|mut stream| stream.write_all(bytes));
+        written.map_err(|wrong| format!("{wrong}; give another name"))
     } else if kind.is_dir() {
         Err("it is a directory; give the name of a file in it".to_string())
     } else {
@@ -60,18 +70,22 @@ fn make(target: &Path, bytes: &[u8]) -> Result<(), String> {
     put(target, None, bytes)
 }
 
-/// A file that is there is replaced only where it may be written and where what it holds is the
-/// network file of another text, or nothing.
-fn may_replace(path: &Path) -> Result<(), String> {
+/// A file that is there is replaced only where it may be written, and where it is empty or what the
+/// command may replace.
+fn may_replace(path: &Path, bytes: &[u8], replaces: Replaces) -> Result<(), String> {
     let mut there = Vec::new();
     let opened = OpenOptions::new().read(true).write(true).open(path);
     opened
         .and_then(|file| file.take(LARGEST_FILE as u64 + 1).read_to_end(&mut there))
         .map_err(|wrong| format!("{wrong}; change its permissions, or give another name"))?;
-    if there.is_empty() || planner::load(&there).is_ok() {
+    let (allowed, wrong) = match replaces {
+        Replaces::NetworkFile => (planner::load(&there).is_ok(), "is no network file"),
+        Replaces::Same => (there == bytes, "is another file than this drill"),
+    };
+    if there.is_empty() || allowed {
         return Ok(());
     }
-    Err("it is there and is no network file; remove it first, or give another name".to_string())
+    Err(format!("it is there and {wrong}; remove it first, or give another name"))
 }
 
 /// Puts a new file with these bytes at the path, in place of the old one where there is one.
@@ -169,7 +183,7 @@ fn is_absent(wrong: &io::Error) -> bool {
 
 #[cfg(test)]
 mod tests {
-    use super::save;
+    use super::{save, Replaces};
     use std::fs;
     use std::path::PathBuf;
 
@@ -185,7 +199,7 @@ mod tests {
     fn bytes_that_are_no_network_file_are_not_put_in_place() {
         let folder = folder("bytes");
         let target = folder.join("a.net");
-        let wrong = save(&target, b"rubbish").unwrap_err();
+        let wrong = save(&target, b"rubbish", Replaces::NetworkFile).unwrap_err();
         assert!(wrong.starts_with("it does not read back as the network file"), "{wrong}");
         assert_eq!(fs::read_dir(&folder).unwrap().count(), 0);
         fs::remove_dir(folder).unwrap();
@@ -198,7 +212,7 @@ mod tests {
         fs::write(&left, "left").unwrap();
         let target = folder.join("a.net");
         let bytes = planner::text::parse("routers 1").unwrap().to_bytes();
-        save(&target, &bytes).unwrap();
+        save(&target, &bytes, Replaces::NetworkFile).unwrap();
         assert_eq!(fs::read(&target).unwrap(), bytes);
         assert_eq!(fs::read(&left).unwrap(), b"left");
         assert_eq!(fs::read_dir(&folder).unwrap().count(), 2);

@@ -3,7 +3,10 @@
 use super::Failure;
 use planner::ASCENDING_RANKS;
 use std::ffi::{OsStr, OsString};
+use std::fmt::Display;
+use std::ops::RangeInclusive;
 use std::path::Path;
+use std::str::FromStr;
 
 /// What `planner --help` prints.
 pub const HELP: &str = "\
@@ -16,16 +19,17 @@ planner tells where packets go in the moment after a link drops.
   planner spaces FILE LINK END          P-space, extended P-space and Q-space
   planner text FILE                     the text of a network file
   planner make TEXT FILE                makes the network file of a text
+  planner drill SEED N FILE             makes the network file of a drill
   planner --help                        this text
 
   --ranks RANKS                         after link, prefix or route: which class
                                         of pairs comes first
 
 FILE is a network file and TEXT the readable text of one. The word - stands for
-standard input, and for standard output as the FILE of make.
+standard input, and for standard output as the FILE of make and drill.
 
-make replaces a network file that is there, once the new one is written whole.
-It replaces no other file: remove that first.
+make replaces a network file that is there, once the new one is written whole,
+and drill only the same drill. They replace no other file: remove that first.
 
 LINK and PREFIX count from 0 in the order of the file. END 0 asks for the link's
 first router, END 1 for its second: that router is S, which has to send packets
@@ -39,6 +43,10 @@ first. A pair of class 0 or 1 needs no tunnel, one of class 2 or 3 does; with 0
 and 2 its endpoint is closer to the target than S. Without --ranks they are
 0,1,2,3; with 2,3,0,1 tunnels come first. They never change whether there is a
 repair.
+
+A drill is a network for training, the same for all who give its SEED and N: a
+ring of N routers, 3 to 64, without prefixes, whose costs, 1 to 100, are drawn
+from SEED, a number from 0 to 4294967295.
 
 A text has one thing in a line, and # starts a comment:
 
@@ -92,13 +100,14 @@ struct Form {
 /// The option that gives ranks, and what follows it.
 const RANKS: &str = "--ranks";
 
-const FORMS: [Form; 6] = [
+const FORMS: [Form; 7] = [
     form("link", &["FILE", "LINK", "END"]).with_ranks(),
     form("prefix", &["FILE", "LINK", "END", "PREFIX"]).with_ranks(),
     form("route", &["FILE", "LINK", "END", "PREFIX"]).with_choices().with_ranks(),
     form("spaces", &["FILE", "LINK", "END"]),
     form("text", &["FILE"]),
     form("make", &["TEXT", "FILE"]),
+    form("drill", &["SEED", "N", "FILE"]),
 ];
 
 const fn form(name: &'static str, words: &'static [&'static str]) -> Form {
@@ -197,16 +206,21 @@ impl<'a> Asked<'a> {
 
     /// The word at a place of the form, as a number.
     pub fn number(&self, place: usize) -> Result<usize, Failure> {
-        let most = usize::MAX as u64;
-        let number = number(self.word(place), most).and_then(|number| number.try_into().ok());
-        number.ok_or_else(|| self.no_number(self.form.words[place], self.word(place), most))
+        self.number_in(place, 0..=usize::MAX)
+    }
+
+    /// The word at a place of the form, as a number of the range.
+    pub fn number_in<Number: FromStr + PartialOrd + Display>(
+        &self,
+        place: usize,
+        range: RangeInclusive<Number>,
+    ) -> Result<Number, Failure> {
+        self.number_of(self.form.words[place], self.word(place), range)
     }
 
     /// The words after those of the form, as choice bytes.
     pub fn choices(&self) -> Result<Vec<u8>, Failure> {
-        let choice = |word: &&OsStr| {
-            byte(word).ok_or_else(|| self.no_number("CHOICE", word, u8::MAX.into()))
-        };
+        let choice = |word: &&OsStr| self.number_of("CHOICE", word, BYTES);
         self.words[self.form.words.len()..].iter().map(choice).collect()
     }
 
@@ -217,7 +231,8 @@ impl<'a> Asked<'a> {
             return Ok(ASCENDING_RANKS.to_vec());
         };
         let given = given.to_string_lossy();
-        let ranks = given.split(',').map(|rank| byte(rank.as_ref())).collect::<Option<Vec<u8>>>();
+        let ranks =
+            given.split(',').map(|rank| number(rank.as_ref(), &BYTES)).collect::<Option<Vec<u8>>>();
         ranks.ok_or_else(|| {
             self.form.failure(&format!(
                 "RANKS is `{given}`, expected numbers from 0 to 255 with commas and no spaces \
@@ -226,21 +241,31 @@ impl<'a> Asked<'a> {
         })
     }
 
-    fn no_number(&self, what: &str, word: &OsStr, most: u64) -> Failure {
-        let word = word.to_string_lossy();
-        self.form.failure(&format!("{what} is `{word}`, expected a number from 0 to {most}"))
+    /// A word as a number of the range; `what` names it.
+    fn number_of<Number: FromStr + PartialOrd + Display>(
+        &self,
+        what: &str,
+        word: &OsStr,
+        range: RangeInclusive<Number>,
+    ) -> Result<Number, Failure> {
+        number(word, &range).ok_or_else(|| {
+            let (word, least, most) = (word.to_string_lossy(), range.start(), range.end());
+            let wrong = format!("{what} is `{word}`, expected a number from {least} to {most}");
+            self.form.failure(&wrong)
+        })
     }
 }
 
-/// A word as a number from 0 to 255.
-fn byte(word: &OsStr) -> Option<u8> {
-    number(word, u8::MAX.into()).and_then(|number| number.try_into().ok())
-}
+/// The numbers of a byte.
+const BYTES: RangeInclusive<u8> = 0..=u8::MAX;
 
-/// A word as a number from 0 to `most`.
-fn number(word: &OsStr, most: u64) -> Option<u64> {
+/// A word as a number of the range.
+fn number<Number: FromStr + PartialOrd>(
+    word: &OsStr,
+    range: &RangeInclusive<Number>,
+) -> Option<Number> {
     let word = word.to_str()?;
     // Digits only: a sign is accepted by the standard library as well.
     let digits = word.bytes().all(|byte| byte.is_ascii_digit());
-    word.parse().ok().filter(|number| digits && *number <= most)
+    word.parse().ok().filter(|number| digits && range.contains(number))
 }

@@ -2,6 +2,7 @@
 //! the hand-worked networks, the edges of the limits, random networks and damaged files.
 
 use oracle::answer::{Answer, Buffers, Question};
+use oracle::columns::Columns;
 use oracle::corpus::{self, Case};
 use oracle::fault::Context;
 use oracle::network as theirs;
@@ -60,6 +61,13 @@ fn part<const BYTES: usize>(entry: Option<[u8; BYTES]>) -> Answer {
     Answer::Part { offset: 0, bytes: entry.map_or(Vec::new(), |bytes| bytes.to_vec()) }
 }
 
+/// A network by value as the crate has it, or none where it is outside the limits: the crate makes
+/// no such network.
+fn ours(columns: &Columns) -> Option<Network> {
+    let text = oracle::text::of_network(&columns.network());
+    planner::text::parse(&text).ok().filter(|_| columns.in_room())
+}
+
 fn number(number: u64) -> usize {
     number.try_into().unwrap()
 }
@@ -92,6 +100,13 @@ fn asked(file: &[u8], question: &Question, lent: &mut Buffers) -> Option<Answer>
             let (link, end, prefix) = (number(link), number(end), number(prefix));
             let route = &mut lent.route;
             planner::route(file, work, ranks, link, end, prefix, choices, route).map(played)
+        }
+        Question::Drill { seed, routers } => {
+            Ok(Answer::Written(planner::drill(seed, number(routers), &mut lent.made)))
+        }
+        Question::Write { ref network } => {
+            let count = planner::write(&ours(network)?, &mut lent.made);
+            Ok(Answer::Written(count))
         }
         Question::Plan => return None,
     };

@@ -236,7 +236,7 @@ fn refused_texts() {
 #[test]
 fn help() {
     let help = answers(&["--help"], &[]);
-    for name in ["link", "prefix", "route", "spaces", "text", "make"] {
+    for name in ["link", "prefix", "route", "spaces", "text", "make", "drill"] {
         assert!(help.contains(&format!("planner {name} ")), "{name}");
     }
     assert!(help.contains("--ranks RANKS "));
@@ -248,10 +248,11 @@ fn help() {
 #[test]
 fn wrong_words() {
     let no_command = "planner: `lnk` is no command; the commands are link, prefix, route, spaces, \
-                      text, make, and --help says more\n";
+                      text, make, drill, and --help says more\n";
     assert_eq!(fails(&["lnk", "-", "0", "0"], &[], 2), no_command);
     let link = "usage: planner link FILE LINK END [--ranks RANKS]\n";
     let route = "usage: planner route FILE LINK END PREFIX [CHOICE ...] [--ranks RANKS]\n";
+    let drill = "usage: planner drill SEED N FILE\n";
     for (words, wrong, usage) in [
         (&["link"][..], "FILE is missing", link),
         (&["link", "-"], "LINK is missing", link),
@@ -269,6 +270,17 @@ fn wrong_words() {
         (&["make"], "TEXT is missing", "usage: planner make TEXT FILE\n"),
         (&["make", "-"], "FILE is missing", "usage: planner make TEXT FILE\n"),
         (&["make", "-", ""], "FILE is empty", "usage: planner make TEXT FILE\n"),
+        (&["drill"], "SEED is missing", drill),
+        (&["drill", "8"], "N is missing", drill),
+        (&["drill", "8", "5"], "FILE is missing", drill),
+        (&["drill", "", "5", "-"], "SEED is empty", drill),
+        (&["drill", "8", "5", ""], "FILE is empty", drill),
+        (&["drill", "8", "5", "-", "-"], "`-` is one word too many", drill),
+        (
+            &["drill", "8", "5", "-", "--ranks", "0,1,2,3"],
+            "--ranks is for link, prefix and route; leave it out",
+            drill,
+        ),
         (&["link", "", "0", "0"], "FILE is empty", link),
         (&["link", "-", "", "0"], "LINK is empty", link),
     ] {

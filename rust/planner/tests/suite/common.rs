@@ -1,6 +1,6 @@
 //! What several modules of the suite share.
 
-use planner::{Attachment, Link, Network};
+use planner::{Attachment, Link, Network, DRILL_BYTES};
 use std::fs;
 use std::io::Write;
 use std::path::{Path, PathBuf};
@@ -31,6 +31,18 @@ pub fn with_prefix_at(mut network: Network, routers: &[u8]) -> Network {
 /// Ring 4 with a prefix at 1 and 2, cost 0 each.
 pub fn ring_4_with_prefix() -> Network {
     with_prefix_at(ring(4), &[1, 2])
+}
+
+/// The network file of a drill.
+pub fn drill(seed: u32, routers: usize) -> Vec<u8> {
+    let mut file = vec![0; DRILL_BYTES];
+    assert_eq!(planner::drill(seed, routers, &mut file), DRILL_BYTES);
+    file
+}
+
+/// The network file that the oracle makes of a text.
+pub fn oracle_file(text: &str) -> Result<Vec<u8>, String> {
+    oracle::text::parse(text)?.file()
 }
 
 /// A text of the repository: its path, and what it says.

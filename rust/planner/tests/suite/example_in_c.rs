@@ -1,15 +1,16 @@
-//! The example in C: it compiles without a warning, and prints what the library answers.
+//! The examples in C: they compile without a warning, and print what the library answers.
 
 use crate::common::root;
 use std::path::PathBuf;
 use std::process::{Command, Output};
 
-/// Compiles the example as its comment says, and gives the program.
-fn compiled() -> PathBuf {
-    let program = PathBuf::from(env!("CARGO_TARGET_TMPDIR")).join("ask");
+/// Compiles an example as its comment says, and gives the program.
+fn compiled(name: &str) -> PathBuf {
+    let source = format!("examples/{name}.c");
+    let program = PathBuf::from(env!("CARGO_TARGET_TMPDIR")).join(format!("example-{name}"));
     let compiler = Command::new("cc")
         .args(["-std=c99", "-Wall", "-Wextra", "-pedantic", "-Werror"])
-        .args(["-Iinclude", "examples/ask.c", "target/staticlib/libplanner.a", "-o"])
+        .args(["-Iinclude", &source, "target/staticlib/libplanner.a", "-o"])
         .arg(&program)
         .current_dir(root())
         .output()
@@ -23,8 +24,8 @@ fn text(bytes: &[u8]) -> String {
 }
 
 #[test]
-fn the_example_compiles_and_answers() {
-    let program = compiled();
+fn ask_compiles_and_answers() {
+    let program = compiled("ask");
     let run = |words: &[&str]| -> Output {
         Command::new(&program).args(words).current_dir(root()).output().expect("it starts")
     };
@@ -39,4 +40,11 @@ fn the_example_compiles_and_answers() {
         assert_eq!((text(&failed.stdout), failed.status.code()), (String::new(), Some(2)));
         assert!(!failed.stderr.is_empty());
     }
+}
+
+#[test]
+fn drill_compiles_and_answers() {
+    let output = Command::new(compiled("drill")).output().expect("it starts");
+    let lines = "first hop 4, endpoint 2, class 3, tunnel cost 86\nrefused 14 0\n";
+    assert_eq!((text(&output.stdout), output.status.code()), (lines.to_string(), Some(0)));
 }

@@ -3,6 +3,7 @@
 mod calls;
 mod commands;
 mod common;
+mod drills;
 mod example_in_c;
 mod files;
 mod limits;

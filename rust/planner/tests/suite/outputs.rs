@@ -1,6 +1,6 @@
-//! What `make` writes: nothing that was there is lost, and what is wrong is said.
+//! What `make` and `drill` write: nothing that was there is lost, and what is wrong is said.
 
-use crate::common::{ring, ring_4_with_prefix, text_of, RING_4};
+use crate::common::{drill, ring, ring_4_with_prefix, text_of, RING_4};
 use std::fs::{self, File, Permissions};
 use std::io::Read;
 use std::os::unix::fs::{chown, MetadataExt, PermissionsExt};
@@ -170,11 +170,47 @@ fn another_file_is_not_replaced() {
 }
 
 #[test]
+fn a_drill_is_written_by_the_rules_of_make_and_replaces_no_network() {
+    let folder = Folder::new("drill");
+    folder.prints("ln -s empty soft; : >empty");
+    folder.set_mode("empty", 0o640);
+    // An empty file is replaced, and then the same drill.
+    for _ in 0..2 {
+        assert_eq!(folder.prints("planner drill 8 5 soft"), b"");
+        assert_eq!((folder.get("empty"), folder.mode("empty")), (drill(8, 5), 0o640));
+        assert!(folder.0.join("soft").is_symlink());
+    }
+    let network = folder.get("a.net");
+    assert!(planner::load(&network).is_ok());
+    assert_eq!(folder.prints("planner drill 0 3 new.net; planner drill 0 3 /dev/null"), b"");
+    assert_eq!(folder.get("new.net"), drill(0, 3));
+    for word in ["-", "/dev/stdout"] {
+        assert_eq!(folder.prints(&format!("planner drill 0 3 {word} | cat")), drill(0, 3));
+    }
+    let another =
+        "it is there and is another file than this drill; remove it first, or give another name";
+    for (name, wrong) in [
+        ("a.net", another),
+        ("a.txt", another),
+        (".", "it is a directory; give the name of a file in it"),
+        ("none/new.net", "there is no directory `none`; make it, or give another name"),
+    ] {
+        let expected = format!("planner: `{name}` cannot be written: {wrong}\n");
+        assert_eq!(folder.fails(&format!("planner drill 8 5 {name}")), expected);
+    }
+    assert_eq!(folder.get("a.net"), network);
+    // A word that is wrong is told before a file is looked at.
+    let wrong = folder.fails("planner drill 8 2 a.net");
+    assert!(wrong.starts_with("planner: N is `2`, expected a number from 3 to 64\n"), "{wrong}");
+}
+
+#[test]
 fn nothing_is_lost_where_the_disk_is_full() {
     let folder = Folder::new("full");
-    for name in ["a.net", "new.net"] {
+    for words in ["make a.txt a.net", "make a.txt new.net", "drill 8 5 new.net"] {
         // The shell ignores the signal, so that writing fails as on a disk that is full.
-        let wrong = folder.fails(&format!("trap '' XFSZ; ulimit -f 0; planner make a.txt {name}"));
+        let wrong = folder.fails(&format!("trap '' XFSZ; ulimit -f 0; planner {words}"));
+        let name = words.split(' ').next_back().unwrap();
         assert!(wrong.starts_with(&format!("planner: `{name}` cannot be written: ")), "{wrong}");
         let advice = "; nothing is changed: make room, or give a name on another disk\n";
         assert!(wrong.ends_with(advice), "{wrong}");
@@ -284,8 +320,10 @@ fn pipes_and_devices() {
 fn a_device_that_is_full() {
     let folder = Folder::new("device");
     let full = "cannot be written: No space left on device";
-    for script in ["planner make a.txt /dev/full", "planner make a.txt - >/dev/full"] {
-        let wrong = folder.fails(script);
-        assert!(wrong.contains(full), "{wrong}");
+    for words in ["make a.txt", "drill 8 5"] {
+        for to in ["/dev/full", "- >/dev/full"] {
+            let wrong = folder.fails(&format!("planner {words} {to}"));
+            assert!(wrong.contains(full), "{wrong}");
+        }
     }
 }

@@ -1,4 +1,4 @@
-//! The commands that `docs/SPECIFICATION.md` shows print what it says.
+//! The commands that the pages show print what they say.
 
 use crate::common::root;
 use oracle::page;
@@ -20,13 +20,15 @@ fn printed(line: &str) -> String {
 }
 
 #[test]
-fn the_commands_of_the_specification() {
-    let shown = page::commands(&page::read("docs/SPECIFICATION.md"));
-    let of_planner = shown.iter().filter(|shown| shown.command.starts_with("planner "));
-    let mut count = 0;
-    for shown in of_planner {
-        assert_eq!(printed(&shown.command), shown.prints, "{}", shown.command);
-        count += 1;
+fn the_commands_of_the_pages() {
+    for place in ["docs/SPECIFICATION.md", "rust/planner/README.md"] {
+        let shown = page::commands(&page::read(place));
+        let of_planner = shown.iter().filter(|shown| shown.command.starts_with("planner "));
+        let mut count = 0;
+        for shown in of_planner {
+            assert_eq!(printed(&shown.command), shown.prints, "{place}: {}", shown.command);
+            count += 1;
+        }
+        assert!(count > 0, "{place}");
     }
-    assert!(count > 0);
 }

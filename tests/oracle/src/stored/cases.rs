@@ -1,10 +1,11 @@
-//! The texts that the stored files are made from.
+//! What the stored files are made from, most of it texts.
 
+use super::drills;
 use crate::text;
 use std::fs;
 use std::path::Path;
 
-/// A text's name and the network file that it makes.
+/// A text's name and the network file that it makes; or what else a program reads.
 #[derive(Clone, Debug, PartialEq, Eq)]
 pub struct Case {
     pub name: String,
@@ -12,7 +13,7 @@ pub struct Case {
 }
 
 /// All texts of the repository, those of each folder in the order of their
-/// names.
+/// names, and the requests.
 #[derive(Clone, Debug)]
 pub struct Cases {
     /// `tests/cases`: accepted files, with questions worth asking.
@@ -25,6 +26,8 @@ pub struct Cases {
     /// `examples/refused`: a refused file for each of the rows 1 to 9. Their
     /// names start with `refused/`.
     pub refused: Vec<Case>,
+    /// The requests for drills, which are no text.
+    pub drills: Case,
 }
 
 impl Cases {
@@ -35,6 +38,7 @@ impl Cases {
             reader: folder(&root.join("tests/cases/reader"), "reader/")?,
             examples: folder(&root.join("examples"), "")?,
             refused: folder(&root.join("examples/refused"), "refused/")?,
+            drills: drills::case(),
         })
     }
 }

@@ -48,5 +48,5 @@ pub fn lines(ctx: &Context, file: &[u8]) -> String {
 }
 
 fn work_area(cells: usize) -> Buffers {
-    Buffers { work: vec![BEFORE; cells], route: Vec::new() }
+    Buffers { work: vec![BEFORE; cells], ..Buffers::default() }
 }

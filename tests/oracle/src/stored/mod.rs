@@ -1,11 +1,13 @@
 //! The stored files of the repository: the inputs of its programs and the
-//! outputs that they have to print, all made from the texts in `tests/cases`
-//! and `examples`. The program `remake` writes them or compares them.
+//! outputs that they have to print, made from the texts in `tests/cases` and
+//! `examples`, and for drills from requests. The program `remake` writes them or
+//! compares them.
 //!
 //! | Stored | Made from |
 //! |---|---|
 //! | `examples/NAME.net`, `examples/refused/NAME.net` | `NAME.txt` beside it |
 //! | `crates/PROGRAM/stdin`, `crates/PROGRAM/stdout` | the cases that the program reads |
+//! | `crates/stored_drills/stdin`, `crates/stored_drills/stdout` | the requests in `drills` |
 //! | `tests/plan/stored.txt` | the networks and the files for the reader: the plan of each |
 //!
 //! The programs, their cases and the sections that they print are listed in
@@ -14,6 +16,7 @@
 pub mod cases;
 mod common;
 mod distances;
+pub mod drills;
 pub mod programs;
 mod reading;
 mod repairs;

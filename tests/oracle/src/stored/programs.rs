@@ -8,7 +8,7 @@
 //! module. Every line ends with a newline.
 
 use super::cases::{Case, Cases};
-use super::{distances, reading, repairs, routes};
+use super::{distances, drills, reading, repairs, routes};
 use crate::answer::plan_text;
 use crate::fault::Context;
 
@@ -26,6 +26,8 @@ enum Reads {
     Cases,
     /// One example: its file and nothing else.
     Example(&'static str),
+    /// The requests for drills and nothing else.
+    Drills,
 }
 
 /// The lines about one file that belong together.
@@ -41,6 +43,7 @@ const DISTANCES: Section = Section { name: "distances", lines: distances::lines 
 const REPAIRS: Section = Section { name: "repairs", lines: repairs::lines };
 const ROUTES: Section = Section { name: "routes", lines: routes::lines };
 const PLAN: Section = Section { name: "plan", lines: plan_text };
+const DRILLS: Section = Section { name: "drills", lines: drills::lines };
 
 /// The sections about a stored case.
 pub const SECTIONS: &[Section] = &[READING, DISTANCES, REPAIRS, ROUTES];
@@ -49,6 +52,7 @@ pub const SECTIONS: &[Section] = &[READING, DISTANCES, REPAIRS, ROUTES];
 pub const PROGRAMS: &[Program] = &[
     Program { name: "stored_answers", reads: Reads::Cases, sections: &[READING, REPAIRS] },
     Program { name: "stored_buffers", reads: Reads::Cases, sections: &[DISTANCES, ROUTES] },
+    Program { name: "stored_drills", reads: Reads::Drills, sections: &[DRILLS] },
     Program { name: "plan", reads: Reads::Example("ring4"), sections: &[PLAN] },
 ];
 
@@ -70,6 +74,7 @@ impl Program {
         match self.reads {
             Reads::Cases => Ok(cases.networks.iter().chain(&cases.reader).collect()),
             Reads::Example(name) => Ok(vec![named(&cases.examples, name)?]),
+            Reads::Drills => Ok(vec![&cases.drills]),
         }
     }
 

@@ -152,6 +152,22 @@ fn random_networks_are_repeatable() {
 }
 
 #[test]
+fn drills() {
+    let file = run(&["drill", "1", "3"], &[]).stdout;
+    assert_eq!(file.len(), 1024);
+    let text = "routers 3\nlink 0 1 97 1\nlink 1 2 47 96\nlink 2 0 13 17\n";
+    assert_eq!(prints(&["show"], &file), text);
+    let turned = run(&["--fault", "DrillBackFirst", "drill", "1", "3"], &[]).stdout;
+    assert!(prints(&["show"], &turned).starts_with("routers 3\nlink 0 1 1 97\n"));
+    assert_eq!(run(&["drill", "4294967295", "64"], &[]).stdout.len(), 1024);
+    for routers in ["2", "65", "18446744073709551615"] {
+        assert!(fails(&["drill", "1", routers], &[]).contains("a drill has 3 to 64 routers"));
+    }
+    assert!(fails(&["drill", "4294967296", "3"], &[]).contains("is no number of 32 bits"));
+    assert!(fails(&["drill", "1"], &[]).contains("`drill 1` is no command"));
+}
+
+#[test]
 fn faults_by_name() {
     let file = write(&ring(4));
     let sound = prints(&["ask", "link-repair", "0", "0"], &file);

@@ -8,6 +8,7 @@ use oracle::repair::{deciding_key, serving};
 use oracle::row::{Cause, Inputs};
 use oracle::space::Space;
 use oracle::walk::Move;
+use oracle::writing::outside;
 use std::collections::BTreeSet;
 
 #[test]
@@ -23,6 +24,7 @@ fn the_corpus_meets_everything() {
             let refusal = opened.refusal(&inputs(question, lent));
             met.extend(refusal.map(|refusal| format!("{:?}", refusal.cause)));
             met.insert(kind(&outcome.answer));
+            met.extend(not_written(question));
             let extended = matches!(question, Question::Space { space: Space::ExtendedP, .. });
             if extended && half_blind.ask(question, lent).answer != outcome.answer {
                 met.insert("a router decided by E to S alone".to_string());
@@ -60,10 +62,13 @@ fn everything() -> Vec<String> {
         "pair",
         "count",
         "text",
+        "written",
+        "nothing written",
         "delivery or step",
         "a router decided by E to S alone",
     ];
     let kinds = kinds.into_iter().map(str::to_string);
+    let kinds = kinds.chain(Cause::OF_NETWORKS.map(outside_by));
     let decisions = decisions().map(decision);
     causes.chain(classes).chain(keys).chain(kinds).chain(decisions).collect()
 }
@@ -83,8 +88,22 @@ fn kind(answer: &Answer) -> String {
         Answer::Pair(_) => "pair",
         Answer::Count(_) => "count",
         Answer::Text(_) => "text",
+        Answer::Written(0) => "nothing written",
+        Answer::Written(_) => "written",
     };
     kind.to_string()
+}
+
+/// The causes that put a network outside the limits.
+fn not_written(question: &Question) -> Vec<String> {
+    match question {
+        Question::Write { network } => outside(network).into_iter().map(outside_by).collect(),
+        _ => Vec::new(),
+    }
+}
+
+fn outside_by(cause: Cause) -> String {
+    format!("a network outside the limits by {cause:?}")
 }
 
 fn decision((ranks, rank): (Arrangement, u8)) -> String {

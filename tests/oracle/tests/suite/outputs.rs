@@ -390,6 +390,33 @@ fn what_plan_prints() {
     assert!(plan.output(&Context::sound(), &chosen).starts_with("plan 4 4 1\n0 0 0 1 3 2 3 2\n"));
 }
 
+/// Two lines of the drills by hand, and the requests as they are read.
+#[test]
+fn what_stored_drills_prints() {
+    let cases = stored_cases();
+    let drills = program("stored_drills");
+    let chosen = drills.chosen(&cases).expect("the requests");
+    let input = drills.input(&chosen).expect("an input");
+    assert_eq!(input[..16], [66, 29, 0, 0, 0, 0, 76, 4, 66, 29, 0, 0, 1, 0, 76, 4]);
+    let output = drills.output(&Context::sound(), &chosen);
+    assert!(output.starts_with("drill 7490 0 1100 written 0 left 1100*7\n"));
+    let seed_1 = "drill 1 3 1025 written 1024 left 1 3*0 3 0 3 503*0 7 0 2 3 1 2*0 1 97 0 1 0 1 2 47 0 96 0 \
+                  2 0 13 0 17 489*0 21 77*7";
+    assert!(output.lines().any(|line| line == seed_1), "{seed_1}");
+    assert_eq!(output.lines().count(), input.len() / 8);
+    for line in output.lines() {
+        let words: Vec<&str> = line.split(' ').collect();
+        let (routers, length): (usize, usize) =
+            (words[2].parse().expect("a number"), words[3].parse().expect("a number"));
+        let written = if (3..=64).contains(&routers) && length >= 1024 { "1024" } else { "0" };
+        assert_eq!(words[5], written, "{line}");
+        let times = |run: &str| {
+            run.split_once('*').map_or(1, |(times, _)| times.parse().expect("a number"))
+        };
+        assert_eq!(words[7..].iter().map(|run| times(run)).sum::<usize>(), 1100);
+    }
+}
+
 /// Faults that no section and no stored plan shows: none asks for what they
 /// change.
 const NOT_SHOWN: [Fault; 7] = [
@@ -428,9 +455,30 @@ fn the_sections_notice_every_fault_that_they_can_show() {
     let mut sound: Vec<_> = sound.collect();
     // Short texts are soon compared, and most faults show in one of them.
     sound.sort_by_key(|(_, _, text)| text.len());
-    for fault in Fault::all() {
+    let of_files =
+        |fault: &Fault| of_drills().contains(fault) || Fault::of_writing().contains(fault);
+    for fault in Fault::all().into_iter().filter(|fault| !of_files(fault)) {
         let ctx = Context::with(&[fault]);
         let noticed = sound.iter().any(|(lines, case, text)| lines(&ctx, &case.file) != *text);
         assert_eq!(noticed, !NOT_SHOWN.contains(&fault), "{}", fault.name());
+    }
+}
+
+/// The faults that a drill shows.
+fn of_drills() -> Vec<Fault> {
+    Fault::OF_DRILLS.into_iter().chain(Fault::OF_FILES).collect()
+}
+
+/// The stored drills notice every fault of drills. No stored program writes any
+/// other network.
+#[test]
+fn the_stored_drills_notice_every_fault_that_they_can_show() {
+    let cases = stored_cases();
+    let drills = program("stored_drills");
+    let chosen = drills.chosen(&cases).expect("the requests");
+    let sound = drills.output(&Context::sound(), &chosen);
+    for fault in Fault::all() {
+        let noticed = drills.output(&Context::with(&[fault]), &chosen) != sound;
+        assert_eq!(noticed, of_drills().contains(&fault), "{}", fault.name());
     }
 }

@@ -1,7 +1,7 @@
 //! The program `remake`, on small repositories made for the test.
 
 use oracle::file::write;
-use oracle::stored::{Report, run};
+use oracle::stored::{Report, drills, run};
 use oracle::worked::{lone_router, ring_4_with_prefix};
 use std::fs;
 use std::path::{Path, PathBuf};
@@ -47,7 +47,8 @@ fn report(text: &str, success: bool) -> Result<Report, String> {
 
 #[test]
 fn all_files_are_written_once() {
-    let root = repository("written", &["stored_answers", "stored_buffers", "plan"]);
+    let programs = ["stored_answers", "stored_buffers", "stored_drills", "plan"];
+    let root = repository("written", &programs);
     let written = "\
 examples/ring4.net is written
 examples/refused/01-length.net is written
@@ -55,6 +56,8 @@ crates/stored_answers/stdin is written
 crates/stored_answers/stdout is written
 crates/stored_buffers/stdin is written
 crates/stored_buffers/stdout is written
+crates/stored_drills/stdin is written
+crates/stored_drills/stdout is written
 crates/plan/stdin is written
 crates/plan/stdout is written
 ";
@@ -70,6 +73,8 @@ crates/plan/stdout is written
     assert_eq!(input[..514], [&[0, 2], write(&lone_router()).as_slice()].concat());
     assert_eq!(input[514..518], [0, 0, 0, 4]);
     assert_eq!(stored(&root, "crates/stored_buffers/stdin"), input);
+    assert_eq!(stored(&root, "crates/stored_drills/stdin"), drills::case().file);
+    assert!(stored(&root, "crates/stored_drills/stdout").starts_with(b"drill "));
     let output = text(&root, "crates/stored_answers/stdout");
     assert!(output.starts_with("case 0\naccepted 1 0 0\nlink-entry 0\n"));
     assert!(output.contains("\nprefix-entry 4000000000\np 0 0 refused 12 0\n"));
@@ -128,6 +133,7 @@ stored_buffers 0 one
 stored_buffers 1 reader/length_0
 stored_buffers 2 reader/row_4_more
 stored_buffers 3 reader/row_9_next
+stored_drills 0 drills
 plan 0 ring4
 ";
     assert_eq!(run(&root, &["--list"]), report(listed, true));
