@@ -46,6 +46,7 @@ impl Planner for Library {
             }
             Question::Write { ref network } => match network_from(network) {
                 Some(network) => written(planner::write(&network, made)),
+                // A network of the crate keeps the limits, so there is nothing to ask it.
                 None => written(0),
             },
         }

@@ -67,7 +67,8 @@ fn of_drill(routers: u64, count: usize) -> &'static str {
 }
 
 /// Asks for a file to be written by way of both interfaces, and fails if one is
-/// not as the oracle says; hands over the oracle's outcome.
+/// not as the oracle says; hands over the oracle's outcome. A network outside the
+/// limits is asked about by way of the C interface alone: the crate has none.
 pub fn compared(question: Question, length: usize) -> Outcome {
     let asked = Asked::of_buffer(question, length);
     let expected = oracle::answer::ask(&Context::sound(), &[], &asked.question, &asked.buffers());
