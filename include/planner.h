@@ -68,7 +68,7 @@ enum {
     PLANNER_ACCEPTED = 1,    /* the file is sound */
     PLANNER_DONE = 2,        /* the distances are in the work area */
     PLANNER_UNREACHABLE = 3, /* the prefix cannot be reached from S */
-    PLANNER_UNTOUCHED = 4,   /* no packet from S to the prefix crosses the link from S to E */
+    PLANNER_UNTOUCHED = 4,   /* no packet from S to the prefix crosses the link from S to E; so too where S is attached to the prefix */
     PLANNER_SET = 5,         /* value is the set */
     PLANNER_PAIR = 6,        /* first, endpoint, pair_class and cost are those of the pair */
     PLANNER_PLAYED = 7       /* value is the number of routers written */

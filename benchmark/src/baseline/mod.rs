@@ -2,6 +2,7 @@
 //! given a file reads and checks it, and a call that computes fills the
 //! distances, just as the planner's calls do.
 
+mod avoid;
 mod graph;
 mod limits;
 mod read;
@@ -12,9 +13,9 @@ mod write;
 
 use crate::answer::{self, Answer, Network, Refusal, Space, DONE, REFUSED, SET};
 use crate::side::Side;
+use avoid::{Protected, Target};
 use graph::Graph;
 use rows::{arranged, enough_cells, named, numbered};
-use search::Target;
 
 /// The program that was written for speed.
 pub struct Baseline;
@@ -51,7 +52,7 @@ fn space(
     enough_cells(&network, work)?;
     named(&network, link, end)?;
     let graph = filled(&network, work);
-    let protected = search::Protected::of(&network, link, end);
+    let protected = Protected::of(&network, link, end);
     Ok(answer::with_value(SET, search::space(space, &graph, work, &protected)))
 }
 
@@ -67,9 +68,8 @@ fn link_repair(
     let ranks = arranged(ranks)?;
     named(&network, link, end)?;
     let graph = filled(&network, work);
-    let protected = search::Protected::of(&network, link, end);
-    let target = Target::router(&graph, work, protected.far);
-    search::first_pair(&graph, work, &ranks, &protected, &target)
+    let protected = Protected::of(&network, link, end);
+    search::link_repair(&graph, work, &ranks, &protected)
 }
 
 fn prefix_repair(
@@ -84,7 +84,7 @@ fn prefix_repair(
     named(&network, link, end)?;
     numbered(&network, prefix)?;
     let graph = filled(&network, work);
-    let protected = search::Protected::of(&network, link, end);
+    let protected = Protected::of(&network, link, end);
     let target = Target::prefix(&network, &graph, work, prefix);
     search::repair(&graph, work, &ranks, &protected, &target)
 }
@@ -106,7 +106,7 @@ fn route(
     named(&network, link, end)?;
     numbered(&network, prefix)?;
     let graph = filled(&network, work);
-    let protected = search::Protected::of(&network, link, end);
+    let protected = Protected::of(&network, link, end);
     let target = Target::prefix(&network, &graph, work, prefix);
     let answer = search::repair(&graph, work, &ranks, &protected, &target)?;
     Ok(route::play(&graph, work, protected.near, &answer, &target, choices, buffer))

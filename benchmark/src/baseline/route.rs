@@ -1,7 +1,7 @@
 //! Played routes.
 
+use super::avoid::Target;
 use super::graph::Graph;
-use super::search::Target;
 use crate::answer::{self, Answer, PAIR, PLAYED};
 
 /// The play: where it stands, and what it has written.
@@ -25,24 +25,19 @@ impl Play<'_> {
         u32::from(self.choices.get(self.written - 2).copied().unwrap_or(0))
     }
 
-    /// Takes the option that the next choice byte names: delivery first, then
-    /// the next routers ascending. False when it delivers.
+    /// Takes the option that the next choice byte names: at an attached router
+    /// delivery, else the next routers ascending. False when it delivers.
     fn step(&mut self, target: &Target) -> bool {
+        if target.attached >> self.at & 1 == 1 {
+            return false;
+        }
         let own = target.to[self.at & 63];
         let mut next = 0u64;
         for arc in self.graph.leaving(self.at) {
             let sum = target.to[arc.head()].wrapping_add(arc.cost());
             next |= u64::from(sum == own) << arc.head();
         }
-        let deliver = (target.deliver >> self.at & 1) as u32;
-        let mut option = self.choice() % (next.count_ones() + deliver).max(1);
-        if deliver == 1 {
-            if option == 0 {
-                return false;
-            }
-            option -= 1;
-        }
-        for _ in 0..option {
+        for _ in 0..self.choice() % next.count_ones().max(1) {
             next &= next - 1;
         }
         self.arrive(next.trailing_zeros() as usize);

@@ -16,8 +16,8 @@ asked p = record { number = p .number; near = p .near; far = p .far; out = p .ou
 abbrev pub belowBoth : (own near far out back fromNear fromFar : ℕ) → Bool
 belowBoth own near far out back fromNear fromFar = ltb own (min (near + out + fromFar) unreachable) && ltb own (min (far + back + fromNear) unreachable)
 
--- router x avoids the link on the way to a target, by the distances: `left` gives those to the target on the left side, `target` those
--- to it in the sums, and `sums` those to S and E
+-- Router x avoids the link on the way to a target, by the distances: `left` gives those to the target on the left side, `target` those
+-- to it in the sums, and `sums` those to S and E. Towards a router this is avoiding; towards a prefix it is only enough for it.
 unfoldable pub clears : (left : ℕ → ℕ) → (sums : ℕ → ℕ → ℕ) → Protected → (target : ℕ → ℕ) → ℕ → Bool
 clears left sums q target x = belowBoth (left x) (sums x (q .near)) (sums x (q .far)) (q .out) (q .back) (target (q .near)) (target (q .far))
 

@@ -21,7 +21,7 @@ pub record Readable (n : ℕ) (q : Protected) (area : List ℕ) : Type 0 where
 unfoldable pub readable : (n : ℕ) → Protected → (cells : ℕ) → Bool
 readable n q cells = cellsFit n cells && (ltb (q .near) n && ltb (q .far) n)
 
--- the routers that avoid the link on the way to a target; `left` and `target` give the distances to it, on the left side and in the sums
+-- the routers that avoid the link on the way to a target, by the distances; `left` and `target` give the distances to it, on the left side and in the sums
 unfoldable pub avoidingTo : (n : ℕ) → Protected → (left : ℕ → ℕ) → (sums : List ℕ) → (target : ℕ → ℕ) → ℕ
 avoidingTo n q left sums target = elim (readable n q (length sums)) [ true ↦ setOf n (clears left (held n sums) q target) | false ↦ 0 ]
 

@@ -1,6 +1,7 @@
 // The routers that avoid the protected link, by distances: on the way to a target, and from one router.
 //
-// A router avoids the link where its distance to the target is below both sums over the link. The distances on the left side of this
+// A router avoids the link on the way to another exactly where its distance is below both sums over the link. On the way to a prefix this
+// test is enough, but a router may avoid the link without it, since walks end at attached routers. The distances on the left side of the
 // test and those in the sums are handed in apart; they may be of one network, or of two that differ in their costs.
 //
 // The functions take any numbers. Where no distances can be read for them, the set is empty.
@@ -35,7 +36,7 @@ pub fn can_read(n: usize, protected: Protected, cells: usize) -> bool
     protected.near < n && protected.far < n
 }
 
-// The routers x that avoid the link on the way to a target. `left` and `target` hold the distances to it, on the left side of the test
+// The routers x that avoid the link on the way to a target, by the test. `left` and `target` hold the distances to it, on the left side
 // and in the sums.
 pub fn avoiding_to(
     left: &[u32; 64],

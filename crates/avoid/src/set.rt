@@ -18,7 +18,7 @@ fn below_both(own: u32, near: u32, far: u32, protected: Protected, s: u32, e: u3
     own < Distance::add3(near, protected.out, e) && own < Distance::add3(far, protected.back, s)
 }
 
-// The routers x that avoid the link on the way to a target.
+// The routers x that avoid the link on the way to a target, by the test.
 pub(crate) fn set_to(
     left: &[u32; 64],
     sums: &[u32],

@@ -9,15 +9,16 @@ use mathlib.Core.Bool.{true}
 use mathlib.Core.List.{List, [], _∷_, _++_, map, List·Memᴰ}
 use lib.ListN.{getD, length, take, drop}
 use Rattle.lfa.specs.Lists.{countUp, HowMany}
-use Rattle.lfa.specs.Network.{Arc, arc, Target, Network, router, arcs}
+use Rattle.lfa.specs.Network.{Arc, arc, at, Target, Attached, Network, router, arcs}
 use Rattle.lfa.specs.File.{Bytes, byteAt, linksOf, prefixesOf, linkEntry, prefixEntry}
 use Rattle.lfa.specs.FileOf.{fileOf, WithinLimits}
 use Rattle.lfa.specs.Distance.{unreachable, LeastCosts, distances, distanceIn, towards}
-use Rattle.lfa.specs.Walk.{Crosses, Arrives}
+use Rattle.lfa.specs.Walk.{Step, Delivers, WalkBy, Walk, CrossesBy, ArrivesBy}
+use Rattle.lfa.specs.Former.{FormerStep, FormerDelivers, OwnCostsBelow}
 use Rattle.lfa.specs.Space.{underMaintenance, FirstHop, IsFirstHop, Space, has, sizeOf, Member}
 use Rattle.lfa.specs.Ranks.{rankOf, Arrangement, ascending}
 use Rattle.lfa.specs.Repair.{Pair, IsPair, Told, Tells, Keys, First, MayCross}
-use Rattle.lfa.specs.Route.{AreOptions, options, NamedRoute}
+use Rattle.lfa.specs.Route.{deliver, AreOptionsBy, AreOptions, options, NamedRoute}
 use Rattle.lfa.specs.Question.{Question, Call, load, fill, linkRepair, prefixRepair, route, space, loading, filling, askSpace, askLink, askPrefix, askRoute, toPrefixRepair, withoutMaintenance, withRanks, LooksAtFirstHops, Buffer, workArea, routeBuffer, aRankTable, aPrefix, lent, HasInput, networkAsked, linkAsked, prefixAsked}
 use Rattle.lfa.specs.Refusal.{Row, noPair, Applies, entryOf, rowsTried, Decides, Accepted, Posed}
 use Rattle.lfa.specs.Writing.{Wrote}
@@ -87,11 +88,15 @@ D q = distanceIn (distances (networkAsked q))
 
 -- "Whichever equal-cost hop each router takes, every walk by pre-failure costs from first hop to endpoint, and every one from
 -- endpoint to prefix, arrives, each leg in fewer hops than there are routers, and crosses the link in neither direction."
-pub record HasThis (q : Question) (to : Target) (n y : ℕ) : Type 0 where
-  pub first-leg-arrives : Arrives (Hops q) (D q) (router y) (N q) n
-  pub first-leg-misses : (u v : ℕ) → Crosses (Hops q) (D q) (router y) n (q .link) u v → ⊥
-  pub second-leg-arrives : Arrives (Hops q) (D q) to (N q) y
-  pub second-leg-misses : (u v : ℕ) → Crosses (Hops q) (D q) to y (q .link) u v → ⊥
+pub record HasThisBy (steps : Target → ℕ → ℕ → ℕ → Type 0) (ends : Target → ℕ → Type 0) (routers link : ℕ) (to : Target) (n y : ℕ) : Type 0 where
+  pub first-leg-arrives : ArrivesBy (steps (router y)) (ends (router y)) routers n
+  pub first-leg-misses : (u v : ℕ) → CrossesBy (steps (router y)) n link u v → ⊥
+  pub second-leg-arrives : ArrivesBy (steps to) (ends to) routers y
+  pub second-leg-misses : (u v : ℕ) → CrossesBy (steps to) y link u v → ⊥
+
+-- by the walks of the question's network
+abbrev pub HasThis : Question → Target → ℕ → ℕ → Type 0
+HasThis q = HasThisBy (Step (Hops q) (D q)) (Delivers (D q)) (N q) (q .link)
 
 -- "no neighbour of that end but the far end, paired with any router other than the two ends"; Point 1: "extended P and the "exactly" of 14
 -- follow the new meaning of neighbour"
@@ -111,17 +116,17 @@ abbrev pub keys : Question → Told → Keys
 keys q t = record { rank = rankOf (q .ranks) (t .class); distance = D q (linkAsked q .near) (t .endpoint); endpoint = t .endpoint; cost = t .cost; first = t .first }
 
 -- what is told is of a candidate that has this, and by these keys none that has this comes before it
-pub record IsFirst (q : Question) (by : Told → Keys) (to : Target) (t : Told) : Type 0 where
+pub record IsFirst (q : Question) (by : Told → Keys) (has : ℕ → ℕ → Type 0) (to : Target) (t : Told) : Type 0 where
   pub pair : Pair
   pub candidate : Candidate q pair
   pub tells : TellsOf q to pair t
-  pub has-this : HasThis q to (t .first) (t .endpoint)
-  pub earliest : (p : Pair) (other : Told) → Candidate q p → TellsOf q to p other → HasThis q to (other .first) (other .endpoint) → First (by t) (by other)
+  pub has-this : has (t .first) (t .endpoint)
+  pub earliest : (p : Pair) (other : Told) → Candidate q p → TellsOf q to p other → has (other .first) (other .endpoint) → First (by t) (by other)
 
 -- "A repair is a first hop and an endpoint, the pair that document 01 puts first", by the ranks since Point 2, with its class and tunnel
 -- cost
 abbrev pub IsRepair : Question → Target → Told → Type 0
-IsRepair q to t = IsFirst q (keys q) to t
+IsRepair q to t = IsFirst q (keys q) (HasThis q to) to t
 
 -- ---- demand 2: "Distances are least path costs; the P, extended P and Q spaces hold exactly the routers that the remote LFA papers
 -- put there; the repair given is the first in the order of document 01, and a played route is the one its choices name."
@@ -163,19 +168,19 @@ pub record Demand2 (q : Question) : Type 0 where
 
 -- a question is answered with a repair or with refusal 14, a repair is first by these keys, and 14 comes exactly when no candidate has
 -- this
-pub record RepairedBy (q : Question) (by : Told → Keys) (to : Target) (answer : Answer) : Type 0 where
+pub record RepairedBy (q : Question) (by : Told → Keys) (has : ℕ → ℕ → Type 0) (to : Target) (answer : Answer) : Type 0 where
   pub repair-or-14 : ((t : Told) × (answer ≡ repair t)) ⊎ (answer ≡ refused 14 0)
-  pub is-repair : (t : Told) → answer ≡ repair t → IsFirst q by to t
-  pub exactly : (answer ≡ refused 14 0) ↔ ((p : Pair) → Candidate q p → HasThis q to (p .hop .router) (p .endpoint) → ⊥)
+  pub is-repair : (t : Told) → answer ≡ repair t → IsFirst q by has to t
+  pub exactly : (answer ≡ refused 14 0) ↔ ((p : Pair) → Candidate q p → has (p .hop .router) (p .endpoint) → ⊥)
 
 pub record Demand3By (q : Question) (by : Told → Keys) (answer : Answer) : Type 0 where
   -- "every prefix whose traffic from that end may cross the link: asked for this prefix with work area enough, the planner answers
   -- with a repair or refusal 14. .. Refusal 14 comes exactly when no neighbour of that end but the far end, paired with any router
   -- other than the two ends, has this."
-  pub prefix-repaired : q .call ≡ prefixRepair → MayCross (Hops q) (D q) (linkAsked q) (prefixAsked q) → RepairedBy q by (prefixAsked q) answer
+  pub prefix-repaired : q .call ≡ prefixRepair → MayCross (Hops q) (D q) (linkAsked q) (prefixAsked q) → RepairedBy q by (HasThis q (prefixAsked q)) (prefixAsked q) answer
   -- "The link repair question, given work area enough, is answered with that repair or with 14, and with 14 exactly when no such
   -- pair has this for the far end."
-  pub link-repaired : q .call ≡ linkRepair → RepairedBy q by (router (linkAsked q .far)) answer
+  pub link-repaired : q .call ≡ linkRepair → RepairedBy q by (HasThis q (router (linkAsked q .far))) (router (linkAsked q .far)) answer
   -- "A link's own repair, at either end, has this for every such prefix, and for the far end in the prefix's place."
   pub link-has-this : q .call ≡ linkRepair → (t : Told) → answer ≡ repair t →
       HasThis q (router (linkAsked q .far)) (t .first) (t .endpoint)
@@ -184,7 +189,7 @@ pub record Demand3By (q : Question) (by : Told → Keys) (answer : Answer) : Typ
 
 -- by the keys of the question
 abbrev pub Repaired : Question → Target → Answer → Type 0
-Repaired q to answer = RepairedBy q (keys q) to answer
+Repaired q to answer = RepairedBy q (keys q) (HasThis q to) to answer
 
 abbrev pub Demand3 : Question → Answer → Type 0
 Demand3 q answer = Demand3By q (keys q) answer
@@ -243,10 +248,54 @@ pub record Point2 (q : Question) : Type 0 where
   -- with ascending ranks demand 3 is what it was before: a repair is the first by class
   pub as-before : q .ranks ≡ ascending → Posed q → Demand3By q (keysByClass q) (answerTo q)
   -- which leaves no choice: only one repair is first by class, and only one by the ranks
-  pub one-by-class : (to : Target) (t u : Told) → IsFirst q (keysByClass q) to t → IsFirst q (keysByClass q) to u → t ≡ u
+  pub one-by-class : (to : Target) (t u : Told) → IsFirst q (keysByClass q) (HasThis q to) to t → IsFirst q (keysByClass q) (HasThis q to) to u → t ≡ u
   pub one-by-rank : (to : Target) (t u : Told) → IsRepair q to t → IsRepair q to u → t ≡ u
   -- a call that takes no table answers and writes the same whatever stands in its place
   pub none-taken : (HasInput q aRankTable → ⊥) → (ranks : List ℕ) → SameReply q (withRanks ranks q)
+
+-- ---- Point 4: "So a walk towards a prefix now ends at the first attached router on it, however dear that attachment is." `Walk.Step` and
+-- `Walk.Delivers` say so. Demands 2 and 3 speak of these walks: "The third promise means these shorter walks, a link's own repair included."
+
+-- what a pair had before, and whether traffic might cross the link, by the walks of then
+abbrev pub FormerlyHasThis : Question → Target → ℕ → ℕ → Type 0
+FormerlyHasThis q = HasThisBy (FormerStep (Hops q) (D q)) (FormerDelivers (D q)) (N q) (q .link)
+
+abbrev pub FormerlyMayCross : Question → Target → Type 0
+FormerlyMayCross q to = CrossesBy (FormerStep (Hops q) (D q) to) (linkAsked q .near) (linkAsked q .number) (linkAsked q .near) (linkAsked q .far)
+
+-- Steps and deliveries towards a target are what they were, and so are the options at a router, whether traffic may cross the link, and
+-- which pairs have this.
+pub record AsBefore (q : Question) (to : Target) : Type 0 where
+  pub steps : (x z l : ℕ) → Step (Hops q) (D q) to x z l ↔ FormerStep (Hops q) (D q) to x z l
+  pub deliveries : (x : ℕ) → Delivers (D q) to x ↔ FormerDelivers (D q) to x
+  pub options-were : (x : ℕ) → AreOptionsBy (FormerStep (Hops q) (D q) to) (FormerDelivers (D q) to) x (options (N q) (Hops q) (D q) to x)
+  pub may-cross : MayCross (Hops q) (D q) (linkAsked q) to ↔ FormerlyMayCross q to
+  pub has-this : (n y : ℕ) → HasThis q to n y ↔ FormerlyHasThis q to n y
+  -- So what an answer owes by the walks of today it owes by those of then; and only one answer could meet what was owed then.
+  pub repaired : (answer : Answer) → Repaired q to answer → RepairedBy q (keys q) (FormerlyHasThis q to) to answer
+  pub one-answer : (answer other : Answer) → RepairedBy q (keys q) (FormerlyHasThis q to) to answer → RepairedBy q (keys q) (FormerlyHasThis q to) to other → answer ≡ other
+
+pub record Point4 (q : Question) : Type 0 where
+  -- "a walk towards a prefix now ends at the first attached router on it, however dear that attachment is": a step of today is one of then
+  -- from a router that is not attached, and every attached router within reach delivers
+  pub steps-are : (to : Target) (x z l : ℕ) → Step (Hops q) (D q) to x z l ↔ (FormerStep (Hops q) (D q) to x z l × (Attached to x → ⊥))
+  pub deliveries-are : (to : Target) (x : ℕ) → Delivers (D q) to x ↔ (Attached to x × (towards (D q) to x < unreachable))
+  -- "An attached S is untouched"
+  pub near-untouched : HasInput q aPrefix → Attached (prefixAsked q) (linkAsked q .near) → answerTo q ≡ untouched
+  -- "an attached first hop serves as its own endpoint"
+  pub hop-serves : HasInput q aPrefix → (f : FirstHop) → IsFirstHop (Hops q) (linkAsked q) f → Attached (prefixAsked q) (f .router) →
+      Candidate q (record { hop = f; endpoint = f .router }) × HasThis q (prefixAsked q) (f .router) (f .router)
+  -- at an attached router delivery is the only option
+  pub only-delivery : HasInput q aPrefix → (x : ℕ) → Attached (prefixAsked q) x → options (N q) (Hops q) (D q) (prefixAsked q) x ≡ deliver ∷ []
+  -- A walk of today is the beginning of one of then, so that a pair that had this has it still: 14 comes only where no pair had this.
+  pub walks-were : (to : Target) (x u k : ℕ) → Walk (Hops q) (D q) to x u k → WalkBy (FormerStep (Hops q) (D q) to) x u k
+  pub still-has-this : (to : Target) (p : Pair) → Candidate q p → FormerlyHasThis q to (p .hop .router) (p .endpoint) → HasThis q to (p .hop .router) (p .endpoint)
+  pub none-had-this : q .call ≡ prefixRepair → MayCross (Hops q) (D q) (linkAsked q) (prefixAsked q) → answerTo q ≡ refused 14 0 →
+      (p : Pair) → Candidate q p → FormerlyHasThis q (prefixAsked q) (p .hop .router) (p .endpoint) → ⊥
+  -- Nothing changes towards routers; nor where no tight hop leaves an attached router, as with attachments of one cost, or one attachment.
+  pub routers-as-before : (t : ℕ) → AsBefore q (router t)
+  pub below-as-before : (to : Target) → OwnCostsBelow (Hops q) (D q) to → AsBefore q to
+  pub one-cost-as-before : HasInput q aPrefix → (cost : ℕ) → ((x own : ℕ) → List·Memᴰ (at x own) (prefixAsked q) → own ≡ cost) → AsBefore q (prefixAsked q)
 
 -- ---- Point 13: calls that make a network file in a lent buffer
 
@@ -280,6 +329,7 @@ pub record Demands : Type 0 where
   pub ranks-lent : RanksLent
   pub ascending-arranged : Arrangement ascending
   pub point-2 : (q : Question) → Point2 q
+  pub point-4 : (q : Question) → Posed q → Point4 q
   pub point-13 : Point13
   -- of a file of bytes, that is what `Posed` means
   pub posed-when : (q : Question) → ((i : ℕ) → byteAt (q .file) i < 256) →

@@ -43,6 +43,9 @@ pub mod Replies
 pub mod Maintenance
 pub mod Point1
 pub mod SameKind
+pub mod OnlyOne
 pub mod Point2
+pub mod Former
+pub mod Point4
 pub mod Point13
 pub mod Demands

@@ -4,6 +4,7 @@ pub mod File
 pub mod FileOf
 pub mod Distance
 pub mod Walk
+pub mod Former
 pub mod Space
 pub mod Ranks
 pub mod Repair

@@ -8,7 +8,7 @@ use mathlib.Core.List.{List, [], _∷_, _++_, map, List·Memᴰ}
 use lib.Dec.{eqb, ltb}
 use lib.ListN.{getD, length}
 use Rattle.lfa.specs.Lists.{below, select, anyOf}
-use Rattle.lfa.specs.Network.{Arc, arc, Attachment, at, Target, router}
+use Rattle.lfa.specs.Network.{Arc, arc, Target, router, isAttached}
 use Rattle.lfa.specs.Distance.{unreachable, towards}
 use Rattle.lfa.specs.Walk.{Step, Delivers, isStep}
 
@@ -22,13 +22,9 @@ isStepTo d to x z (arc u v c l) = isStep d to x (arc u v c l) && eqb v z
 unfoldable pub nextRouters : ℕ → List Arc → (ℕ → ℕ → ℕ) → Target → ℕ → List ℕ
 nextRouters n hops d to x = select (λ z. anyOf (isStepTo d to x z) hops) (below n)
 
--- the attachment is x's, at this cost
-unfoldable pub attachedAt : ℕ → ℕ → Attachment → Bool
-attachedAt x cost (at a c) = eqb a x && eqb c cost
-
--- whether x may deliver
+-- whether x delivers
 unfoldable pub delivers : (ℕ → ℕ → ℕ) → Target → ℕ → Bool
-delivers d to x = ltb (towards d to x) unreachable && anyOf (attachedAt x (towards d to x)) to
+delivers d to x = ltb (towards d to x) unreachable && isAttached to x
 
 pub data Move : Type 0 where
   deliver : Move
@@ -38,23 +34,30 @@ unfoldable pub movesOf : Bool → List ℕ → List Move
 movesOf true zs = deliver ∷ map go zs
 movesOf false zs = map go zs
 
--- a move that a walk has at x
+-- a move that a walk by these steps and to these ends has at x
+abbrev pub HasMoveBy : (steps : ℕ → ℕ → ℕ → Type 0) → (ends : ℕ → Type 0) → ℕ → Move → Type 0
+HasMoveBy steps ends x deliver = ends x
+HasMoveBy steps ends x (go z) = (l : ℕ) × steps x z l
+
 abbrev pub HasMove : List Arc → (ℕ → ℕ → ℕ) → Target → ℕ → Move → Type 0
-HasMove hops d to x deliver = Delivers d to x
-HasMove hops d to x (go z) = (l : ℕ) × Step hops d to x z l
+HasMove hops d to = HasMoveBy (Step hops d to) (Delivers d to)
 
 -- each number is below those that follow
 pub data Ascending : List ℕ → Type 0 where
   nothing : Ascending []
   before : {x : ℕ} {l : List ℕ} → ((y : ℕ) → List·Memᴰ y l → x < y) → Ascending l → Ascending (x ∷ l)
 
--- "Options at a router stand with delivery first, then next routers ascending": these moves are the options at x
-pub record AreOptions (hops : List Arc) (d : ℕ → ℕ → ℕ) (to : Target) (x : ℕ) (moves : List Move) : Type 0 where
-  pub each : (m : Move) → List·Memᴰ m moves → HasMove hops d to x m
-  pub every : (m : Move) → HasMove hops d to x m → List·Memᴰ m moves
+-- "Options at a router stand with delivery first, then next routers ascending": these moves are the options at x. Since Point 4 an
+-- attached router has no next router, so that delivery is its only option.
+pub record AreOptionsBy (steps : ℕ → ℕ → ℕ → Type 0) (ends : ℕ → Type 0) (x : ℕ) (moves : List Move) : Type 0 where
+  pub each : (m : Move) → List·Memᴰ m moves → HasMoveBy steps ends x m
+  pub every : (m : Move) → HasMoveBy steps ends x m → List·Memᴰ m moves
   pub nexts : List ℕ
   pub ascending : Ascending nexts
   pub delivery-first : (moves ≡ deliver ∷ map go nexts) ⊎ (moves ≡ map go nexts)
+
+abbrev pub AreOptions : List Arc → (ℕ → ℕ → ℕ) → Target → ℕ → List Move → Type 0
+AreOptions hops d to = AreOptionsBy (Step hops d to) (Delivers d to)
 
 -- how they are computed
 unfoldable pub options : ℕ → List Arc → (ℕ → ℕ → ℕ) → Target → ℕ → List Move

@@ -1,3 +1,2 @@
 pub mod MemberLaws
-pub mod DeliveryLaws
 pub mod MoveLaws

@@ -3,19 +3,14 @@
 use Prim.Native.Nat.{ℕ, suc, _+_, _-_, _%_, _≤_, _<_}
 use mathlib.Core.Path.{_≡_, refl, sym, ap, _∙_}
 use mathlib.Core.Bool.{Bool, true, false}
-use mathlib.Core.Logic.{_⊎_, inl, inr}
 use mathlib.Core.List.{List, [], _∷_, map}
 use native.Mathlib.Nat.{mod-lt}
 use native.Mathlib.Omega.{arith}
-use lib.Dec.{leb}
 use lib.ListN.{length, getD, length-map}
-use borrow.Author.Tests.{le-ltb, lt-leb}
+use borrow.Author.Tests.{lt-ltb, le-ltb}
 use Rattle.lfa.specs.Route.{Move, deliver, go, movesOf, optionTaken}
-use Rattle.lfa.specs.Laws.Test.{fails-left, fails-right}
 use Rattle.lfa.specs.Laws.Chunks.{element-mapped}
-use Rattle.metric.specs.Column.{slotsIn}
-use Rattle.options.specs.Options.{deliversBy, membersOf, fits, moveBy}
-use Rattle.options.specs.Laws.Options.{all-fit}
+use Rattle.options.specs.Options.{deliversBy, membersOf, moveBy}
 
 -- ---- the option taken
 
@@ -53,18 +48,11 @@ module _ (ms : List ℕ) (byte : ℕ) where
 
 -- ---- the move
 
-module _ (next : ℕ) (routers costs : List ℕ) (slot count : ℕ) (target : List ℕ) (x byte : ℕ) where
-  -- some number is no cell of the columns
-  pub move-none : (1024 < slot + count) ⊎ (64 ≤ x) → deliver ≡ moveBy next routers costs slot count target x byte
-  unfolding moveBy fits
-  move-none o = rw (none-fit o, moveBy)
-    where
-      none-fit : (1024 < slot + count) ⊎ (64 ≤ x) → fits slot count x ≡ false
-      none-fit (inl s) = fails-left _ _ (lt-leb (slot + count) 1024 s)
-      none-fit (inr h) = fails-right (leb (slot + count) 1024) _ (le-ltb x 64 h)
-
-  -- all are
-  pub move-taken : {b : Bool} {m : Move} → slot + count ≤ 1024 → x < 64 → b ≡ deliversBy (getD target x 0) (slotsIn routers costs slot count) x →
-      m ≡ optionTaken (movesOf b (membersOf next)) byte → m ≡ moveBy next routers costs slot count target x byte
+module _ (next ends : ℕ) (target : List ℕ) (x byte : ℕ) where
+  pub move-none : 64 ≤ x → deliver ≡ moveBy next ends target x byte
   unfolding moveBy
-  move-taken s h eb e = rw (all-fit slot count x s h, moveBy) (e ∙ ap (λ (b : Bool). optionTaken (movesOf b (membersOf next)) byte) eb)
+  move-none h = rw (le-ltb x 64 h, moveBy)
+
+  pub move-taken : {b : Bool} {m : Move} → x < 64 → b ≡ deliversBy ends (getD target x 0) x → m ≡ optionTaken (movesOf b (membersOf next)) byte → m ≡ moveBy next ends target x byte
+  unfolding moveBy
+  move-taken h eb e = rw (lt-ltb x 64 h, moveBy) (e ∙ ap (λ (b : Bool). optionTaken (movesOf b (membersOf next)) byte) eb)

@@ -1,14 +1,12 @@
 // The options of a walk at a router, and the one that a choice byte takes.
 //
-// `move_at` takes any numbers. Where they are not cells of the columns, it delivers.
+// `move_at` takes any numbers. At a number that is not below 64 it delivers.
 ghost use mathlib.Core.Path.{_≡_};
-ghost use Prim.Native.Nat.{_+_, _≤_, _<_};
+ghost use Prim.Native.Nat.{_<_};
 ghost use lib.ListN.{getD};
 ghost use Rattle.lfa.specs.Route.{movesOf, optionTaken};
-ghost use Rattle.metric.specs.Column.{slotsIn};
 ghost use Rattle.options.specs.Options.{moveIn, deliversBy, membersOf, moveBy};
 use metric::Distance;
-use metric::read::cost_of;
 use metric::read::wide;
 
 // What an option does: it delivers the packet, or takes it to the next router.
@@ -17,31 +15,15 @@ pub enum Move {
     Go(usize),
 }
 
-// Whether x may deliver to the target whose first slot is `slot`.
-fn delivers(
-    at: &[u8; 1024],
-    own: &[u16; 1024],
-    slot: usize,
-    count: usize,
-    target: &[u32; 64],
-    x: usize,
-) -> bool
-    requires { ⌜ (slot + count ≤ 1024) × (x < 64) ⌝ }
-    ensures { λ r. ⌜ r ≡ deliversBy (getD (now (target .entry)) x 0) (slotsIn (now (at .entry)) (now (own .entry)) slot count) x ⌝ }
+// Whether x delivers: it is in the set of the routers attached to the target, and reaches it.
+fn delivers(ends: u64, target: &[u32; 64], x: usize) -> bool
+    requires { ⌜ x < 64 ⌝ }
+    ensures { λ r. ⌜ r ≡ deliversBy ends (getD (now (target .entry)) x 0) x ⌝ }
 {
-    let d = target[x];
-    if Distance::UNREACHABLE <= d {
+    if Distance::UNREACHABLE <= target[x] {
         return false;
     }
-    let mut s = 0;
-    while s < count {
-        let k = slot + s;
-        if wide(at[k]) == x && cost_of(own[k]) == d {
-            return true;
-        }
-        s += 1;
-    }
-    false
+    (ends >> x) & 1 == 1
 }
 
 // The member of a set with k members before it, and 0 where the set has none such.
@@ -80,28 +62,14 @@ fn option_taken(deliver: bool, next: u64, byte: u8) -> Move
     Move::Go(member(next, number - 1))
 }
 
-// The option that a choice byte takes at router x, whose next routers are the set `next`.
-pub fn move_at<'a>(
-    next: u64,
-    at: &'a [u8; 1024],
-    own: &'a [u16; 1024],
-    slot: usize,
-    count: usize,
-    target: &'a [u32; 64],
-    x: usize,
-    byte: u8,
-) -> Move
-    ensures { λ r. ⌜ moveIn r ≡ moveBy next (now (at .entry)) (now (own .entry)) slot count (now (target .entry)) x byte ⌝ }
+// The option that a choice byte takes at router x, whose next routers are the set `next`; the routers attached to the target are the set
+// `ends`.
+pub fn move_at(next: u64, ends: u64, target: &[u32; 64], x: usize, byte: u8) -> Move
+    ensures { λ r. ⌜ moveIn r ≡ moveBy next ends (now (target .entry)) x byte ⌝ }
 {
-    if 1024 < slot {
-        return Move::Deliver;
-    }
-    if 1024 - slot < count {
-        return Move::Deliver;
-    }
     if 64 <= x {
         return Move::Deliver;
     }
-    let deliver = delivers(at, own, slot, count, target, x);
+    let deliver = delivers(ends, target, x);
     option_taken(deliver, next, byte)
 }

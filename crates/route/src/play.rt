@@ -1,5 +1,6 @@
 // The play of a route: it writes the repairing router and the first hop, goes the leg through the tunnel, and then the leg from the
 // endpoint on to delivery.
+use column::attached_routers;
 use column::towards_prefix;
 use options::Move;
 use options::move_at;
@@ -23,7 +24,7 @@ struct Progress {
 
 // Goes one leg from router `start` towards the target whose `count` attachments start at slot `slot`, with `used` choice bytes used and
 // `written` routers in the buffer before, and returns both numbers as they are then. A choice byte is used at each router but `stop`,
-// where the leg ends; it also ends where an option delivers. With each step the distance to the target falls.
+// where the leg ends; it also ends at the first attached router, which delivers. With each step the distance to the target falls.
 fn leg<'a>(
     dist: &[u32],
     n: usize,
@@ -52,7 +53,8 @@ fn leg<'a>(
         × (now (buffer .exit) ≡ (take written (now (buffer .entry)) ++ rs) ++ drop (r .written) (now (buffer .entry)))) ⌝ }
 {
     let target = towards_prefix(dist, n, at, own, slot, count);
-    let nexts = next_routers(links, from, to, out, back, 0, &target);
+    let ends = attached_routers(at, slot, count);
+    let nexts = next_routers(links, from, to, out, back, ends, &target);
     let mut x = start;
     let mut next = used;
     let mut k = written;
@@ -62,7 +64,7 @@ fn leg<'a>(
         }
         let byte = choice(choices, next);
         next += 1;
-        let taken = move_at(nexts[x], at, own, slot, count, &target, x, byte);
+        let taken = move_at(nexts[x], ends, &target, x, byte);
         let Move::Go(z) = taken else {
             break k;
         };

@@ -12,7 +12,7 @@ use Rattle.lfa.specs.Space.{Protected, Space}
 use Rattle.lfa.specs.Repair.{Outcome, prefixUnreachable, prefixUntouched, noneServes}
 use Rattle.network_file.specs.declared.network.Network.{Network}
 use Rattle.metric.specs.Columns.{arcsIn}
-use Rattle.column.specs.Calls.{routerColumn, prefixColumn}
+use Rattle.column.specs.Calls.{routerColumn, prefixColumn, attachedSet}
 use Rattle.avoid.specs.Calls.{readable}
 use Rattle.search.specs.Hops.{protectedIn}
 use Rattle.steps.specs.Crossing.{stepsOver, avoidingBySteps}
@@ -73,6 +73,10 @@ linkBy network ranks link end area = linkIf ranks (searches network link end are
 abbrev pub columnTo : Network → (prefix : ℕ) → (area : List ℕ) → List ℕ
 columnTo network prefix area = prefixColumn (network .routers) (network .at) (network .own) (8 * prefix) (getD (network .attached) prefix 0) area
 
+-- the routers at which every walk towards a prefix ends: the attached ones
+abbrev pub endsTo : Network → (prefix : ℕ) → ℕ
+endsTo network prefix = attachedSet (network .at) (8 * prefix) (getD (network .attached) prefix 0)
+
 -- the routers from which the second leg avoids the link
 abbrev pub onwardTo : Network → (link end ends : ℕ) → (column : List ℕ) → ℕ
 onwardTo network link end ends column = avoidingBySteps (network .routers) (network .links) (network .from) (network .to) (network .out) (network .back) (protectedOf network link end) ends column
@@ -81,4 +85,5 @@ onwardTo network link end ends column = avoidingBySteps (network .routers) (netw
 unfoldable pub prefixBy : Network → (ranks : List ℕ) → (link end prefix : ℕ) → (area : List ℕ) → Outcome
 prefixBy network ranks link end prefix area =
     let column = columnTo network prefix area in
-    prefixIf ranks (ltb prefix 128 && searches network link end area) (network .routers) (hopsOf network) (protectedOf network link end) area 0 column (onwardTo network link end 0 column)
+    let ends = endsTo network prefix in
+    prefixIf ranks (ltb prefix 128 && searches network link end area) (network .routers) (hopsOf network) (protectedOf network link end) area ends column (onwardTo network link end ends column)

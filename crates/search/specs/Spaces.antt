@@ -15,7 +15,7 @@ use Rattle.search.specs.declared.Which.the-variants.{P, ExtendedP, Q}
 abbrev pub avoidedFrom : (n : ℕ) → Protected → (area : List ℕ) → (x : ℕ) → ℕ
 avoidedFrom n q area x = avoidingFrom n q area area x
 
--- the routers that avoid the link on the way to a target; a column holds the distances to it
+-- the routers that avoid the link on the way to a target, by the distances; a column holds those to it
 abbrev pub avoidingIn : (n : ℕ) → Protected → (area column : List ℕ) → ℕ
 avoidingIn n q area column = avoidingTo n q (λ x. getD column x 0) area (λ x. getD column x 0)
 

@@ -2,6 +2,7 @@
 //
 // Each function takes any numbers, and answers by the numbers that the table and the columns hold. Where the columns have no cell for the
 // link or the prefix, or no distances can be read for the link's ends, a space is empty, and nothing is found.
+use column::attached_routers;
 use column::towards_prefix;
 use metric::read::wide;
 use network_file::network::Network;
@@ -95,7 +96,7 @@ pub fn link_pair(network: Network, ranks: &[u8], link: usize, end: usize, dist: 
     )
 }
 
-// The pair that repairs the traffic to a prefix, where it may cross the link.
+// The pair that repairs the traffic to a prefix, where it may cross the link. A walk towards the prefix ends at an attached router.
 pub fn prefix_pair(
     network: Network,
     ranks: &[u8],
@@ -116,6 +117,7 @@ pub fn prefix_pair(
     let links = network.links;
     let count = wide(network.attached[prefix]);
     let target = towards_prefix(dist, n, &network.at, &network.own, 8 * prefix, count);
+    let ends = attached_routers(&network.at, 8 * prefix, count);
     let protected = protect(
         &network.from,
         &network.to,
@@ -134,7 +136,7 @@ pub fn prefix_pair(
         &network.out,
         &network.back,
         protected,
-        0,
+        ends,
         &target,
     )
 }

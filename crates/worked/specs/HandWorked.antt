@@ -1,5 +1,5 @@
--- "Hand-worked networks": the starred rows, as one table, what ranks do (Point 2) as another, and the lone theorem that the definitions
--- yield every row of both. Each is asked through the definitions that the public contracts cite, from the bytes of its network's file.
+-- "Hand-worked networks": the starred rows, as one table, what ranks do (Point 2) and where walks end (Point 4) as others, and the lone
+-- theorem that the definitions yield every row of them. Each is asked through the definitions that the public contracts cite, from the bytes of its network's file.
 -- Assumes nothing.
 use Prim.Native.Nat.{ℕ, _+_, _^_}
 use mathlib.Core.Path.{_≡_, refl, sym, ap, _∙_}
@@ -8,7 +8,7 @@ use mathlib.Core.Option.{none}
 use mathlib.Core.List.{List, [], _∷_, List·Memᴰ}
 use native.Mathlib.Omega.{arith}
 use Rattle.lfa.specs.Lists.{countUp, below, select, anyOf, everyBelow, memberOf, flat, count, firstFailing, unless, table, cell}
-use Rattle.lfa.specs.Network.{Network, link, Target, at, router, arcs, arcsFrom}
+use Rattle.lfa.specs.Network.{Network, link, Target, at, router, attachmentOf, isAttached, arcs, arcsFrom}
 use Rattle.lfa.specs.File.{byteAt, wordAt, partOf, allZero, blocksIn, blockOf, sumWords, checkOf, routersOf, linksOf, prefixesOf, ceil, linkBlocks, prefixBlocks, blocksNeeded, linkEntry, linkIn, prefixEntry, attachments, slotRouter, slot, prefixIn, linkOf, prefixOf, networkOf, lengthGood, checkGood, headGood, blockCountGood, laterGood, entriesIn, soundBlock, blockGood, soundLink, linkGood, joinSame, linkNew, slotGood, soundPrefix, prefixGood, slotNew, routersNew}
 use Rattle.lfa.specs.FileOf.{fileOf, blocksOf, prefixBlock, linkBlock, entriesBlock, prefixBytes, slotBytes, linkBytes, headBlock, blockBytes, pad, wordBytes}
 use Rattle.lfa.specs.Ring.{nextOnRing, ringLink, ringOf}
@@ -17,9 +17,9 @@ use Rattle.lfa.specs.Walk.{isStep, leads, takers, over, overFrom, avoids, cross
 use Rattle.lfa.specs.Space.{underMaintenance, Protected, Space, pSpace, extendedP, qSpace, protectedBy, protected, isFirst, hopOver, firstHops, inSpace, setOf, spaceOf}
 use Rattle.lfa.specs.Ranks.{ascending, timesGiven, isArrangement}
 use Rattle.lfa.specs.Repair.{Pair, isEndpoint, pairsOf, pairs, serves, mayCross, orElse, classOf, toldOf, Keys, keysOf, key, noLater, earlier, choose, pairKey, firstPair, outcomeOf, linkOutcome, prefixOutcome}
-use Rattle.lfa.specs.Route.{isStepTo, nextRouters, attachedAt, delivers, movesOf, options, choiceAt, optionTaken, playTo, playOn, routeOf}
+use Rattle.lfa.specs.Route.{isStepTo, nextRouters, delivers, movesOf, options, choiceAt, optionTaken, playTo, playOn, routeOf}
 use Rattle.lfa.specs.Laws.Turned.{early-given}
-use mathlib.Core.Bool.{true}
+use mathlib.Core.Bool.{Bool, true, false}
 use Rattle.lfa.specs.Question.{Question, routeBuffer, aLink, inputsOf, inputNumber, hasInput, HasInput, loading, askSpace, askLink, askPrefix, askRoute, networkAsked, linkAsked, prefixAsked, withDistances, linkFound, prefixFound, searched, ifNone}
 use Rattle.lfa.specs.Refusal.{EarlyRow, shortArea, shortBuffer, badRanks, noSuchLink, EarlyApplies, triesEarly, fileReturned, returned, fileNumber, entryOf, fileRows, earlyRows, questionRows, allRows, tries, rowsTried, firstRow, inFile, fileRefusal, refusalOf, sizedReturned}
 use Rattle.lfa.specs.Answer.{Answer, refused, accepted, set, repair, played, untouched, refusal, routeFor, routePlayed, repairAnswer, routeAnswer, computed, answerTo, writtenTo, leave, exitBy, exitOf}
@@ -37,6 +37,18 @@ ring4prefix = ring 4 ((at 1 0 ∷ at 2 0 ∷ []) ∷ [])
 -- ring 5, "Prefix at 1, cost 0"
 unfoldable pub ring5prefix : Network
 ring5prefix = ring 5 ((at 1 0 ∷ []) ∷ [])
+
+-- ring 4, prefix at 1 for 0, and at one router more
+unfoldable pub ring4attached : (router cost : ℕ) → Network
+ring4attached r c = ring 4 ((at 1 0 ∷ at r c ∷ []) ∷ [])
+
+-- ring 5, prefix at 1 for 0 and at 3 for 9
+unfoldable pub ring5attached : Network
+ring5attached = ring 5 ((at 1 0 ∷ at 3 9 ∷ []) ∷ [])
+
+-- ring 4 with link 0 costing 3 both ways, prefix at 1 for 0 and at 3 for 100
+unfoldable pub ring4cost3 : Network
+ring4cost3 = record { routers = 4; links = link 0 1 3 3 ∷ link 1 2 1 1 ∷ link 2 3 1 1 ∷ link 3 0 1 1 ∷ []; prefixes = (at 1 0 ∷ at 3 100 ∷ []) ∷ [] }
 
 -- ring 3, "With cost 2 from 2 to 1"
 unfoldable pub ring3cost2 : Network
@@ -120,6 +132,21 @@ ranked =
     ∷ asked (askRoute (fileOf ring4prefix) 4096 7 [] 0 0 0 []) (refused 11 8)
     ∷ []
 
+-- Point 4: a first hop that is attached serves as its own endpoint, though its own cost is 100 and a walk from it crossed the link before:
+-- D(3,0) + 1 + D(1,p) = D(3,p). An attached S is untouched. The class goes by D(3,p), which is 2 and below D(0,p), not by the own cost 100.
+-- A tunnel passes an attached router: that of ring 5 leads from 4 over 3 to 2.
+unfoldable pub ended : List Worked
+ended =
+    asked (forPrefix 0 0 (ring4attached 3 100)) (told 3 3 1 1)
+    ∷ route (forRoute (ring4attached 3 100)) (played 2) (0 ∷ 3 ∷ [])
+    ∷ asked (forPrefix 3 0 (ring4attached 3 100)) untouched
+    ∷ asked (forPrefix 2 1 (ring4attached 3 100)) untouched
+    ∷ asked (forPrefix 0 0 (ring4attached 0 50)) untouched
+    ∷ asked (forPrefix 0 0 ring4cost3) (told 3 3 0 1)
+    ∷ asked (forPrefix 0 0 ring5attached) (told 4 2 3 3)
+    ∷ route (forRoute ring5attached) (played 5) (0 ∷ 4 ∷ 3 ∷ 2 ∷ 1 ∷ [])
+    ∷ []
+
 -- what the definitions answer to the question of a row, in the row's form
 unfoldable pub yielded : Worked → Worked
 yielded (asked q a) = asked q (answerTo q)
@@ -131,7 +158,7 @@ yieldedAll (w ∷ ws) = yielded w ∷ yieldedAll ws
 
 -- to unfold this is to unfold every definition that an answer rests on
 unfoldable opened : Unit {0}
-unfolding countUp below select anyOf everyBelow memberOf flat count firstFailing unless table cell timesGiven isArrangement router arcs arcsFrom byteAt wordAt partOf allZero blocksIn blockOf sumWords checkOf routersOf linksOf prefixesOf ceil linkBlocks prefixBlocks blocksNeeded linkEntry linkIn prefixEntry attachments slotRouter slot prefixIn linkOf prefixOf networkOf lengthGood checkGood headGood blockCountGood laterGood entriesIn soundBlock blockGood soundLink linkGood joinSame linkNew slotGood soundPrefix prefixGood slotNew routersNew fileOf blocksOf prefixBlock linkBlock entriesBlock prefixBytes slotBytes linkBytes headBlock blockBytes pad wordBytes least costOver towards hopCost direct through stage distances distanceIn isStep leads takers over overFrom avoids crosses protectedBy protected isFirst hopOver firstHops inSpace setOf spaceOf isEndpoint pairsOf pairs serves mayCross orElse classOf toldOf key noLater earlier choose pairKey firstPair outcomeOf linkOutcome prefixOutcome isStepTo nextRouters attachedAt delivers movesOf options choiceAt optionTaken playTo playOn routeOf answerTo routePlayed loading askSpace askLink askPrefix askRoute networkAsked linkAsked prefixAsked withDistances linkFound prefixFound searched inputsOf inputNumber hasInput ifNone fileReturned returned sizedReturned fileNumber entryOf fileRows earlyRows questionRows allRows tries rowsTried firstRow inFile fileRefusal refusalOf refusal routeFor repairAnswer routeAnswer computed writtenTo leave exitBy exitOf
+unfolding countUp below select anyOf everyBelow memberOf flat count firstFailing unless table cell timesGiven isArrangement router arcs arcsFrom byteAt wordAt partOf allZero blocksIn blockOf sumWords checkOf routersOf linksOf prefixesOf ceil linkBlocks prefixBlocks blocksNeeded linkEntry linkIn prefixEntry attachments slotRouter slot prefixIn linkOf prefixOf networkOf lengthGood checkGood headGood blockCountGood laterGood entriesIn soundBlock blockGood soundLink linkGood joinSame linkNew slotGood soundPrefix prefixGood slotNew routersNew fileOf blocksOf prefixBlock linkBlock entriesBlock prefixBytes slotBytes linkBytes headBlock blockBytes pad wordBytes least costOver towards hopCost direct through stage distances distanceIn attachmentOf isAttached isStep leads takers over overFrom avoids crosses protectedBy protected isFirst hopOver firstHops inSpace setOf spaceOf isEndpoint pairsOf pairs serves mayCross orElse classOf toldOf key noLater earlier choose pairKey firstPair outcomeOf linkOutcome prefixOutcome isStepTo nextRouters delivers movesOf options choiceAt optionTaken playTo playOn routeOf answerTo routePlayed loading askSpace askLink askPrefix askRoute networkAsked linkAsked prefixAsked withDistances linkFound prefixFound searched inputsOf inputNumber hasInput ifNone fileReturned returned sizedReturned fileNumber entryOf fileRows earlyRows questionRows allRows tries rowsTried firstRow inFile fileRefusal refusalOf refusal routeFor repairAnswer routeAnswer computed writtenTo leave exitBy exitOf
 opened = tt
 
 -- the table; the lone router's "any link question" follows
@@ -142,6 +169,14 @@ rows-yielded = refl
 ranked-yielded : yieldedAll ranked ≡ ranked
 unfolding opened nextOnRing ringLink ringOf ring ring4prefix told ranked yielded yieldedAll
 ranked-yielded = refl
+
+ended-yielded : yieldedAll ended ≡ ended
+unfolding opened nextOnRing ringLink ringOf ring ring4attached ring4cost3 ring5attached told ended yielded yieldedAll
+ended-yielded = refl
+
+-- router 3 avoids link 0 of ring 4 to a prefix that is attached there too, and not to one at 1 alone
+unfoldable pub ring4avoids : Target → Bool
+ring4avoids to = avoids 4 (arcs (ring 4 [])) (distanceIn (distances (ring 4 []))) to 0 3
 
 -- ---- "One router alone: accepted; any link question 12, value 0."
 
@@ -186,11 +221,13 @@ ring5keys p = keysOf ascending ring5d ring5link (toldOf ring5d ring5link (router
 pub record Yielded : Type 0 where
   pub rows : yieldedAll starred ≡ starred
   pub by-ranks : yieldedAll ranked ≡ ranked
+  pub by-ends : yieldedAll ended ≡ ended
+  pub ring-4-avoids : (ring4avoids (at 1 0 ∷ at 3 100 ∷ []) ≡ true) × (ring4avoids (at 1 0 ∷ []) ≡ false)
   pub ring-5-tie : (serves 5 (arcs (ring 5 [])) ring5d ring5link (router 1) (overHop4 3) ≡ true)
       × (ring5keys (overHop4 3) .rank ≡ ring5keys (overHop4 2) .rank)
       × (ring5keys (overHop4 3) .distance ≡ ring5keys (overHop4 2) .distance)
   pub lone : (q : Question) → q .file ≡ fileOf oneRouter → NoneBefore12 q → HasInput q aLink → answerTo q ≡ refused 12 0
 
 pub hand-worked : Yielded
-unfolding opened nextOnRing ringLink ringOf ring ring5d ring5link overHop4 ring5keys
-hand-worked = record { rows = rows-yielded; by-ranks = ranked-yielded; ring-5-tie = (refl, refl, refl); lone = lone-refused }
+unfolding opened nextOnRing ringLink ringOf ring ring4avoids ring5d ring5link overHop4 ring5keys
+hand-worked = record { rows = rows-yielded; by-ranks = ranked-yielded; by-ends = ended-yielded; ring-4-avoids = (refl, refl); ring-5-tie = (refl, refl, refl); lone = lone-refused }

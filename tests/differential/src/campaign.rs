@@ -4,6 +4,7 @@ use crate::call::{Planner, Told};
 use crate::compare::{Asked, Compared, Heard, compare};
 use crate::coverage::Coverage;
 use crate::files::NamedFile;
+use crate::legs::{Pairs, walk_told};
 use crate::networks::Named;
 use crate::questions;
 use crate::routes::{Asking, Rules, follow_heard};
@@ -103,6 +104,8 @@ pub struct Report {
     /// Routes that were followed hop by hop.
     pub routes: u64,
     pub hops: u64,
+    /// Pairs of which every walk of both legs was followed.
+    pub pairs: Pairs,
     pub coverage: Coverage,
     /// Each difference in words, with the file and the question.
     pub differences: Vec<String>,
@@ -114,6 +117,7 @@ impl Report {
         self.calls += other.calls;
         self.routes += other.routes;
         self.hops += other.hops;
+        self.pairs.add(&other.pairs);
         self.coverage.add(&other.coverage);
         self.differences.extend(other.differences);
     }
@@ -148,9 +152,12 @@ pub fn run(planner: &dyn Planner, cases: &[Case]) -> Report {
 }
 
 fn run_case(planner: &dyn Planner, case: &Case) -> Report {
-    let (ctx, ctx_before) = (Context::sound(), Context::with(&[Fault::NOTHING_LEFT_OUT]));
+    let ctx = Context::sound();
+    let [all_in_use, passed] = [Fault::NOTHING_LEFT_OUT, Fault::AttachedPassed]
+        .map(|as_before| Context::with(&[as_before]));
     let opened = Opened::new(&ctx, &case.file);
-    let before = Opened::new(&ctx_before, &case.file);
+    let before_maintenance = Opened::new(&all_in_use, &case.file);
+    let before_attached = Opened::new(&passed, &case.file);
     let network = case.network().unwrap_or_default();
     let rules = Rules::of(&network);
     let mut report = Report { files: 1, ..Report::default() };
@@ -159,12 +166,16 @@ fn run_case(planner: &dyn Planner, case: &Case) -> Report {
         let compared = compare(planner, &opened, &case.file, &asked);
         report.calls += 1;
         report.coverage.call(&opened, &asked, &compared.expected);
-        report.coverage.maintenance(&opened, &before, &asked, &compared.expected);
+        report.coverage.maintenance(&opened, &before_maintenance, &asked, &compared.expected);
+        report.coverage.attached(&opened, &before_attached, &asked, &compared.expected);
         report.coverage.ranks(&opened, &asked, &compared.expected);
         pairs.remember(&asked.question, &compared.heard.told);
         let wrong = match &compared.difference {
             Some(difference) => Some(difference.clone()),
-            None => wrong_route(&rules, &mut report, &pairs, &asked, &compared),
+            None => wrong_route(&rules, &mut report, &pairs, &asked, &compared).or_else(|| {
+                let told = &compared.heard.told;
+                walk_told(&rules, &asked.question, told, &mut report.pairs).err()
+            }),
         };
         if let Some(wrong) = wrong {
             let shown = case.shown();

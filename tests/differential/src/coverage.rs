@@ -1,6 +1,7 @@
 //! What a run met. A run that meets too little shows too little, so tests
 //! assert that each thing that can happen did happen.
 
+use crate::attached;
 use crate::compare::Asked;
 use crate::maintenance;
 use crate::ranks;
@@ -30,8 +31,6 @@ pub mod thing {
     pub const PREFIX_UNREACHABLE: &str = "prefix repair: unreachable";
     pub const ROUTE_UNREACHABLE: &str = "route: unreachable";
     pub const PLAYED: &str = "route: played";
-    pub const DELIVERED: &str = "route: delivered where it might have stepped on";
-    pub const STEPPED: &str = "route: stepped on where it might have delivered";
     pub const CHOICE: &str = "route: a choice between two or more options";
     pub const FEWEST: &str = "network: 1 router, no link and no prefix";
     pub const MOST: &str = "network: 64 routers, 128 links and 128 prefixes";
@@ -40,7 +39,7 @@ pub mod thing {
     pub const E_TO_S: &str = "extended P: a router out of it by a crossing from E to S alone";
 
     /// All of them.
-    pub const ALL: [&str; 22] = [
+    pub const ALL: [&str; 20] = [
         ACCEPTED,
         ENTRY,
         NO_ENTRY,
@@ -55,8 +54,6 @@ pub mod thing {
         PREFIX_UNREACHABLE,
         ROUTE_UNREACHABLE,
         PLAYED,
-        DELIVERED,
-        STEPPED,
         CHOICE,
         FEWEST,
         MOST,
@@ -175,8 +172,9 @@ impl Coverage {
     /// Counts what a played route met.
     pub fn route(&mut self, met: &Met) {
         self.met(thing::CHOICE, met.choices as u64);
-        self.met(thing::DELIVERED, met.delivered_by_choice as u64);
-        self.met(thing::STEPPED, met.stepped_by_choice as u64);
+        self.met(attached::thing::PLAYED_NEAR, u64::from(met.delivered_near));
+        self.met(attached::thing::PLAYED_DEAR, u64::from(met.delivered_dear));
+        self.met(attached::thing::PLAYED_PAST, met.passed as u64);
         self.met(maintenance::thing::PLAYED, met.maintained as u64);
     }
 
@@ -199,6 +197,7 @@ impl Display for Coverage {
 pub fn everything() -> Vec<String> {
     let mut things: Vec<String> = thing::ALL.map(str::to_string).into();
     things.extend(of_repairs());
+    things.extend(attached::thing::ALL.map(str::to_string));
     things.extend(maintenance::thing::ALL.map(str::to_string));
     things.extend(ranks::things());
     things.extend(writing::things());

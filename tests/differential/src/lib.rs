@@ -6,12 +6,14 @@
 //! call is compared whole: its answer, every cell of every buffer lent to it,
 //! and the guard cells around each buffer.
 
+pub mod attached;
 pub mod c_interface;
 pub mod call;
 pub mod campaign;
 pub mod compare;
 pub mod coverage;
 pub mod files;
+pub mod legs;
 pub mod lent;
 pub mod library;
 pub mod maintenance;

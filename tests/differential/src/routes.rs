@@ -39,10 +39,13 @@ pub struct Met {
     pub hops: usize,
     /// Routers with more than one option.
     pub choices: usize,
-    /// Routers that might have stepped on, and delivered.
-    pub delivered_by_choice: usize,
-    /// Routers that might have delivered, and stepped on.
-    pub stepped_by_choice: usize,
+    /// Whether it was delivered though a step was tight, the own cost of the
+    /// router being its distance.
+    pub delivered_near: bool,
+    /// Whether it was delivered by a router whose own cost is above its distance.
+    pub delivered_dear: bool,
+    /// Attached routers that the tunnel passed.
+    pub passed: usize,
     /// Hops over a link under maintenance.
     pub maintained: usize,
 }
@@ -62,7 +65,7 @@ impl<'a> Rules<'a> {
     }
 
     /// D(x,p): the least of D(x,a) plus a's cost to p over its attachments a.
-    fn to_prefix(&self, x: usize, prefix: &Prefix) -> u64 {
+    pub(crate) fn to_prefix(&self, x: usize, prefix: &Prefix) -> u64 {
         let attachments = prefix.attachments.iter();
         let sums = attachments.map(|attached| {
             self.distance[x][usize::from(attached.router)] + u64::from(attached.cost)
@@ -70,17 +73,31 @@ impl<'a> Rules<'a> {
         sums.min().unwrap_or(FAR)
     }
 
-    /// Whether x may deliver: it is attached, and its own cost is D(x,p).
-    fn may_deliver(&self, x: usize, prefix: &Prefix) -> bool {
-        prefix.attachments.iter().any(|attached| {
-            usize::from(attached.router) == x
-                && u64::from(attached.cost) == self.to_prefix(x, prefix)
-        })
+    /// D(x,t).
+    pub(crate) fn to_router(&self, x: usize, t: usize) -> u64 {
+        self.distance[x][t]
+    }
+
+    /// N.
+    pub(crate) fn routers(&self) -> usize {
+        self.cost.len()
+    }
+
+    /// The prefixes.
+    pub(crate) fn prefixes(&self) -> &[Prefix] {
+        &self.network.prefixes
+    }
+
+    /// S and E of a link and an end.
+    pub(crate) fn ends(&self, link: usize, end: u64) -> Option<(usize, usize)> {
+        let ends = self.network.links.get(link)?;
+        let (a, b) = (usize::from(ends.a), usize::from(ends.b));
+        Some(if end == 0 { (a, b) } else { (b, a) })
     }
 
     /// The next routers of a walk at x, ascending: the cost x to z plus the
     /// distance from z equals the finite distance from x.
-    fn next_routers(&self, x: usize, remaining: impl Fn(usize) -> u64) -> Vec<usize> {
+    pub(crate) fn next_routers(&self, x: usize, remaining: impl Fn(usize) -> u64) -> Vec<usize> {
         let steps =
             |z: &usize| self.cost[x][*z].is_some_and(|cost| cost + remaining(*z) == remaining(x));
         let routers = if remaining(x) < FAR { 0..self.cost.len() } else { 0..0 };
@@ -89,9 +106,7 @@ impl<'a> Rules<'a> {
 
     /// Follows a route from hop to hop. The error says which rule is broken.
     pub fn follow(&self, asking: &Asking, route: &[u8]) -> Result<Met, String> {
-        let ends = self.network.links.get(asking.link).ok_or("there is no such link")?;
-        let (a, b) = (usize::from(ends.a), usize::from(ends.b));
-        let (s, e) = if asking.end == 0 { (a, b) } else { (b, a) };
+        let (s, e) = self.ends(asking.link, asking.end).ok_or("there is no such link")?;
         let route: Vec<usize> = route.iter().map(|router| usize::from(*router)).collect();
         self.hops_are_links(&route, (s, e))?;
         let (n, y) = asking.pair;
@@ -101,9 +116,11 @@ impl<'a> Rules<'a> {
         if self.maintained(s, n) {
             return Err(format!("the first hop {n} is under maintenance"));
         }
+        let prefix = &self.network.prefixes[asking.prefix];
         let mut walk = Walk { rules: self, route: &route, at: 1, used: 0, met: Met::default() };
         walk.tunnel(y, asking.choices)?;
-        walk.deliver(&self.network.prefixes[asking.prefix], asking.choices)?;
+        walk.met.passed = route[1..walk.at].iter().filter(|x| attached(prefix, **x)).count();
+        walk.deliver(prefix, asking.choices)?;
         let maintained = route.windows(2).filter(|hop| self.maintained(hop[0], hop[1])).count();
         Ok(Met { hops: route.len() - 1, maintained, ..walk.met })
     }
@@ -197,31 +214,33 @@ impl Walk<'_> {
         self.fewer_than_n(start)
     }
 
-    /// The steps from y to delivery, each on a shortest path to the prefix,
-    /// fewer than N. Delivery stands before the next routers.
+    /// The steps from y to delivery, each on a shortest path to the prefix, fewer
+    /// than N. At the first attached router delivery is the only option.
     fn deliver(&mut self, prefix: &Prefix, choices: &[u8]) -> Result<(), String> {
         let start = self.at;
-        loop {
+        while !attached(prefix, self.route[self.at]) {
             let here = self.route[self.at];
             let nexts = self.rules.next_routers(here, |z| self.rules.to_prefix(z, prefix));
-            let delivery = usize::from(self.rules.may_deliver(here, prefix));
-            let options = delivery + nexts.len();
-            if options == 0 {
+            if nexts.is_empty() {
                 return Err(format!("router {here} can neither deliver nor step"));
             }
-            let option = self.option(choices, options);
-            let either = delivery == 1 && options > 1;
-            if option < delivery {
-                self.met.delivered_by_choice += usize::from(either);
-                break;
-            }
-            self.met.stepped_by_choice += usize::from(either);
-            self.step(nexts[option - delivery])?;
+            let option = self.option(choices, nexts.len());
+            self.step(nexts[option])?;
         }
         if self.at + 1 != self.route.len() {
             return Err("the route goes on after delivery".to_string());
         }
+        self.delivered(prefix);
         self.fewer_than_n(start)
+    }
+
+    /// What delivery at the last router met.
+    fn delivered(&mut self, prefix: &Prefix) {
+        let here = self.route[self.at];
+        let distance = self.rules.to_prefix(here, prefix);
+        let nexts = self.rules.next_routers(here, |z| self.rules.to_prefix(z, prefix));
+        self.met.delivered_dear = own_cost(prefix, here) > Some(distance);
+        self.met.delivered_near = !self.met.delivered_dear && !nexts.is_empty();
     }
 
     fn fewer_than_n(&self, start: usize) -> Result<(), String> {
@@ -230,6 +249,17 @@ impl Walk<'_> {
         }
         Err("a leg has N hops or more".to_string())
     }
+}
+
+/// A router's own cost to a prefix that it is attached to.
+pub(crate) fn own_cost(prefix: &Prefix, x: usize) -> Option<u64> {
+    let own = prefix.attachments.iter().find(|own| usize::from(own.router) == x);
+    own.map(|own| u64::from(own.cost))
+}
+
+/// Whether x is attached to a prefix. Then it delivers, whatever its own cost is.
+pub(crate) fn attached(prefix: &Prefix, x: usize) -> bool {
+    own_cost(prefix, x).is_some()
 }
 
 /// Follows a route that a planner wrote, and looks at the bytes after it.

@@ -1,6 +1,7 @@
 //! Played routes hop by hop: many routes where many paths are equal, and the
 //! rules that they are held against, tried on routes that break them.
 
+use differential::attached::thing::{PLAYED_DEAR, PLAYED_NEAR};
 use differential::campaign::{Breadth, Case, run};
 use differential::coverage::thing;
 use differential::library::Library;
@@ -8,7 +9,7 @@ use differential::networks::{Size, of_family};
 use differential::routes::{Asking, Rules};
 use oracle::generate::Family;
 use oracle::network::Network;
-use oracle::worked::{grid, ring};
+use oracle::worked::{attached_tunnel, grid, ring};
 
 /// Routers and prefixes enough for choices on most routes.
 const CHOICES: Size = Size { name: "choices", routers: (9, 20), prefixes: (2, 6) };
@@ -23,7 +24,7 @@ fn many_routes_where_many_paths_are_equal() {
     let report = run(&Library, &cases.collect::<Vec<Case>>());
     println!("{}", report.summary());
     report.assert_same();
-    let things = [thing::PLAYED, thing::CHOICE, thing::DELIVERED, thing::STEPPED];
+    let things = [thing::PLAYED, thing::CHOICE, PLAYED_NEAR, PLAYED_DEAR];
     report.assert_met(&things.map(str::to_string));
     assert!(report.routes > 5000, "only {} routes were followed", report.routes);
 }
@@ -93,13 +94,26 @@ fn a_first_hop_under_maintenance_is_noticed() {
 }
 
 #[test]
-fn delivery_or_a_step_is_counted() {
-    let network = ring(4).prefix(&[(1, 0), (2, 0), (3, 1)]);
+fn delivery_is_the_only_option() {
+    // Router 3 is attached, at its distance and above it.
+    for (own, near) in [(1, true), (2, false), (65_535, false)] {
+        let network = ring(4).prefix(&[(1, 0), (2, 0), (3, own)]);
+        let rules = Rules::of(&network);
+        for choices in [&[][..], &[1], &[255]] {
+            let met = rules.follow(&asking((3, 3), choices), &[0, 3]).expect("it delivers");
+            assert_eq!((met.delivered_near, met.delivered_dear, met.choices), (near, !near, 0));
+            assert!(rules.follow(&asking((3, 3), choices), &[0, 3, 2]).is_err());
+        }
+    }
+}
+
+#[test]
+fn a_tunnel_that_ends_at_an_attached_router_is_noticed() {
+    let network = attached_tunnel();
     let rules = Rules::of(&network);
-    let delivered = rules.follow(&asking((3, 3), &[]), &[0, 3]).expect("it delivers at once");
-    assert_eq!((delivered.delivered_by_choice, delivered.stepped_by_choice), (1, 0));
-    let stepped = rules.follow(&asking((3, 3), &[1]), &[0, 3, 2]).expect("it steps on");
-    assert_eq!((stepped.delivered_by_choice, stepped.stepped_by_choice), (0, 1));
-    assert!(rules.follow(&asking((3, 3), &[1]), &[0, 3]).is_err());
-    assert!(rules.follow(&asking((3, 3), &[]), &[0, 3, 2]).is_err());
+    let met = rules.follow(&asking((2, 4), &[]), &[0, 2, 3, 4, 1]).expect("it passes 3");
+    assert_eq!(met.passed, 1);
+    assert!(rules.follow(&asking((2, 4), &[]), &[0, 2, 3]).is_err());
+    let met = rules.follow(&asking((2, 3), &[]), &[0, 2, 3]).expect("it ends at 3");
+    assert_eq!((met.passed, met.delivered_dear), (0, true));
 }

@@ -41,6 +41,10 @@ impl Distances {
 
     /// D(x,p): the least of D(x,a) plus a's cost to p over the attachments a.
     pub fn to_prefix(&self, ctx: &Context, x: usize, prefix: &Prefix) -> u32 {
+        let own = prefix.attachments.iter().find(|own| usize::from(own.router) == x);
+        if let (Some(own), true) = (own, ctx.has(Fault::AttachedAtOwnCost)) {
+            return u32::from(own.cost);
+        }
         let looked_at = if ctx.has(Fault::OnlyFirstAttachment) { 1 } else { usize::MAX };
         let attachments = prefix.attachments.iter().take(looked_at);
         let sums = attachments.map(|attachment| {

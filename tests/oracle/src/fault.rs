@@ -129,7 +129,6 @@ faults! {
 
     // Walks and spaces.
     UnreachableAvoids: "a router that cannot be reached counts as avoided to",
-    AttachedNeverStepsOn: "an attached router that may deliver never steps on",
     OnlyFirstAttachment: "a prefix is taken to be at its first attachment only",
     EndsReversed: "end 0 makes b the repairing router",
     FarEndAsFirstHop: "E is allowed as first hop",
@@ -146,6 +145,23 @@ faults! {
     MaintenanceNotThere: "a hop of cost 65,535 is in no path and in no walk",
     ExtendedPOfEveryNeighbour: "extended P takes in what a neighbour at 65,535 avoids to",
     PairsOfEveryNeighbour: "pairs have neighbours at 65,535 as first hops; extended P has not",
+
+    // Attached routers deliver. The first is how it was before: an attached router
+    // delivers where its own cost is D(x,p), and steps on where a step is tight.
+    AttachedPassed: "a walk passes an attached router where a step is tight, and ends where its cost is",
+    AttachedMayStepOn: "an attached router delivers, however dear, or steps on",
+    DeliveredWhereTight: "an attached router delivers only where its own cost is D(x,p)",
+    TunnelJudgedToAttached: "a tunnel is judged as far as the first router attached to the prefix",
+    TunnelPlayedToAttached: "a tunnel is played as far as the first router attached to the prefix",
+    AttachedSRepaired: "a prefix is repaired at an attached S whose step to E is tight",
+    PrefixAvoidedBySums: "sums of distances over the link decide avoiding to a prefix",
+    CrossingOneHop: "of a walk towards a prefix only the first hop is looked at",
+    CrossingTwoHops: "of a walk towards a prefix only the first two hops are looked at",
+    AttachedPlayedOn: "a played route may go on from an attached router",
+    AttachedAtOwnCost: "D(x,p) of an attached router x is its own cost",
+    OnlyFirstSlotDelivers: "only the router of a prefix's first attachment delivers",
+    UnusedSlotsDeliver: "router 0 delivers where a slot of the prefix is not used",
+    DearestDeliversNot: "an attachment at a cost of 65,535 does not deliver",
 
     // Repairs.
     ClassNotStrict: "the class test is D(y,t) <= D(S,t)",
@@ -184,7 +200,6 @@ faults! {
     FifteenReturnsFour: "15 returns 4, the ranks needed",
 
     // Played routes.
-    DeliveryLast: "delivery stands after the next routers",
     OptionsDescending: "next routers stand in descending order",
     ModuloFixed: "the option number is the choice byte modulo 4, at most the last option",
     SingleOptionFree: "a single option uses no byte",
@@ -245,6 +260,24 @@ impl Fault {
         Fault::MaintenanceNotThere,
         Fault::ExtendedPOfEveryNeighbour,
         Fault::PairsOfEveryNeighbour,
+    ];
+
+    /// The ways to take routers attached to a prefix wrongly.
+    pub const OF_ATTACHED: [Fault; 14] = [
+        Fault::AttachedPassed,
+        Fault::AttachedMayStepOn,
+        Fault::DeliveredWhereTight,
+        Fault::TunnelJudgedToAttached,
+        Fault::TunnelPlayedToAttached,
+        Fault::AttachedSRepaired,
+        Fault::PrefixAvoidedBySums,
+        Fault::CrossingOneHop,
+        Fault::CrossingTwoHops,
+        Fault::AttachedPlayedOn,
+        Fault::AttachedAtOwnCost,
+        Fault::OnlyFirstSlotDelivers,
+        Fault::UnusedSlotsDeliver,
+        Fault::DearestDeliversNot,
     ];
 
     /// The ways to add the check up wrongly.

@@ -22,6 +22,30 @@ listed! {
         HighCost: "costs at or just below 65,535",
         Anything: "any number of links up to the most, any costs",
         Maintenance: "many costs of 65,535 and 65,534, in one direction and in both",
+        AttachedAnywhere: "prefixes at up to eight routers, most of them dear",
+        AttachedNeighbours: "prefixes at the neighbours of a router, most of them dear",
+        AttachedEnds: "prefixes at the ends of a link, dear or not, and elsewhere",
+    }
+}
+
+impl Family {
+    /// The families in which prefixes have many dear attachments.
+    pub const ATTACHED: [Family; 3] =
+        [Family::AttachedAnywhere, Family::AttachedNeighbours, Family::AttachedEnds];
+
+    /// The families whose links these have.
+    const ATTACHED_SHAPES: [Family; 7] = [
+        Family::Sparse,
+        Family::RingWithChords,
+        Family::Grid,
+        Family::Tree,
+        Family::Ring,
+        Family::Ties,
+        Family::Disconnected,
+    ];
+
+    fn attached(self) -> bool {
+        Family::ATTACHED.contains(&self)
     }
 }
 
@@ -93,7 +117,12 @@ fn maintain(network: &mut Network, random: &mut Random) {
 /// Adds the prefixes, then gives the routers other numbers.
 fn attach(network: &mut Network, family: Family, prefixes: usize, random: &mut Random) {
     let routers = usize::from(network.routers);
-    network.prefixes = (0..prefixes).map(|_| prefix(family, routers, random)).collect();
+    network.prefixes = (0..prefixes)
+        .map(|_| match family.attached() {
+            true => dear_prefix(family, network, random),
+            false => prefix(family, routers, random),
+        })
+        .collect();
     renumber(network, random);
 }
 
@@ -151,6 +180,9 @@ fn pairs(family: Family, routers: usize, random: &mut Random) -> Vec<(usize, usi
             let shapes = [Family::Sparse, Family::Dense, Family::RingWithChords, Family::Grid];
             pairs(random.pick(&shapes), routers, random)
         }
+        Family::AttachedAnywhere | Family::AttachedNeighbours | Family::AttachedEnds => {
+            pairs(random.pick(&Family::ATTACHED_SHAPES), routers, random)
+        }
     }
 }
 
@@ -189,6 +221,10 @@ fn costs(family: Family, random: &mut Random) -> Costs {
         ]),
         Family::Maintenance => {
             random.pick(&[Costs::Maintenance(1, 3), Costs::Maintenance(65_533, 65_535)])
+        }
+        // Small costs, so that many sums are equal.
+        family if family.attached() => {
+            random.pick(&[Costs::Same(1, 1), Costs::Same(1, 3), Costs::Apart(1, 3)])
         }
         _ => random.pick(&[
             Costs::Same(1, 1),
@@ -244,6 +280,52 @@ fn prefix(family: Family, routers: usize, random: &mut Random) -> Prefix {
         cost: small(random.between(least, highest)),
     });
     Prefix { attachments: attachments.collect() }
+}
+
+/// A prefix with many dear attachments: at the routers that the family speaks of
+/// and at some others, one of them cheap.
+fn dear_prefix(family: Family, network: &Network, random: &mut Random) -> Prefix {
+    let routers = usize::from(network.routers);
+    let mut order: Vec<usize> = (0..routers).collect();
+    random.shuffle(&mut order);
+    let mut first = match family {
+        Family::AttachedNeighbours => neighbours(network, order[0]),
+        Family::AttachedEnds if !network.links.is_empty() => {
+            let link = random.pick(&network.links);
+            let ends = [usize::from(link.a), usize::from(link.b)];
+            random.pick(&[&ends[..], &ends[..1], &ends[1..]]).to_vec()
+        }
+        _ => Vec::new(),
+    };
+    random.shuffle(&mut first);
+    let others = if random.one_in(3) { ATTACHMENTS } else { 2 };
+    let others = random.below(others + 1).max(usize::from(first.is_empty()));
+    order.retain(|router| !first.contains(router));
+    let attached = first.iter().chain(order.iter().take(others)).take(ATTACHMENTS);
+    let mut attachments: Vec<Attachment> = attached
+        .map(|router| Attachment { router: small(*router), cost: dear_cost(random) })
+        .collect();
+    random.shuffle(&mut attachments);
+    attachments[0].cost = small(random.below(3));
+    random.shuffle(&mut attachments);
+    Prefix { attachments }
+}
+
+/// The cost of an attachment: about that of some links, far dearer, or anything.
+fn dear_cost(random: &mut Random) -> u16 {
+    let few = random.between(0, 8);
+    let any = random.between(0, 65_535);
+    small(random.pick(&[few, few, 100, 65_534, 65_535, any]))
+}
+
+/// The routers that links join to one.
+fn neighbours(network: &Network, router: usize) -> Vec<usize> {
+    let other = |link: &Link| match (usize::from(link.a), usize::from(link.b)) {
+        (a, b) if a == router => Some(b),
+        (a, b) if b == router => Some(a),
+        _ => None,
+    };
+    network.links.iter().filter_map(other).collect()
 }
 
 /// Gives the routers other numbers, so that numbers and places do not agree.

@@ -1,7 +1,7 @@
 //! Link repairs and prefix repairs: every pair is looked at, those that serve
 //! are kept, and the first in the order of document 01 is taken.
 
-use crate::distance::plus;
+use crate::distance::{UNREACHABLE, plus};
 use crate::fault::Fault;
 use crate::network::LinkEnd;
 use crate::ranks;
@@ -52,11 +52,20 @@ pub fn prefix_repair(workings: &Workings, link_end: &LinkEnd, prefix: u64, ranks
     }
     if !walks.reachable_from(link_end.s) {
         Repair::Unreachable
-    } else if !walks.takes(link_end.s, link_end.s_to_e()) {
+    } else if !touched(workings, link_end, walks) {
         Repair::Untouched
     } else {
         search(workings, link_end, walks, ranks)
     }
+}
+
+/// Whether some walk from S crosses the link from S to E. Where S is attached
+/// its walk has no hop.
+fn touched(workings: &Workings, link_end: &LinkEnd, walks: &Walks) -> bool {
+    if workings.ctx.has(Fault::AttachedSRepaired) {
+        return walks.tight(link_end.s).iter().any(|hop| hop.number == link_end.s_to_e());
+    }
+    walks.takes(link_end.s, link_end.s_to_e())
 }
 
 /// The first serving pair, or none.
@@ -105,10 +114,29 @@ fn pairs(workings: &Workings, link_end: &LinkEnd) -> Vec<(usize, usize)> {
 /// A pair serves a target when n avoids to y and y avoids to the target.
 fn serves(workings: &Workings, link_end: &LinkEnd, target: &Walks, n: usize, y: usize) -> bool {
     let ctx = &workings.ctx;
-    let first_leg = workings.to_router(y).avoids(ctx, n, link_end);
-    let second_leg = target.avoids(ctx, y, link_end);
+    let mut first_leg = workings.to_router(y).avoids(ctx, n, link_end);
+    if ctx.has(Fault::TunnelJudgedToAttached) {
+        let ended = workings.to_router(y).ended_by(ctx, &workings.hops, target);
+        first_leg = ended.avoids(ctx, n, link_end);
+    }
+    let mut second_leg = target.avoids(ctx, y, link_end);
+    if ctx.has(Fault::PrefixAvoidedBySums) {
+        second_leg = avoids_by_sums(workings, link_end, target, y);
+    }
     (first_leg || ctx.has(Fault::OnlySecondLegJudged))
         && (second_leg || ctx.has(Fault::OnlyFirstLegJudged))
+}
+
+/// What a fault takes for avoiding: the distance is below the sums over the link,
+/// one for each direction. Towards routers this is avoiding.
+fn avoids_by_sums(workings: &Workings, link_end: &LinkEnd, target: &Walks, x: usize) -> bool {
+    let over = |from: usize, to: usize| {
+        let hop = workings.hops.leaving(from).iter().find(|hop| hop.to == to);
+        let cost = hop.map_or(UNREACHABLE, |hop| hop.cost);
+        plus(plus(workings.distances.between(x, from), cost), target.remaining(to))
+    };
+    let (s, e) = (link_end.s, link_end.e);
+    target.remaining(x) < over(s, e).min(over(e, s))
 }
 
 /// A pair with its class, its tunnel cost and its keys.
@@ -192,7 +220,7 @@ fn wrong_prefix_repair(
 ) -> Option<Repair> {
     let ctx = &workings.ctx;
     let reachable = walks.reachable_from(link_end.s);
-    let touched = walks.takes(link_end.s, link_end.s_to_e());
+    let touched = touched(workings, link_end, walks);
     let no_pair = || search(workings, link_end, walks, ranks) == Repair::None;
     if ctx.has(Fault::FourteenAlways) {
         Some(Repair::None)

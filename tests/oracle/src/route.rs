@@ -1,5 +1,6 @@
-//! Played routes: S, then the walk from n to y, then from y on to delivery,
-//! each choice made by the next choice byte.
+//! Played routes: S, then the walk from n to y, then from y on to delivery at
+//! the first attached router, each choice made by the next choice byte. The
+//! tunnel passes attached routers.
 
 use crate::fault::{Context, Fault};
 use crate::network::LinkEnd;
@@ -52,8 +53,10 @@ pub fn play(
     // pass, by which a walk can go on for ever; such a play is broken off.
     let most = 2 * workings.hops.routers();
     let to_endpoint = workings.to_router(pair.endpoint);
+    let to_prefix = workings.to_prefix(prefix);
+    let left = |x: usize| ctx.has(Fault::TunnelPlayedToAttached) && to_prefix.delivers(x);
     let mut here = pair.first_hop;
-    while here != pair.endpoint && route.len() <= most {
+    while here != pair.endpoint && !left(here) && route.len() <= most {
         match choose(ctx, to_endpoint, here, &mut choices) {
             Some(Move::Step(hop)) => here = hop.to,
             _ => break,
@@ -67,7 +70,6 @@ pub fn play(
     if ctx.has(Fault::ByteAtEndpoint) {
         choices.next(ctx);
     }
-    let to_prefix = workings.to_prefix(prefix);
     while route.len() <= most {
         match choose(ctx, to_prefix, here, &mut choices) {
             Some(Move::Step(hop)) => here = hop.to,
@@ -92,15 +94,16 @@ fn choose(ctx: &Context, walks: &Walks, here: usize, choices: &mut Choices) -> O
     Some(options[byte % options.len()])
 }
 
-/// The options at a router: delivery first, then next routers ascending.
+/// The options at a router: delivery alone where the router is attached, else the
+/// next routers ascending.
 fn options(ctx: &Context, walks: &Walks, here: usize) -> Vec<Move> {
     let mut options = walks.moves(here);
-    let delivery = usize::from(options.first() == Some(&Move::Deliver));
-    if ctx.has(Fault::OptionsDescending) {
-        options[delivery..].reverse();
+    if ctx.has(Fault::AttachedPlayedOn) && options == [Move::Deliver] {
+        options.extend(walks.tight(here).iter().map(|hop| Move::Step(*hop)));
     }
-    if ctx.has(Fault::DeliveryLast) {
-        options.rotate_left(delivery);
+    if ctx.has(Fault::OptionsDescending) {
+        let delivery = usize::from(options.first() == Some(&Move::Deliver));
+        options[delivery..].reverse();
     }
     options
 }

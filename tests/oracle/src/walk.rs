@@ -1,12 +1,14 @@
 //! Walks towards one target, by explicit search.
 //!
 //! The step rule of document 01 gives, at each router, the hops that a walk
-//! may take next. Which hops the walks from a router may take at all is found
-//! by following every step from there. No sum of distances decides whether a
-//! walk crosses a link.
+//! may take next; a walk ends at the first router that is attached to its
+//! target, and a router is attached to itself alone. Which hops the walks from a
+//! router may take at all is found by following every step from there. No sum of
+//! distances decides whether a walk crosses a link.
 
 use crate::distance::{Distances, UNREACHABLE, plus};
 use crate::fault::{Context, Fault};
+use crate::file::ATTACHMENTS;
 use crate::network::{Hop, Hops, LinkEnd, MAINTENANCE, Prefix};
 
 /// What a walk goes towards.
@@ -32,10 +34,14 @@ pub struct Walks {
     to_prefix: bool,
     /// D(x, target) by router x.
     remaining: Vec<u32>,
-    /// Whether a walk at router x ends there or may deliver there.
+    /// Whether a walk at router x ends there, towards a prefix by delivery.
     may_end: Vec<bool>,
-    /// The steps at router x, by the router they lead to, ascending.
-    steps: Vec<Vec<Hop>>,
+    /// Whether a walk goes no further than router x: wherever it ends, unless
+    /// with a fault.
+    stops: Vec<bool>,
+    /// The hops from router x that the step rule allows, whether a walk goes on
+    /// from there or not, by the router they lead to, ascending.
+    tight: Vec<Vec<Hop>>,
     /// By start x and hop number: whether some walk from x takes the hop.
     taken: Vec<Vec<bool>>,
 }
@@ -51,50 +57,85 @@ impl Walks {
                 Target::Prefix(prefix) => distances.to_prefix(ctx, x, prefix),
             })
             .collect();
-        let may_end: Vec<bool> =
-            routers.clone().map(|x| may_end_at(target, x, remaining[x])).collect();
+        let ends = |x: usize| ends_at(ctx, target, x, remaining[x]);
+        let may_end: Vec<bool> = routers.clone().map(ends).collect();
         let to_prefix = matches!(target, Target::Prefix(_));
-        // Towards a router a walk ends there; towards a prefix it may step on.
-        let steps_on = to_prefix && !ctx.has(Fault::AttachedNeverStepsOn);
-        let may_step = |x: usize| !may_end[x] || steps_on;
-        let mut steps: Vec<Vec<Hop>> = routers
-            .clone()
-            .map(|x| if may_step(x) { steps_at(hops, &remaining, x) } else { Vec::new() })
-            .collect();
+        let steps_on = ctx.has(Fault::AttachedPassed) || ctx.has(Fault::AttachedMayStepOn);
+        let steps_on = steps_on && to_prefix;
+        let stops = may_end.iter().map(|ends| *ends && !steps_on).collect();
+        let mut tight: Vec<Vec<Hop>> = routers.map(|x| tight_hops(hops, &remaining, x)).collect();
         if ctx.has(Fault::MaintenanceNotWalked) {
-            steps.iter_mut().for_each(|steps| steps.retain(|hop| hop.cost != MAINTENANCE));
+            tight.iter_mut().for_each(|tight| tight.retain(|hop| hop.cost != MAINTENANCE));
         }
-        let mut walks = Walks { to_prefix, remaining, may_end, steps, taken: Vec::new() };
-        walks.taken = routers.map(|x| walks.search(ctx, x, hops.numbers())).collect();
-        walks
+        let taken = Vec::new();
+        let walks = Walks { to_prefix, remaining, may_end, stops, tight, taken };
+        walks.searched(ctx, hops.numbers())
+    }
+
+    /// The same walks, ended at the routers that deliver to a prefix too: how a
+    /// fault takes a tunnel.
+    pub fn ended_by(&self, ctx: &Context, hops: &Hops, prefix: &Walks) -> Walks {
+        let mut walks = self.clone();
+        for (x, stops) in walks.stops.iter_mut().enumerate() {
+            *stops |= prefix.delivers(x);
+        }
+        walks.searched(ctx, hops.numbers())
+    }
+
+    /// The walks with the hops that they take found.
+    fn searched(mut self, ctx: &Context, numbers: usize) -> Walks {
+        let starts = 0..self.stops.len();
+        self.taken = starts.map(|x| self.search(ctx, x, numbers)).collect();
+        self
     }
 
     /// Follows every step that can be reached from a start and marks each hop
     /// that is met.
     fn search(&self, ctx: &Context, start: usize, numbers: usize) -> Vec<bool> {
         let mut taken = vec![false; numbers];
-        let mut seen = vec![false; self.steps.len()];
+        let mut seen = vec![false; self.stops.len()];
         let mut waiting = vec![start];
         seen[start] = true;
-        while let Some(x) = waiting.pop() {
-            for hop in self.steps_looked_at(ctx, x) {
+        let mut rounds = self.rounds(ctx);
+        while !waiting.is_empty() && rounds > 0 {
+            let mut next = Vec::new();
+            for hop in waiting.iter().flat_map(|x| self.steps_looked_at(ctx, *x)) {
                 taken[hop.number] = true;
                 if !seen[hop.to] {
                     seen[hop.to] = true;
-                    waiting.push(hop.to);
+                    next.push(hop.to);
                 }
             }
+            waiting = next;
+            rounds -= 1;
         }
         taken
     }
 
+    /// How many hops of a walk are looked at: all, unless with a fault.
+    fn rounds(&self, ctx: &Context) -> usize {
+        if self.to_prefix && ctx.has(Fault::CrossingOneHop) {
+            1
+        } else if self.to_prefix && ctx.has(Fault::CrossingTwoHops) {
+            2
+        } else {
+            usize::MAX
+        }
+    }
+
+    /// The steps at x: none where a walk ends.
+    fn steps(&self, x: usize) -> &[Hop] {
+        if self.stops[x] { &[] } else { &self.tight[x] }
+    }
+
     /// Every step at a router; with the fault, those of one walk only.
     fn steps_looked_at(&self, ctx: &Context, x: usize) -> &[Hop] {
+        let steps = self.steps(x);
         if !ctx.has(Fault::OneShortestPath) {
-            return &self.steps[x];
+            return steps;
         }
-        let count = if self.may_end[x] { 0 } else { self.steps[x].len().min(1) };
-        &self.steps[x][..count]
+        let count = if self.may_end[x] { 0 } else { steps.len().min(1) };
+        &steps[..count]
     }
 
     /// D(x, target).
@@ -105,6 +146,17 @@ impl Walks {
     /// Whether the target is reachable from x.
     pub fn reachable_from(&self, x: usize) -> bool {
         self.remaining(x) != UNREACHABLE
+    }
+
+    /// Whether a walk towards the prefix is delivered at x.
+    pub fn delivers(&self, x: usize) -> bool {
+        self.to_prefix && self.may_end.get(x).is_some_and(|ends| *ends)
+    }
+
+    /// The hops from x that the step rule allows, whether or not a walk goes on
+    /// from there.
+    pub fn tight(&self, x: usize) -> &[Hop] {
+        self.tight.get(x).map_or(&[], |hops| hops)
     }
 
     /// Whether some walk from x takes the hop of a number.
@@ -121,14 +173,14 @@ impl Walks {
         reachable && !forth && !back
     }
 
-    /// What a walk may do next at x: delivery first, then the next routers
+    /// What a walk may do next at x: deliver, or step to one of the next routers,
     /// ascending. There is nothing to do where a walk towards a router ends.
     pub fn moves(&self, x: usize) -> Vec<Move> {
-        let Some(steps) = self.steps.get(x) else {
+        if x >= self.stops.len() {
             return Vec::new();
-        };
-        let delivery = (self.to_prefix && self.may_end[x]).then_some(Move::Deliver);
-        delivery.into_iter().chain(steps.iter().map(|hop| Move::Step(*hop))).collect()
+        }
+        let delivery = self.delivers(x).then_some(Move::Deliver);
+        delivery.into_iter().chain(self.steps(x).iter().map(|hop| Move::Step(*hop))).collect()
     }
 
     /// Every whole walk from x, as the list of its hops, or nothing when one
@@ -139,7 +191,7 @@ impl Walks {
         let mut waiting: Vec<Vec<Hop>> = vec![Vec::new()];
         while let Some(walk) = waiting.pop() {
             let here = walk.last().map_or(x, |hop| hop.to);
-            let steps = self.steps.get(here)?;
+            let steps = self.steps(here);
             if walk.len() >= most || (steps.is_empty() && !self.may_end[here]) {
                 return None;
             }
@@ -152,20 +204,26 @@ impl Walks {
     }
 }
 
-/// Towards a router a walk ends there. Towards a prefix an attached router
-/// whose own cost equals D(x,p) may deliver.
-fn may_end_at(target: Target, x: usize, remaining: u32) -> bool {
-    match target {
-        Target::Router(t) => x == t,
-        Target::Prefix(prefix) => prefix.attachments.iter().any(|attachment| {
-            usize::from(attachment.router) == x && u32::from(attachment.cost) == remaining
-        }),
-    }
+/// Towards a router a walk ends there. Towards a prefix it ends at each attached
+/// router, however dear the attachment is.
+fn ends_at(ctx: &Context, target: Target, x: usize, remaining: u32) -> bool {
+    let Target::Prefix(prefix) = target else {
+        return matches!(target, Target::Router(t) if x == t);
+    };
+    let only_tight = ctx.has(Fault::AttachedPassed) || ctx.has(Fault::DeliveredWhereTight);
+    let slots = if ctx.has(Fault::OnlyFirstSlotDelivers) { 1 } else { usize::MAX };
+    let attached = prefix.attachments.iter().take(slots).any(|attachment| {
+        let cost = u32::from(attachment.cost);
+        let dearest = attachment.cost == u16::MAX && ctx.has(Fault::DearestDeliversNot);
+        usize::from(attachment.router) == x && (cost == remaining || !only_tight) && !dearest
+    });
+    let unused = (1..ATTACHMENTS).contains(&prefix.attachments.len());
+    attached || (unused && x == 0 && ctx.has(Fault::UnusedSlotsDeliver))
 }
 
 /// The step rule: from x to a neighbour z when the cost x to z plus
 /// D(z, target) equals finite D(x, target).
-fn steps_at(hops: &Hops, remaining: &[u32], x: usize) -> Vec<Hop> {
+fn tight_hops(hops: &Hops, remaining: &[u32], x: usize) -> Vec<Hop> {
     if remaining[x] == UNREACHABLE {
         return Vec::new();
     }

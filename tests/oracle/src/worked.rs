@@ -1,6 +1,6 @@
 //! The hand-worked networks of document 01, networks of the source documents
-//! that their text determines, networks in which ranks matter, and networks with
-//! links under maintenance.
+//! that their text determines, networks in which ranks matter, networks with
+//! links under maintenance, and networks with dear attachments.
 
 use crate::network::Network;
 
@@ -186,6 +186,80 @@ pub fn maintenance() -> Vec<(&'static str, Network)> {
     ]
 }
 
+/// Ring 4 with a prefix at 1 for 0 and at 3 for 100. Router 3 delivers, though
+/// its own cost is far above its distance, which goes over link 0 or link 2.
+pub fn attached_ring_4() -> Network {
+    ring(4).prefix(&[(1, 0), (3, 100)])
+}
+
+/// A line 2, 0, 1, 3. For link 0, end 0, the only first hop 2 is attached at the
+/// highest cost and serves as its own endpoint; its distance goes over the link.
+pub fn attached_first_hop() -> Network {
+    Network::of_routers(4)
+        .link(0, 1, 1, 1)
+        .link(0, 2, 1, 1)
+        .link(1, 3, 1, 1)
+        .prefix(&[(1, 0), (2, 65_535)])
+        .prefix(&[(3, 0), (0, 65_535)])
+}
+
+/// Ring 4 and router 4 behind 1. For link 0, end 0, the far router 1 is attached,
+/// once far dearer than 4, once cheaper, once not at all.
+pub fn attached_far_end() -> Network {
+    let network = Network { routers: 5, ..ring(4) };
+    network
+        .link(1, 4, 1, 1)
+        .prefix(&[(1, 100), (4, 0)])
+        .prefix(&[(4, 100), (1, 0)])
+        .prefix(&[(4, 0)])
+}
+
+/// For link 0, end 0, the tunnel from 2 to 4 passes router 3, which is attached.
+pub fn attached_tunnel() -> Network {
+    Network::of_routers(5)
+        .link(0, 1, 1, 1)
+        .link(0, 2, 10, 1)
+        .link(2, 3, 1, 1)
+        .link(3, 4, 1, 1)
+        .link(4, 1, 1, 1)
+        .prefix(&[(1, 0), (3, 50)])
+}
+
+/// Ring 4 with prefixes at 1 and at 0, which is S for link 0, end 0: its own cost
+/// equals the way over 1, is far above it, or below it.
+pub fn attached_s() -> Network {
+    ring(4).prefix(&[(0, 1), (1, 0)]).prefix(&[(0, 100), (1, 0)]).prefix(&[(0, 0), (1, 5)])
+}
+
+/// Ring 4 with link 0 costing 3 both ways. For link 0, end 0, router 3 is
+/// downstream, though its own cost to the prefix is above the distance of 0.
+pub fn attached_class() -> Network {
+    let mut network = ring(4).prefix(&[(1, 0), (3, 100)]);
+    (network.links[0].forth, network.links[0].back) = (3, 3);
+    network
+}
+
+/// Ring 8 with a prefix at every router, and one at every other router.
+pub fn attached_everywhere() -> Network {
+    let costs = [65_535, 0, 65_535, 65_534, 1, 2, 3, 65_535];
+    let all: Vec<(u8, u16)> = (0..8).zip(costs).collect();
+    let odd: Vec<(u8, u16)> = all.iter().copied().filter(|(router, _)| router % 2 == 1).collect();
+    ring(8).prefix(&all).prefix(&odd)
+}
+
+/// The networks with dear attachments, with their names.
+pub fn attached() -> Vec<(&'static str, Network)> {
+    vec![
+        ("attached, ring 4", attached_ring_4()),
+        ("attached, first hop", attached_first_hop()),
+        ("attached, far end", attached_far_end()),
+        ("attached, tunnel", attached_tunnel()),
+        ("attached, S", attached_s()),
+        ("attached, class", attached_class()),
+        ("attached, everywhere", attached_everywhere()),
+    ]
+}
+
 /// For link 0, end 0, each class has a serving pair: 0 by router 2, 1 by router
 /// 3, and 2 and 3 by a tunnel from each of these two to the other.
 pub fn four_classes() -> Network {
@@ -239,5 +313,6 @@ pub fn all() -> Vec<(&'static str, Network)> {
         ("grid 3 by 3 with prefix", grid(3, 3).prefix(&[(8, 0)]).prefix(&[(2, 2), (5, 1), (8, 0)])),
     ];
     all.extend(maintenance());
+    all.extend(attached());
     all
 }

@@ -1,5 +1,5 @@
--- What the sets mean: where the distances on both sides of the test are those of one network, they are the sets of the routers that avoid
--- the link as document 01 says it, by every walk.
+-- What the sets mean: where the distances on both sides of the test are those of one network, and the target is a router, they are the sets
+-- of the routers that avoid the link as document 01 says it, by every walk.
 -- Assumes nothing.
 use Prim.Native.Nat.{ℕ, _+_, _<_, min}
 use mathlib.Core.Path.{_≡_, refl, sym, _∙_}
@@ -7,13 +7,14 @@ use mathlib.Core.Bool.{true}
 use mathlib.Core.List.{List}
 use native.Mathlib.Omega.{arith}
 use borrow.Author.Tests.{ltb-true, lt-ltb}
-use Rattle.lfa.specs.Network.{Arc, Target, router}
+use Rattle.lfa.specs.Network.{Arc, router}
 use Rattle.lfa.specs.Distance.{unreachable, towards}
 use Rattle.lfa.specs.Walk.{avoids}
 use Rattle.lfa.specs.Space.{Protected, setOf}
 use Rattle.lfa.specs.Laws.Test.{and-left, and-right, and-make, same-test}
 use Rattle.lfa.specs.Laws.Set.{setOf-same}
 use Rattle.lfa.specs.Laws.Target.{towards-router}
+use Rattle.lfa.specs.Laws.Walk.{router-none-leaves}
 use Rattle.lfa.specs.Laws.Bound.{falls}
 use Rattle.lfa.specs.Laws.Avoid.{avoids-gives, avoids-make, avoids-below, below-avoids}
 use Rattle.metric.specs.Area.{held}
@@ -35,25 +36,25 @@ module _ (n : ℕ) (hops : List Arc) (q : Protected) (area : List ℕ) (known : 
   pub can-read : Readable n q area
   can-read = record { few = known .sound .few; long = known .long; near-in = near-in; far-in = far-in }
 
-  -- The test by distances decides avoiding: the sums are at most unreachable, so a distance below them is finite.
-  module _ (to : Target) (h : ℕ → ℕ) (same : (z : ℕ) → z < n → h z ≡ towards d to z) where
-    pub clears-avoids : (x : ℕ) → x < n → clears h d q h x ≡ avoids n hops d to (q .number) x
+  -- Towards a router the test by distances decides avoiding: the sums are at most unreachable, so a distance below them is finite.
+  module _ (t : ℕ) (h : ℕ → ℕ) (same : (z : ℕ) → z < n → h z ≡ towards d (router t) z) where
+    pub clears-avoids : (x : ℕ) → x < n → clears h d q h x ≡ avoids n hops d (router t) (q .number) x
     unfolding clears
     clears-avoids x i = same-test _ _ there back
       where
-        there : clears h d q h x ≡ true → avoids n hops d to (q .number) x ≡ true
-        there t =
+        there : clears h d q h x ≡ true → avoids n hops d (router t) (q .number) x ≡ true
+        there e =
             let out : h x < min (d x (q .near) + q .out + h (q .far)) unreachable = search (ltb-true, and-left) in
             let back : h x < min (d x (q .far) + q .back + h (q .near)) unreachable = search (ltb-true, and-right) in
             let ex = same x i in
             let es = same (q .near) near-in in
             let ee = same (q .far) far-in in
-            avoids-make n hops d to (q .number) x (below-avoids hops d to q (known .costs) (known .named) x (record { finite = omega arith; out = omega arith; back = omega arith }))
+            avoids-make n hops d (router t) (q .number) x (below-avoids hops d q (known .costs) (known .named) (router t) x (record { finite = omega arith; out = omega arith; back = omega arith }))
 
-        back : avoids n hops d to (q .number) x ≡ true → clears h d q h x ≡ true
-        back t =
-            let g = falls (known .sound) d to in
-            let b = avoids-below hops d to q (known .costs) (known .named) x (avoids-gives n hops d to (g .0) (known .sound .within) (g .1) (q .number) x i t) in
+        back : avoids n hops d (router t) (q .number) x ≡ true → clears h d q h x ≡ true
+        back e =
+            let g = falls (known .sound) d (router t) in
+            let b = avoids-below hops d q (known .costs) (known .named) (router t) (router-none-leaves d t (known .sound .descends) (known .costs)) x (avoids-gives n hops d (router t) (g .0) (known .sound .within) (g .1) (q .number) x i e) in
             let ex = same x i in
             let es = same (q .near) near-in in
             let ee = same (q .far) far-in in
@@ -63,11 +64,11 @@ module _ (n : ℕ) (hops : List Arc) (q : Protected) (area : List ℕ) (known : 
 
   pub clearsTo-avoids : (x r : ℕ) → x < n → clearsTo d d q x r ≡ avoids n hops d (router r) (q .number) x
   unfolding clearsTo
-  clearsTo-avoids x r i = clears-avoids (router r) (λ z. d z r) (λ z k. sym (towards-router d r z (known .costs .most z r))) x i
+  clearsTo-avoids x r i = clears-avoids r (λ z. d z r) (λ z k. sym (towards-router d r z (known .costs .most z r))) x i
 
   -- The answers of the two public functions, by walks.
-  pub avoiding-to : (to : Target) (h : ℕ → ℕ) → ((z : ℕ) → z < n → h z ≡ towards d to z) → avoidingTo n q h area h ≡ setOf n (avoids n hops d to (q .number))
-  avoiding-to to h same = to-known can-read h h refl ∙ setOf-same n _ _ (clears-avoids to h same)
+  pub avoiding-to : (t : ℕ) (h : ℕ → ℕ) → ((z : ℕ) → z < n → h z ≡ towards d (router t) z) → avoidingTo n q h area h ≡ setOf n (avoids n hops d (router t) (q .number))
+  avoiding-to t h same = to-known can-read h h refl ∙ setOf-same n _ _ (clears-avoids t h same)
 
   pub avoiding-from : (x : ℕ) → x < n → avoidingFrom n q area area x ≡ setOf n (λ r. avoids n hops d (router r) (q .number) x)
   avoiding-from x i = from-known can-read can-read x i refl ∙ setOf-same n _ _ (λ r k. clearsTo-avoids x r i)

@@ -1,7 +1,7 @@
--- Attached routers: the test decides, D(x,p) is at most the own cost of an attached router, and a router as a target has itself alone
--- attached.
+-- Attached routers: the test decides, D(x,p) is at most the own cost of an attached router, a router as a target has itself alone
+-- attached, and a walk from an attached router stays there.
 -- Assumes nothing.
-use Prim.Native.Nat.{ℕ, _≤_}
+use Prim.Native.Nat.{ℕ, _≤_, _<_}
 use mathlib.Core.Path.{_≡_, refl, sym, ap}
 use mathlib.Core.Logic.{_⊎_, inl, inr}
 use mathlib.Core.Bool.{true, false}
@@ -9,7 +9,8 @@ use mathlib.Core.List.{List, List·Memᴰ, List·Memᴰ·head, List·Memᴰ·eq-
 use native.Mathlib.Omega.{arith}
 use borrow.Author.Tests.{eqb-true, eq-eqb}
 use Rattle.lfa.specs.Network.{Arc, Attachment, at, Target, router, Attached, attachmentOf, isAttached}
-use Rattle.lfa.specs.Distance.{stay, LeastCosts, towards}
+use Rattle.lfa.specs.Distance.{unreachable, stay, LeastCosts, towards}
+use Rattle.lfa.specs.Walk.{Walk, here, hop, Avoids}
 use Rattle.lfa.specs.Laws.Test.{fails-make, fails-gives, decide}
 use Rattle.lfa.specs.Laws.List.{any-gives, any-make}
 use Rattle.lfa.specs.Laws.Target.{towards-least, towards-router}
@@ -61,3 +62,13 @@ module _ (hops : List Arc) (d : ℕ → ℕ → ℕ) (dist : LeastCosts hops d) 
   -- D(t,t) is 0
   pub router-self : (t : ℕ) → towards d (router t) t ≡ 0
   router-self t = let z : d t t ≤ 0 = dist .least stay in omega (arith, towards-router d t t (dist .most t t))
+
+-- ---- walks
+
+-- a walk from an attached router stays there, so that it crosses nothing
+attached-stays : {hops : List Arc} {d : ℕ → ℕ → ℕ} {to : Target} {x u k : ℕ} → Attached to x → Walk hops d to x u k → u ≡ x
+attached-stays a here = refl
+attached-stays a (hop s w) = absurd (s .unattached a)
+
+pub attached-avoids : {hops : List Arc} {d : ℕ → ℕ → ℕ} {to : Target} {x : ℕ} (l : ℕ) → Attached to x → towards d to x < unreachable → Avoids hops d to l x
+attached-avoids l a f = record { reachable = f; none = λ u v r. r .step .unattached (rw (attached-stays a (r .walk)) a) }

@@ -1,5 +1,5 @@
--- Crossing and avoiding a link: the tests that follow the steps hop by hop decide what they are to decide, and both are equal to
--- the inequalities of distances that code computes.
+-- Crossing and avoiding a link: the tests that follow the steps hop by hop decide what they are to decide, and towards routers avoiding is
+-- equal to the inequalities of distances that code computes.
 -- Assumes nothing.
 use Prim.Native.Nat.{ℕ, zero, suc, _+_, _≤_, _<_}
 use mathlib.Core.Path.{_≡_, refl}
@@ -9,23 +9,25 @@ use mathlib.Core.List.{List, List·Memᴰ, List·Memᴰ·not-nil}
 use native.Mathlib.Omega.{arith}
 use native.Mathlib.Nat.{not-suc-le-zero}
 use lib.Dec.{ltb}
-use borrow.Author.Tests.{ltb-true, ltb-false, lt-ltb, eqb-true, eq-eqb}
+use borrow.Author.Tests.{ltb-true, ltb-false, lt-ltb, eqb-true, eq-eqb, not-true}
 use Rattle.lfa.specs.Lists.{below, anyOf, memberOf}
-use Rattle.lfa.specs.Network.{Arc, arc, Target}
+use Rattle.lfa.specs.Network.{Arc, arc, Target, isAttached}
 use Rattle.lfa.specs.Distance.{unreachable, LeastCosts, towards}
 use Rattle.lfa.specs.Walk.{Step, Walk, here, hop, Crosses, Avoids, isStep, leads, takers, over, overFrom, avoids, crosses}
 use Rattle.lfa.specs.Space.{Protected}
 use Rattle.lfa.specs.Laws.Test.{and-left, and-right, and-make, or-cases, or-left, or-right, not-make, not-gives, decide}
 use Rattle.lfa.specs.Laws.List.{any-gives, any-make, select-gives, select-make, mem-below, member-gives, member-make}
-use Rattle.lfa.specs.Laws.Walk.{crossing-equation, equation-crossing, over-bound}
+use Rattle.lfa.specs.Laws.Attached.{unattached-gives, unattached-make}
+use Rattle.lfa.specs.Laws.Walk.{crossing-equation, over-bound, NoneLeaves, equation-crossing}
 use Rattle.lfa.specs.Laws.Arrive.{Within, Falls, walk-few}
 
 -- ---- steps
 
 -- what the test of a step tells
-step-facts : (d : ℕ → ℕ → ℕ) (to : Target) (x u v c l : ℕ) → isStep d to x (arc u v c l) ≡ true → (u ≡ x) × (c + towards d to v ≡ towards d to x) × (towards d to x < unreachable)
+step-facts : (d : ℕ → ℕ → ℕ) (to : Target) (x u v c l : ℕ) → isStep d to x (arc u v c l) ≡ true →
+    (u ≡ x) × (isAttached to x ≡ false) × (c + towards d to v ≡ towards d to x) × (towards d to x < unreachable)
 unfolding isStep
-step-facts d to x u v c l e = search (eqb-true, ltb-true, and-left, and-right)
+step-facts d to x u v c l e = search (eqb-true, ltb-true, not-true, and-left, and-right)
 
 -- a step at x leaves x
 pub step-leaves : (d : ℕ → ℕ → ℕ) (to : Target) (x u v c l : ℕ) → isStep d to x (arc u v c l) ≡ true → u ≡ x
@@ -35,11 +37,11 @@ pub step-gives : {hops : List Arc} {u v c l : ℕ} (d : ℕ → ℕ → ℕ) (to
     (u ≡ x) × Step hops d to u v l
 step-gives {u} {v} {c} {l} d to x m e =
     let f = step-facts d to x u v c l e in
-    (f .0, record { cost = c; joined = m; tight = rw (f .0) (f .1); finite = rw (f .0) (f .2) })
+    (f .0, record { cost = c; joined = m; unattached = rw (f .0) (unattached-gives to x (f .1)); tight = rw (f .0) (f .2); finite = rw (f .0) (f .3) })
 
 pub step-make : {hops : List Arc} {x z l : ℕ} (d : ℕ → ℕ → ℕ) (to : Target) (s : Step hops d to x z l) → isStep d to x (arc x z (s .cost) l) ≡ true
 unfolding isStep
-step-make {x} d to s = rw (eq-eqb x x refl, eq-eqb _ _ (s .tight), lt-ltb _ _ (s .finite), isStep)
+step-make {x} d to s = rw (eq-eqb x x refl, unattached-make to x (s .unattached), eq-eqb _ _ (s .tight), lt-ltb _ _ (s .finite), isStep)
 
 -- ---- rounds
 
@@ -77,7 +79,7 @@ module _ (n : ℕ) (hops : List Arc) (d : ℕ → ℕ → ℕ) (to : Target) (wa
           isStep d to x (arc u v c l) ≡ true → (wanted (arc u v c l) ≡ true) ⊎ (memberOf v (known k) ≡ true) → TakesHop hops d to wanted x
       at-x {u} {v} {c} {l} before p m o t =
           let f = step-facts d to x u v c l o in
-          by before (record { cost = c; joined = rw p at m; tight = f .1; finite = f .2 }) (rw p at t)
+          by before (record { cost = c; joined = rw p at m; unattached = unattached-gives to x (f .1); tight = f .2; finite = f .3 }) (rw p at t)
 
       go : ((x : ℕ) → List·Memᴰ x (known k) → TakesHop hops d to wanted x) → (a : Arc) → List·Memᴰ a hops → leads d to wanted (known k) x a ≡ true → TakesHop hops d to wanted x
       go before (arc u v c l) m e =
@@ -161,11 +163,12 @@ pub record Below (d : ℕ → ℕ → ℕ) (q : Protected) (to : Target) (x : �
   pub out : towards d to x < d x (q .near) + q .out + towards d to (q .far)
   pub back : towards d to x < d x (q .far) + q .back + towards d to (q .near)
 
-module _ (hops : List Arc) (d : ℕ → ℕ → ℕ) (to : Target) (q : Protected) (dist : LeastCosts hops d) (named : Named hops q) where
-  -- x avoids exactly where both inequalities are strict: the sum over an arc is never below D(x,t), and some walk crosses the arc
-  -- exactly when the two are equal.
-  pub avoids-below : (x : ℕ) → Avoids hops d to (q .number) x → Below d q to x
-  avoids-below x a = record { finite = a .reachable; out = strict (named .outward); back = strict (named .backward) }
+module _ (hops : List Arc) (d : ℕ → ℕ → ℕ) (q : Protected) (dist : LeastCosts hops d) (named : Named hops q) where
+  -- Where no tight hop leaves an attached router, so towards every router, x avoids exactly where both inequalities are strict: the sum
+  -- over an arc is never below D(x,t), and some walk crosses the arc exactly when the two are equal. Towards any target strict inequalities
+  -- are enough, but a walk that ends at an attached router may miss the link without them.
+  pub avoids-below : (to : Target) → NoneLeaves hops d to → (x : ℕ) → Avoids hops d to (q .number) x → Below d q to x
+  avoids-below to none-leaves x a = record { finite = a .reachable; out = strict (named .outward); back = strict (named .backward) }
     where
       strict : {u v c : ℕ} → List·Memᴰ (arc u v c (q .number)) hops → towards d to x < d x u + c + towards d to v
       strict {u} {v} {c} m = go (decide (ltb (towards d to x) (d x u + c + towards d to v)))
@@ -174,11 +177,11 @@ module _ (hops : List Arc) (d : ℕ → ℕ → ℕ) (to : Target) (q : Protecte
           bound = over-bound hops d to dist x m
 
           go : (ltb (towards d to x) (d x u + c + towards d to v) ≡ true) ⊎ (ltb (towards d to x) (d x u + c + towards d to v) ≡ false) → towards d to x < d x u + c + towards d to v
-          go (inl t) = ltb-true _ _ t
-          go (inr t) = absurd (a .none u v (equation-crossing hops d to dist m (omega (arith, ltb-false, bound)) (a .reachable)))
+          go (inl e) = ltb-true _ _ e
+          go (inr e) = absurd (a .none u v (equation-crossing hops d to dist none-leaves m (omega (arith, ltb-false, bound)) (a .reachable)))
 
-  pub below-avoids : (x : ℕ) → Below d q to x → Avoids hops d to (q .number) x
-  below-avoids x b = record { reachable = b .finite; none = λ u v r. cross u v r (named .only (r .step .joined)) }
+  pub below-avoids : (to : Target) (x : ℕ) → Below d q to x → Avoids hops d to (q .number) x
+  below-avoids to x b = record { reachable = b .finite; none = λ u v r. cross u v r (named .only (r .step .joined)) }
     where
       cross : (u v : ℕ) (r : Crosses hops d to x (q .number) u v) → ((u ≡ q .near) × (v ≡ q .far) × (r .step .cost ≡ q .out)) ⊎ ((u ≡ q .far) × (v ≡ q .near) × (r .step .cost ≡ q .back)) → ⊥
       cross u v r (inl k) = let (e, f) = crossing-equation hops d to dist r in omega (arith, b .out, rw (k .0, k .1, k .2) at e)

@@ -7,7 +7,7 @@ use native.Mathlib.Omega.{arith}
 use Rattle.lfa.specs.Network.{Arc, arc, at, Target, router}
 use Rattle.lfa.specs.Distance.{unreachable, RouterPath, stay, via, LeastCosts, towards}
 use Rattle.lfa.specs.Walk.{Walk, here, hop, Arrives}
-use Rattle.lfa.specs.Laws.Walk.{Descends, measure, tight-walk}
+use Rattle.lfa.specs.Laws.Walk.{Descends, measure, router-none-leaves, tight-walk}
 use Rattle.lfa.specs.Laws.Arrive.{Within, Falls, measure-falls, walk-few, arrives}
 use Rattle.lfa.specs.Laws.Target.{towards-router, towards-over}
 
@@ -38,7 +38,7 @@ module _ (n : ℕ) (hops : List Arc) (d : ℕ → ℕ → ℕ) (sound : Sound n 
       let e = towards-router d t x (dist .most x t) in
       let e′ = towards-router d t t (dist .most t t) in
       let z : d t t ≤ 0 = dist .least stay in
-      let w = tight-walk hops d (router t) dist (dist .path x t f) (omega arith) (omega arith) in
+      let w = tight-walk hops d (router t) dist (router-none-leaves d t (sound .descends) dist) (dist .path x t f) (omega arith) (omega arith) in
       let g = falls sound d (router t) in
       let k : w .0 < n = walk-few hops d (router t) n (g .0) (sound .within) (g .1) i (w .1) in
       omega (arith, sound .few, walk-small (w .1))

@@ -106,7 +106,7 @@ module _ (n : ℕ) (hops : List Arc) (d : ℕ → ℕ → ℕ) (y : ℕ) (m : �
 
       by : Rest → eqb x y ≡ false → (k : Move) → optionTaken (options n hops d (router y) x) (choiceAt choices i) ≡ k → HasMove hops d (router y) x k →
           (j : ℕ) × FirstLeg (options n hops d (router y)) choices y i x (after k) j
-      by rest e deliver p t = absurd (eqb-false x y e (router-only (record { own = t .own; listed = t .attached })))
+      by rest e deliver p t = absurd (eqb-false x y e (router-only (t .attached)))
       by rest e (go z) p (l, s) =
           let r = rest z (omega (arith, s .tight)) (omega (arith, rank-falls hops d (router y) n m within falls s)) in
           (r .0, onward (eqb-false x y e) p (r .1))

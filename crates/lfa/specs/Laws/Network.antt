@@ -2,7 +2,7 @@
 -- costs, and the arcs over a link are its two directions. A network within the limits is such a network.
 -- Assumes nothing.
 use Prim.Native.Nat.{ℕ, zero, suc, _+_, _*_, _≤_, _<_}
-use mathlib.Core.Path.{_≡_, refl, ap, _∙_, subst}
+use mathlib.Core.Path.{_≡_, refl, ap, _∙_, subst, sym}
 use mathlib.Core.Logic.{_⊎_, inl, inr, ⊎-swap}
 use mathlib.Core.List.{List, [], _∷_, List·Memᴰ, List·Memᴰ·head, List·Memᴰ·tail, List·Memᴰ·cases-cons, List·Memᴰ·not-nil, Memᴰ·cast}
 use native.Mathlib.Omega.{arith}
@@ -128,3 +128,12 @@ module _ (net : Network) {height : ℕ → ℕ} (sound : LinksSound net height) 
       go (suc e) (link a b ab ba) p =
           let r = arcs-have 0 (net .links) l a b ab ba h p in
           record { outward = rw zero-add at (r .1); backward = rw zero-add at (r .0); only = λ {u} {v} {c} m. ⊎-swap (only (link a b ab ba) p u v c m) }
+
+-- a hop leads to another router
+pub limits-two : (net : Network) → WithinLimits net → {x z c l : ℕ} → List·Memᴰ (arc x z c l) (arcs net) → x ≡ z → ⊥
+unfolding arcs
+limits-two net limits {x} {z} {c} m = let r = arcs-give 0 (net .links) m in go (getD (net .links) (r .0) (link 0 0 0 0)) (r .3) (r .4)
+  where
+    go : (lk : Link) → List·Memᴰ lk (net .links) → Direction lk x z c → x ≡ z → ⊥
+    go (link a b ab ba) j (inl (p, q, r)) e = limits .link-within j .two (sym p ∙ e ∙ q)
+    go (link a b ab ba) j (inr (p, q, r)) e = limits .link-within j .two (sym q ∙ sym e ∙ p)

@@ -5,19 +5,20 @@ use Prim.Native.Nat.{ℕ, zero, suc, _%_, _<_}
 use mathlib.Core.Path.{_≡_, refl, sym, ap, subst}
 use mathlib.Core.Logic.{_⊎_, inl, inr}
 use mathlib.Core.Bool.{Bool, true, false}
-use mathlib.Core.List.{List, _∷_, map, List·Memᴰ, List·Memᴰ·head, List·Memᴰ·tail, List·Memᴰ·cases-cons, Memᴰ·cast}
+use mathlib.Core.List.{List, [], _∷_, map, List·Memᴰ, List·Memᴰ·head, List·Memᴰ·tail, List·Memᴰ·cases-cons}
 use native.Mathlib.Omega.{arith}
 use native.Mathlib.Nat.{mod-lt}
 use lib.Dec.{eqb, ltb}
 use lib.ListN.{length}
 use borrow.Author.Tests.{ltb-true, lt-ltb, eqb-true, eq-eqb}
 use Rattle.lfa.specs.Lists.{countUp, below, select, keepIf, anyOf}
-use Rattle.lfa.specs.Network.{Arc, arc, Attachment, at, Target}
+use Rattle.lfa.specs.Network.{Arc, arc, Target}
 use Rattle.lfa.specs.Distance.{unreachable, LeastCosts, towards}
 use Rattle.lfa.specs.Walk.{Step, Delivers, isStep}
-use Rattle.lfa.specs.Route.{HasMove, Ascending, nothing, before, AreOptions, isStepTo, nextRouters, attachedAt, delivers, Move, deliver, go, movesOf, options, optionTaken}
+use Rattle.lfa.specs.Route.{HasMove, Ascending, nothing, before, AreOptions, isStepTo, nextRouters, delivers, Move, deliver, go, movesOf, options, optionTaken}
 use Rattle.lfa.specs.Laws.Test.{and-left, and-right, and-make}
 use Rattle.lfa.specs.Laws.List.{any-gives, any-make, mem-below, from-counted, select-gives, select-make, map-gives, map-make, getD-in}
+use Rattle.lfa.specs.Laws.Attached.{attached-gives, attached-make}
 use Rattle.lfa.specs.Laws.Walk.{onward}
 use Rattle.lfa.specs.Laws.Arrive.{Within}
 use Rattle.lfa.specs.Laws.Avoid.{step-gives, step-make}
@@ -44,6 +45,10 @@ select-ascending p i (suc n) = by (p i) (select-ascending p (suc i) n)
 some-length : {A : Type 0} {a : A} {l : List A} → List·Memᴰ a l → 0 < length l
 some-length (List·Memᴰ·head e) = omega arith
 some-length (List·Memᴰ·tail m) = omega arith
+
+no-members : (l : List ℕ) → ((z : ℕ) → List·Memᴰ z l → ⊥) → l ≡ []
+no-members [] h = refl
+no-members (z ∷ l) h = absurd (h z (List·Memᴰ·head refl))
 
 module _ (n : ℕ) (hops : List Arc) (d : ℕ → ℕ → ℕ) (to : Target) where
   -- next routers stand ascending
@@ -72,25 +77,19 @@ module _ (n : ℕ) (hops : List Arc) (d : ℕ → ℕ → ℕ) (to : Target) whe
       (any-make (isStepTo d to x z) (s .joined) (and-make _ _ (step-make d to s) (eq-eqb z z refl)))
 
   delivers-gives : (x : ℕ) → delivers d to x ≡ true → Delivers d to x
-  unfolding delivers attachedAt
-  delivers-gives x e = let r = any-gives (attachedAt x (towards d to x)) to (and-right (ltb (towards d to x) unreachable) _ e) in by (r .0) (r .1) (r .2)
-    where
-      f : towards d to x < unreachable
-      f = ltb-true _ _ (and-left (ltb (towards d to x) unreachable) _ e)
-
-      by : (a : Attachment) → List·Memᴰ a to → attachedAt x (towards d to x) a ≡ true → Delivers d to x
-      by (at a c) m t =
-          let p : a ≡ x = eqb-true a x (and-left (eqb a x) (eqb c (towards d to x)) t) in
-          record { own = c; attached = Memᴰ·cast (ap (λ k. at k c) (sym p)) m; tight = eqb-true c _ (and-right (eqb a x) (eqb c (towards d to x)) t); finite = f }
+  unfolding delivers
+  delivers-gives x e = record {
+    attached = attached-gives to x (and-right (ltb (towards d to x) unreachable) _ e);
+    finite = ltb-true _ _ (and-left (ltb (towards d to x) unreachable) _ e);
+  }
 
   delivers-make : {x : ℕ} → Delivers d to x → delivers d to x ≡ true
-  unfolding delivers attachedAt
-  delivers-make {x} t =
-      and-make _ _ (lt-ltb _ _ (t .finite)) (any-make (attachedAt x (towards d to x)) (t .attached) (and-make _ _ (eq-eqb x x refl) (eq-eqb _ _ (t .tight))))
+  unfolding delivers
+  delivers-make t = and-make _ _ (lt-ltb _ _ (t .finite)) (attached-make (t .attached))
 
   -- ---- the options
 
-  -- The options listed are moves of the walk, and each move of the walk is listed: delivery where x may deliver, and the router of every
+  -- The options listed are moves of the walk, and each move of the walk is listed: delivery where x delivers, and the router of every
   -- step among the next routers.
   pub options-give : (x : ℕ) (m : Move) → List·Memᴰ m (options n hops d to x) → HasMove hops d to x m
   unfolding options movesOf
@@ -130,6 +129,12 @@ module _ (n : ℕ) (hops : List Arc) (d : ℕ → ℕ → ℕ) (to : Target) whe
       by : (b : Bool) → (movesOf b (nextRouters n hops d to x) ≡ deliver ∷ map go (nextRouters n hops d to x)) ⊎ (movesOf b (nextRouters n hops d to x) ≡ map go (nextRouters n hops d to x))
       by true = inl refl
       by false = inr refl
+
+  -- At an attached router delivery is the only option: no step leaves it.
+  pub only-delivery : (x : ℕ) → Delivers d to x → options n hops d to x ≡ deliver ∷ []
+  unfolding options movesOf
+  only-delivery x t =
+      rw (delivers-make t) (ap (λ (zs : List ℕ). deliver ∷ map go zs) (no-members (nextRouters n hops d to x) (λ z m. nexts-give x z m .1 .unattached (t .attached))))
 
   -- at a finite distance there is an option, since a walk can deliver or step
   options-some : LeastCosts hops d → Within hops n → (x : ℕ) → towards d to x < unreachable → 0 < length (options n hops d to x)

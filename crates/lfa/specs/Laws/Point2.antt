@@ -14,10 +14,10 @@ use Rattle.lfa.specs.Repair.{Pair, HasClass, Told, Keys, keysAt, key}
 use Rattle.lfa.specs.Question.{Question, Call, load, fill, space, linkRepair, prefixRepair, route, askLink, askPrefix, askRoute, withRanks, Buffer, workArea, routeBuffer, aRankTable, lent, HasInput, inputsOf, inputNumber, hasInput, networkAsked, linkAsked, withDistances}
 use Rattle.lfa.specs.Refusal.{badLength, badCheck, badHead, badBlockCount, badBlock, badLink, parallelLink, badPrefix, routerTwice, shortArea, shortBuffer, badRanks, noSuchLink, noSuchPrefix, Row, ofFile, early, noPair, Decided, Decides, leavesAll, fileNumber, entryOf, returned, tries, allRows, rowsTried, refusalOf, Posed}
 use Rattle.lfa.specs.Answer.{Answer, refused, refusal, computed, answerTo, writtenTo, leave, exitBy, exitOf}
-use Rattle.lfa.specs.Demands.{D, keysByClass, keys, IsFirst, IsRepair, TellsOf, RepairedBy, Repaired, Demand3By, Demand3, SameReply, RanksLent, SameKind, one-answer, Point2}
+use Rattle.lfa.specs.Demands.{D, HasThis, keysByClass, keys, IsFirst, IsRepair, TellsOf, RepairedBy, Repaired, Demand3By, Demand3, SameReply, RanksLent, SameKind, one-answer, Point2}
 use Rattle.lfa.specs.Laws.Ranks.{arrangement-make, ascending-rank}
-use Rattle.lfa.specs.Laws.Order.{first-both}
-use Rattle.lfa.specs.Laws.Repair.{class-once, class-few}
+use Rattle.lfa.specs.Laws.Repair.{class-few}
+use Rattle.lfa.specs.Laws.OnlyOne.{only-one}
 use Rattle.lfa.specs.Laws.Rows.{same-decides}
 use Rattle.lfa.specs.Laws.Answers.{refusal-stated, row-leaves}
 use Rattle.lfa.specs.Laws.Replies.{has-buffer}
@@ -118,7 +118,7 @@ module _ (q : Question) (e : q .ranks ≡ ascending) where
   keys-same {t = t} tells =
       ap (λ (r : ℕ). keysAt r (D q) (linkAsked q) t) (ap (λ (l : List ℕ). rankOf l (t .class)) e ∙ ascending-rank (t .class) (class-few (tells .class-is)))
 
-  first-by-class : {to : Target} {t : Told} → IsRepair q to t → IsFirst q (keysByClass q) to t
+  first-by-class : {to : Target} {t : Told} → IsRepair q to t → IsFirst q (keysByClass q) (HasThis q to) to t
   first-by-class f = record {
     pair = f .pair;
     candidate = f .candidate;
@@ -127,7 +127,7 @@ module _ (q : Question) (e : q .ranks ≡ ascending) where
     earliest = λ p u is told h. rw (keys-same (f .tells), keys-same told) at (f .earliest p u is told h);
   }
 
-  repaired-by-class : {to : Target} {answer : Answer} → Repaired q to answer → RepairedBy q (keysByClass q) to answer
+  repaired-by-class : {to : Target} {answer : Answer} → Repaired q to answer → RepairedBy q (keysByClass q) (HasThis q to) to answer
   repaired-by-class r = record { repair-or-14 = r .repair-or-14; is-repair = λ t a. first-by-class (r .is-repair t a); exactly = r .exactly }
 
   as-before : {answer : Answer} → Demand3 q answer → Demand3By q (keysByClass q) answer
@@ -136,28 +136,6 @@ module _ (q : Question) (e : q .ranks ≡ ascending) where
     link-repaired = λ c. repaired-by-class (d .link-repaired c);
     link-has-this = d .link-has-this;
   }
-
--- ---- only one is first
-
-module _ (q : Question) (rank : Told → ℕ) (to : Target) where
-  abbrev ranked : Told → Keys
-  ranked t = keysAt (rank t) (D q) (linkAsked q) t
-
-  -- Neither of two comes before the other, so that they have the same keys; the first hop, the endpoint and the cost are among them, and
-  -- the class is that of the first hop and the endpoint.
-  only-one : (t u : Told) → IsFirst q ranked to t → IsFirst q ranked to u → t ≡ u
-  unfolding key
-  only-one t u f g =
-      let e = first-both (ranked t) (ranked u) (f .earliest (g .pair) u (g .candidate) (g .tells) (g .has-this)) (g .earliest (f .pair) t (f .candidate) (f .tells) (f .has-this)) in
-      let firsts : t .first ≡ u .first = ap (λ (l : List ℕ). getD l 4 0) e in
-      let endpoints : t .endpoint ≡ u .endpoint = ap (λ (l : List ℕ). getD l 2 0) e in
-      let costs : t .cost ≡ u .cost = ap (λ (l : List ℕ). getD l 3 0) e in
-      let class-t : HasClass (D q) (linkAsked q) to (t .first) (t .endpoint) (t .class) = rw (f .tells .first-is, f .tells .endpoint-is) (f .tells .class-is) in
-      let class-u : HasClass (D q) (linkAsked q) to (t .first) (t .endpoint) (u .class) = rw (firsts, endpoints, g .tells .first-is, g .tells .endpoint-is) (g .tells .class-is) in
-      let pair : Pair = record { hop = record { router = t .first; cost = 0; over = 0 }; endpoint = t .endpoint } in
-      let classes : t .class ≡ u .class = class-once pair class-t ∙ sym (class-once pair class-u) in
-      let same : record { first = t .first; endpoint = t .endpoint; class = t .class; cost = t .cost } ≡ u = rw (firsts, endpoints, classes, costs) in
-      same
 
 -- ---- the Point
 
@@ -178,7 +156,7 @@ point-2 q demand-3 = record {
   same-work = λ a ranks b h area. work-alike q ranks (both-pass q ranks a b) area;
   writes-nothing = writes-nothing q;
   as-before = λ e p. as-before q e (demand-3 p);
-  one-by-class = only-one q (λ t. t .class);
-  one-by-rank = only-one q (λ t. rankOf (q .ranks) (t .class));
+  one-by-class = λ to. only-one q (λ t. t .class) (HasThis q to) to;
+  one-by-rank = λ to. only-one q (λ t. rankOf (q .ranks) (t .class)) (HasThis q to) to;
   none-taken = λ no ranks. none-taken q ranks no;
 }

@@ -6,12 +6,13 @@ use mathlib.Core.Path.{_≡_}
 use mathlib.Core.Logic.{_⊎_, inl, inr}
 use mathlib.Core.List.{List}
 use native.Mathlib.Omega.{arith}
-use Rattle.lfa.specs.Network.{Arc, Target, router}
+use Rattle.lfa.specs.Network.{Arc, Target, router, Attached}
 use Rattle.lfa.specs.Distance.{unreachable, stay, LeastCosts, towards}
 use Rattle.lfa.specs.Walk.{Step, Delivers, here, hop, Crosses, Avoids, Arrives}
 use Rattle.lfa.specs.Space.{Protected}
 use Rattle.lfa.specs.Repair.{Serves, MayCross}
-use Rattle.lfa.specs.Laws.Walk.{crossing-equation, equation-crossing}
+use Rattle.lfa.specs.Laws.Attached.{router-attached, router-self, attached-avoids}
+use Rattle.lfa.specs.Laws.Walk.{crossing-equation, router-none-leaves, equation-crossing}
 use Rattle.lfa.specs.Laws.Arrive.{never-twice}
 use Rattle.lfa.specs.Laws.Avoid.{Named}
 use Rattle.lfa.specs.Laws.Target.{towards-router, hop-bound, route-bound}
@@ -53,7 +54,7 @@ module _ (n : ℕ) (hops : List Arc) (d : ℕ → ℕ → ℕ) (q : Protected) (
           let none : d (q .far) (q .far) ≤ 0 = dist .least stay in
           let high : h′ y ≤ d y (q .near) + h′ (q .near) = route-bound hops d (router (q .far)) dist (dist .path y (q .near) (omega arith)) in
           let last : h′ (q .near) ≤ q .out + h′ (q .far) = hop-bound hops d (router (q .far)) dist (named .outward) in
-          a .none (q .near) (q .far) (equation-crossing hops d (router (q .far)) dist (named .outward) (omega (arith, e, bound)) (a .reachable))
+          a .none (q .near) (q .far) (equation-crossing hops d (router (q .far)) dist (router-none-leaves d (q .far) (sound .descends) dist) (named .outward) (omega (arith, e, bound)) (a .reachable))
       -- from E to S: then some walk leads from S to E and back
       cross u v r (inr k) =
           let back : Step hops d to (q .far) (q .near) (q .number) = rw (k .0, k .1) at (r .step) in
@@ -75,3 +76,8 @@ module _ (n : ℕ) (hops : List Arc) (d : ℕ → ℕ → ℕ) (q : Protected) (
       go : Delivers d to x ⊎ ((z : ℕ) × (l : ℕ) × Step hops d to x z l) → towards d to x < unreachable
       go (inl t) = t .finite
       go (inr (z, l, s)) = s .finite
+
+  -- An attached router serves as its own endpoint: it is the end of both legs.
+  pub attached-serves : (to : Target) (m : ℕ) → Attached to m → towards d to m < unreachable → Serves hops d q to m m
+  attached-serves to m a f =
+      record { tunnel = attached-avoids (q .number) (router-attached m) (omega (arith, router-self hops d dist m)); onward = attached-avoids (q .number) a f }

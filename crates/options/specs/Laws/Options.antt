@@ -7,21 +7,21 @@ use mathlib.Core.List.{List, [], _∷_, _++_, append-nil, List·Memᴰ, List·Me
 use native.Mathlib.Omega.{arith}
 use lib.Dec.{eqb, ltb}
 use lib.ListN.{getD}
-use borrow.Author.Tests.{lt-ltb, le-leb, eqb-true}
+use borrow.Author.Tests.{lt-ltb, eqb-true}
 use Rattle.lfa.specs.Lists.{countUp, below, keepIf, select, anyOf}
-use Rattle.lfa.specs.Network.{Arc, arc, Target}
+use Rattle.lfa.specs.Network.{Arc, arc, Target, isAttached}
 use Rattle.lfa.specs.Distance.{unreachable, towards}
 use Rattle.lfa.specs.Space.{has}
 use Rattle.lfa.specs.Walk.{isStep}
-use Rattle.lfa.specs.Route.{Move, attachedAt, delivers, isStepTo, nextRouters, movesOf, options, optionTaken}
-use Rattle.lfa.specs.Laws.Test.{and-right, and-make}
+use Rattle.lfa.specs.Route.{Move, delivers, isStepTo, nextRouters, movesOf, options, optionTaken}
+use Rattle.lfa.specs.Laws.Test.{and-right}
 use Rattle.lfa.specs.Laws.List.{any-gives, below-mem, from-counted}
 use Rattle.lfa.specs.Laws.Arrive.{Within}
-use Rattle.metric.specs.Column.{column, slotsIn}
+use Rattle.metric.specs.Column.{column}
 use Rattle.metric.specs.Laws.List.{select-append, select-same}
 use Rattle.metric.specs.Laws.Column.{column-at}
-use Rattle.steps.specs.Laws.Next.{RightNexts}
-use Rattle.options.specs.Options.{deliversBy, membersOf, fits, moveBy}
+use Rattle.steps.specs.Laws.Next.{RightNexts, RightEnds}
+use Rattle.options.specs.Options.{deliversBy, membersOf, moveBy}
 
 -- ---- the options
 
@@ -66,23 +66,17 @@ module _ (n : ℕ) (few : n ≤ 64) (hops : List Arc) (within : Within hops n) (
       ∙ ap (λ (l : List ℕ). select leads (countUp 0 n) ++ l) (select-none leads (countUp (0 + n) (64 - n)) (λ z m. none-beyond z (omega (arith, from-counted (0 + n) (64 - n) z m)))) ∙ append-nil (select leads (countUp 0 n))
 
   -- so that the moves are the options, at the distance from the target
-  options-same : {own : ℕ} → own ≡ towards d to x → movesOf (deliversBy own to x) (membersOf (getD nexts x 0)) ≡ options n hops d to x
+  options-same : (ends : ℕ) {own : ℕ} → has ends x ≡ isAttached to x → own ≡ towards d to x → movesOf (deliversBy ends own x) (membersOf (getD nexts x 0)) ≡ options n hops d to x
   unfolding options delivers deliversBy
-  options-same e = ap₂ movesOf (ap (λ (k : ℕ). ltb k unreachable && anyOf (attachedAt x k) to) e) next-same
+  options-same ends is e = ap₂ movesOf (ap₂ (λ (k : ℕ) (b : Bool). ltb k unreachable && b) e is) next-same
 
 -- ---- the move
 
--- numbers that are cells of the columns
-pub all-fit : (slot count x : ℕ) → slot + count ≤ 1024 → x < 64 → fits slot count x ≡ true
-unfolding fits
-all-fit slot count x s h = and-make _ _ (le-leb (slot + count) 1024 s) (lt-ltb x 64 h)
-
--- The slots in use are among the 1024, `target` holds the distances to what is attached there, and `nexts` the next routers.
-pub move-known : {n : ℕ} → n ≤ 64 → (hops : List Arc) → Within hops n → (routers costs : List ℕ) (slot count : ℕ) → slot + count ≤ 1024 →
-    (d : ℕ → ℕ → ℕ) (target : List ℕ) → target ≡ column n (towards d (slotsIn routers costs slot count)) → (nexts : List ℕ) → RightNexts n hops d (slotsIn routers costs slot count) nexts → (x byte : ℕ) → x < n →
-    moveBy (getD nexts x 0) routers costs slot count target x byte ≡ optionTaken (options n hops d (slotsIn routers costs slot count) x) byte
+-- `target` holds the distances to the target, `ends` the routers attached to it, and `nexts` the next routers.
+pub move-known : {n : ℕ} → n ≤ 64 → (hops : List Arc) → Within hops n → (d : ℕ → ℕ → ℕ) (to : Target) (target : List ℕ) → target ≡ column n (towards d to) →
+    (nexts : List ℕ) → RightNexts n hops d to nexts → (ends : ℕ) → RightEnds n to ends → (x byte : ℕ) → x < n → moveBy (getD nexts x 0) ends target x byte ≡ optionTaken (options n hops d to x) byte
 unfolding moveBy
-move-known {n} few hops within routers costs slot count cells d target held nexts right x byte x-in =
-    let own : getD target x 0 ≡ towards d (slotsIn routers costs slot count) x = rw held (column-at n (towards d (slotsIn routers costs slot count)) x x-in) in
-    rw (all-fit slot count x cells (omega arith), moveBy)
-    (ap (λ (ms : List Move). optionTaken ms byte) (options-same n few hops within d (slotsIn routers costs slot count) nexts right x x-in own))
+move-known {n} few hops within d to target held nexts right ends right-ends x byte x-in =
+    let own : getD target x 0 ≡ towards d to x = rw held (column-at n (towards d to) x x-in) in
+    rw (lt-ltb x 64 (omega arith), moveBy)
+    (ap (λ (ms : List Move). optionTaken ms byte) (options-same n few hops within d to nexts right x x-in ends (right-ends .at x x-in) own))

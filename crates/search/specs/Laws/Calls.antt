@@ -20,9 +20,9 @@ use Rattle.column.specs.Laws.Calls as column
 use Rattle.avoid.specs.Known.{Known}
 use Rattle.avoid.specs.Laws.Calls.{passes}
 use Rattle.avoid.specs.Laws.Known.{can-read}
-use Rattle.steps.specs.Laws.Next.{no-ends}
+use Rattle.steps.specs.Laws.Next.{RightEnds}
 use Rattle.steps.specs.Laws.Crossing.{over-known, by-steps-known}
-use Rattle.search.specs.Calls.{searchable, spaceIf, linkFor, linkIf, prefixIf, hopsOf, protectedOf, searches, spaceBy, linkBy, prefixBy}
+use Rattle.search.specs.Calls.{searchable, spaceIf, linkFor, linkIf, prefixIf, hopsOf, protectedOf, searches, endsTo, spaceBy, linkBy, prefixBy}
 use Rattle.search.specs.Laws.Known.{far-in, avoiding-known, space-known}
 use Rattle.search.specs.Laws.Pairs.{pair-known, prefix-known}
 
@@ -54,7 +54,7 @@ module _ {network : Network} {l e : ℕ} {area : List ℕ} (a : Asking network l
       let q = protectedOf network l e in
       let known = a .known in
       let to-far = column.router-known n area (known .sound .few) (known .long) (q .far) (far-in n (hopsOf network) q area known) refl in
-      rw (searched, linkIf) (pair-known ranks n (hopsOf network) q area known (router (q .far)) _ to-far _ (avoiding-known n (hopsOf network) q area known (router (q .far)) _ to-far))
+      rw (searched, linkIf) (pair-known ranks n (hopsOf network) q area known (router (q .far)) _ to-far _ (avoiding-known n (hopsOf network) q area known (q .far) _ to-far))
 
   pub prefix-found : (ranks : List ℕ) (x : ℕ) → x < 128 → SlotsWithin n (8 * x) (getD (network .attached) x 0) (network .at) →
       prefixBy network ranks l e x area ≡ prefixOutcome ranks n (hopsOf network) d (protectedOf network l e) (slotsIn (network .at) (network .own) (8 * x) (getD (network .attached) x 0))
@@ -64,7 +64,7 @@ module _ {network : Network} {l e : ℕ} {area : List ℕ} (a : Asking network l
       let known = a .known in
       let target = slotsIn (network .at) (network .own) (8 * x) (getD (network .attached) x 0) in
       let to-prefix = column.prefix-known n area (known .sound .few) (known .long) (network .at) (network .own) (8 * x) (getD (network .attached) x 0) slots refl in
-      let ends = no-ends n target in
-      let avoiding = by-steps-known (a .within) (network .out) (network .back) d target 0 ends _ to-prefix q (known .named) in
-      let crosses = over-known (a .within) (network .out) (network .back) d target 0 ends _ to-prefix q (known .named) ∙ sym (may-test n (hopsOf network) d q (known .sound) (known .named) target) in
-      rw (searched, lt-ltb x 128 x-in, prefixIf) (prefix-known ranks n (hopsOf network) q area known target _ to-prefix _ avoiding 0 crosses)
+      let ends : RightEnds n target (endsTo network x) = record { at = λ y h. column.attached-known (network .own) (known .sound .few) slots h } in
+      let avoiding = by-steps-known (a .within) (network .out) (network .back) d target (endsTo network x) ends _ to-prefix q (known .named) in
+      let crosses = over-known (a .within) (network .out) (network .back) d target (endsTo network x) ends _ to-prefix q (known .named) ∙ sym (may-test n (hopsOf network) d q (known .sound) (known .named) target) in
+      rw (searched, lt-ltb x 128 x-in, prefixIf) (prefix-known ranks n (hopsOf network) q area known target _ to-prefix _ avoiding (endsTo network x) crosses)

@@ -7,7 +7,7 @@ use mathlib.Core.List.{List, [], _∷_, List·Memᴰ, List·Memᴰ·head, List·
 use lib.Bits.{bitOr}
 use lib.ListN.{getD}
 use Rattle.lfa.specs.Lists.{anyOf}
-use Rattle.lfa.specs.Network.{Arc, Target, router}
+use Rattle.lfa.specs.Network.{Arc, router}
 use Rattle.lfa.specs.Distance.{towards}
 use Rattle.lfa.specs.Walk.{avoids}
 use Rattle.lfa.specs.Space.{Protected, FirstHop, firstHops, Space, pSpace, extendedP, qSpace, inSpace, spaceOf, setOf}
@@ -41,8 +41,8 @@ module _ (n : ℕ) (hops : List Arc) (q : Protected) (area : List ℕ) (known : 
   pub avoided-known : (x : ℕ) → x < n → avoidedFrom n q area x ≡ setOf n (λ r. avoids n hops d (router r) (q .number) x)
   avoided-known x i = avoiding-from n hops q area known x i
 
-  pub avoiding-known : (target : Target) (l : List ℕ) → l ≡ column n (towards d target) → avoidingIn n q area l ≡ setOf n (avoids n hops d target (q .number))
-  avoiding-known target l e = avoiding-to n hops q area known target (λ x. getD l x 0) (λ z k. rw e (column-at n (towards d target) z k))
+  pub avoiding-known : (t : ℕ) (l : List ℕ) → l ≡ column n (towards d (router t)) → avoidingIn n q area l ≡ setOf n (avoids n hops d (router t) (q .number))
+  avoiding-known t l e = avoiding-to n hops q area known t (λ x. getD l x 0) (λ z k. rw e (column-at n (towards d (router t)) z k))
 
   -- The sets of first hops, put together one by one, hold what some first hop of the list avoids to.
   gathered-known : (p : ℕ → Bool) (fs : List FirstHop) → ((f : FirstHop) → List·Memᴰ f fs → f .router < n) →
@@ -69,4 +69,4 @@ module _ (n : ℕ) (hops : List Arc) (q : Protected) (area : List ℕ) (known : 
   space-known pSpace = avoided-known (q .near) near-in
   space-known extendedP =
       ap (λ (s : ℕ). gathered n q area s (firstHops q hops)) (setOf-none n) ∙ gathered-known (λ r. false) (firstHops q hops) hop-in
-  space-known qSpace = avoiding-known (router (q .far)) _ (router-known n area (known .sound .few) (known .long) (q .far) far-in refl)
+  space-known qSpace = avoiding-known (q .far) _ (router-known n area (known .sound .few) (known .long) (q .far) far-in refl)

@@ -2,14 +2,14 @@
 -- Assumes nothing.
 use Prim.Native.Nat.{ℕ, _+_, _^_, _≤_, _<_, min}
 use mathlib.Core.Path.{_≡_, refl, ap, ap₂, _∙_}
-use mathlib.Core.Bool.{Bool, true, false, _&&_}
+use mathlib.Core.Bool.{Bool, true, false, not, _&&_}
 use mathlib.Core.List.{List, List·Memᴰ}
 use native.Mathlib.Omega.{arith}
 use lib.Dec.{eqb, ltb}
 use lib.ListN.{getD}
 use borrow.Author.Tests.{ltb-true, eqb-true, eqb-false, eq-eqb}
 use Rattle.lfa.specs.Lists.{below, anyOf}
-use Rattle.lfa.specs.Network.{Arc, arc, Target}
+use Rattle.lfa.specs.Network.{Arc, arc, Target, isAttached}
 use Rattle.lfa.specs.Distance.{unreachable, towards}
 use Rattle.lfa.specs.Walk.{isStep}
 use Rattle.lfa.specs.Space.{has, setOf}
@@ -22,7 +22,6 @@ use Rattle.lfa.specs.Laws.Avoid.{step-leaves}
 use Rattle.metric.specs.Column.{column}
 use Rattle.metric.specs.Laws.Column.{column-at}
 use Rattle.metric.specs.Laws.List.{any-same}
-use Rattle.metric.specs.Laws.Set.{has-none}
 use Rattle.steps.specs.Steps.{isTight, stepTo, nextBy, nextsIn}
 
 -- a sum that is a finite distance is below the cap
@@ -48,12 +47,9 @@ pub record RightNexts (n : ℕ) (hops : List Arc) (d : ℕ → ℕ → ℕ) (to 
   pub is-set : (x : ℕ) → x < n → getD nexts x 0 < 2 ^ 64
   pub next : (x z : ℕ) → x < n → z < 64 → has (getD nexts x 0) z ≡ anyOf (isStepTo d to x z) hops
 
--- the set holds the routers, of those below n, at which every walk towards the target ends: none
+-- the set holds the routers, of those below n, at which every walk towards the target ends: the attached ones
 pub record RightEnds (n : ℕ) (to : Target) (ends : ℕ) : Type 0 where
-  pub at : (x : ℕ) → x < n → has ends x ≡ false
-
-pub no-ends : (n : ℕ) (to : Target) → RightEnds n to 0
-no-ends n to = record { at = λ x h. has-none x }
+  pub at : (x : ℕ) → x < n → has ends x ≡ isAttached to x
 
 -- Distances are read from a column and sums are capped: a finite distance is below the cap.
 module _ (n : ℕ) (d : ℕ → ℕ → ℕ) (to : Target) (ends : ℕ) (right-ends : RightEnds n to ends) (held : List ℕ) (held-is : held ≡ column n (towards d to)) where
@@ -63,9 +59,12 @@ module _ (n : ℕ) (d : ℕ → ℕ → ℕ) (to : Target) (ends : ℕ) (right-e
   -- the test by numbers is the test of a step
   pub tight-step : (u v c l : ℕ) → u < n → v < n → isTight ends (λ y. getD held y 0) u v c ≡ isStep d to u (arc u v c l)
   unfolding isTight isStep
-  tight-step u v c l hu hv =
-      rw (right-ends .at u hu, eq-eqb u u refl)
-      (capped (c + getD held v 0) (getD held u 0) ∙ ap₂ (λ (p q : ℕ). eqb (c + p) q && ltb q unreachable) (at-router v hv) (at-router u hu))
+  tight-step u v c l hu hv = rw (right-ends .at u hu, eq-eqb u u refl) (by (not (isAttached to u)))
+    where
+      by : (free : Bool) → (free && eqb (min (c + getD held v 0) unreachable) (getD held u 0) && ltb (getD held u 0) unreachable)
+          ≡ (free && eqb (c + towards d to v) (towards d to u) && ltb (towards d to u) unreachable)
+      by true = capped (c + getD held v 0) (getD held u 0) ∙ ap₂ (λ (p q : ℕ). eqb (c + p) q && ltb q unreachable) (at-router v hv) (at-router u hu)
+      by false = refl
 
 module _ (n : ℕ) (few : n ≤ 64) (hops : List Arc) (within : Within hops n) (d : ℕ → ℕ → ℕ) (to : Target) (ends : ℕ) (right-ends : RightEnds n to ends)
     (held : List ℕ) (held-is : held ≡ column n (towards d to)) where

@@ -80,14 +80,18 @@ impl Brute {
         self.walks(vec![x], &remaining, &|r| r == t, &|r| r != t)
     }
 
-    /// Every walk from x to delivery.
+    /// Every walk from x to delivery, at the first attached router on it.
     pub fn walks_to_prefix(&self, x: usize, prefix: &Prefix) -> Vec<Walk> {
         let remaining = |r: usize| self.to_prefix(r, prefix);
-        let delivers = |r: usize| {
-            prefix.attachments.iter().any(|attachment| {
-                usize::from(attachment.router) == r && u64::from(attachment.cost) == remaining(r)
-            })
-        };
+        let attached = |r: usize| own_cost(prefix, r).is_some();
+        self.walks(vec![x], &remaining, &attached, &|r| !attached(r))
+    }
+
+    /// Every walk from x to delivery as it was before attached routers delivered:
+    /// where the own cost is the distance, and a walk may go on from there.
+    pub fn walks_to_prefix_before(&self, x: usize, prefix: &Prefix) -> Vec<Walk> {
+        let remaining = |r: usize| self.to_prefix(r, prefix);
+        let delivers = |r: usize| own_cost(prefix, r) == Some(remaining(r));
         self.walks(vec![x], &remaining, &delivers, &|_| true)
     }
 
@@ -137,4 +141,10 @@ impl Brute {
         let in_use = |n: &usize| self.cost[s][*n].is_some_and(|cost| cost < 65_535);
         (0..self.routers).filter(|n| in_use(n) && *n != e).collect()
     }
+}
+
+/// A router's own cost to a prefix, if it is attached to it.
+pub fn own_cost(prefix: &Prefix, router: usize) -> Option<u64> {
+    let own = prefix.attachments.iter().find(|own| usize::from(own.router) == router);
+    own.map(|own| u64::from(own.cost))
 }

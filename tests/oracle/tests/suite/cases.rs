@@ -86,6 +86,13 @@ fn the_networks_worked_by_hand_are_stored() {
         ("maintenance_costs", maintenance_costs()),
         ("ring_6_costs_65534", ring_6_of_cost(65_534)),
         ("ring_6_costs_65535", ring_6_of_cost(65_535)),
+        ("attached_ring_4", attached_ring_4()),
+        ("attached_first_hop", attached_first_hop()),
+        ("attached_far_end", attached_far_end()),
+        ("attached_tunnel", attached_tunnel()),
+        ("attached_s", attached_s()),
+        ("attached_class", attached_class()),
+        ("attached_everywhere", attached_everywhere()),
     ];
     let cases = stored_cases();
     for (name, network) in stored {

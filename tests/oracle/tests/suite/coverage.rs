@@ -37,7 +37,7 @@ fn the_corpus_meets_everything() {
             }
         }
         if opened.refusal(&Inputs::default()).is_none() {
-            met.extend(delivery_or_step(&opened));
+            met.extend(delivered(&opened));
         }
     }
     for expected in everything() {
@@ -64,7 +64,8 @@ fn everything() -> Vec<String> {
         "text",
         "written",
         "nothing written",
-        "delivery or step",
+        "delivered at the distance, a step tight",
+        "delivered at a dear attachment",
         "a router decided by E to S alone",
     ];
     let kinds = kinds.into_iter().map(str::to_string);
@@ -129,16 +130,22 @@ fn key_of(opened: &Opened, question: &Question) -> Option<String> {
     Some(format!("key {key}"))
 }
 
-/// Whether some router may either deliver to a prefix or step on.
-fn delivery_or_step(opened: &Opened) -> Option<String> {
+/// The routers that deliver though a step of theirs is tight: whether their own
+/// cost is the distance, or above it.
+fn delivered(opened: &Opened) -> Vec<String> {
     let workings = opened.workings();
-    let mut prefixes = 0..workings.network.prefixes.len() as u64;
-    let found = prefixes.any(|prefix| {
-        let walks = workings.to_prefix(prefix);
-        workings.routers().any(|x| {
-            let moves = walks.moves(x);
-            moves.len() > 1 && moves[0] == Move::Deliver
-        })
-    });
-    found.then(|| "delivery or step".to_string())
+    let mut met = Vec::new();
+    for (number, prefix) in workings.network.prefixes.iter().enumerate() {
+        let walks = workings.to_prefix(number as u64);
+        for attachment in &prefix.attachments {
+            let x = usize::from(attachment.router);
+            assert_eq!(walks.moves(x), [Move::Deliver]);
+            if u32::from(attachment.cost) > walks.remaining(x) {
+                met.push("delivered at a dear attachment".to_string());
+            } else if !walks.tight(x).is_empty() {
+                met.push("delivered at the distance, a step tight".to_string());
+            }
+        }
+    }
+    met
 }

@@ -1,5 +1,6 @@
 //! The oracle's own tests.
 
+mod attached;
 mod brute;
 mod buffers;
 mod cases;

@@ -1,6 +1,6 @@
 //! Played routes: the choices, and every hop of every route.
 
-use crate::brute::Brute;
+use crate::brute::{Brute, own_cost};
 use crate::common::{pair, prefix_repair, random_networks, route};
 use oracle::answer::Answer;
 use oracle::generate::{self, Family};
@@ -80,14 +80,15 @@ fn arrival_at_the_endpoint_uses_no_byte() {
 }
 
 #[test]
-fn delivery_stands_first() {
-    // Ring 4: routers 3 and 2 may both deliver, 3 at cost 1 or over 2.
-    let network = ring(4).prefix(&[(1, 0), (2, 0), (3, 1)]);
-    assert_eq!(prefix_repair(&network, 0, 0, 0), pair(3, 3, 1, 1));
-    assert_eq!(route(&network, 0, 0, 0, &[]), [0, 3]);
-    assert_eq!(route(&network, 0, 0, 0, &[0, 1]), [0, 3]);
-    assert_eq!(route(&network, 0, 0, 0, &[1]), [0, 3, 2]);
-    assert_eq!(route(&network, 0, 0, 0, &[3, 1]), [0, 3, 2]);
+fn delivery_is_the_only_option() {
+    // Ring 4: router 3 is attached, at the cost of the way over 2 and above it.
+    for own in [1, 2, 100, 65_535] {
+        let network = ring(4).prefix(&[(1, 0), (2, 0), (3, own)]);
+        assert_eq!(prefix_repair(&network, 0, 0, 0), pair(3, 3, 1, 1));
+        for choices in [&[][..], &[1], &[3, 1], &[255; 8]] {
+            assert_eq!(route(&network, 0, 0, 0, choices), [0, 3]);
+        }
+    }
 }
 
 /// A route once more, played by hand from the plain definitions.
@@ -119,13 +120,9 @@ fn replayed(
         written.push(here);
     }
     loop {
-        let remaining = |z| brute.to_prefix(z, prefix);
-        let mut options = nexts(here, &remaining);
-        let delivers = prefix.attachments.iter().any(|attachment| {
-            usize::from(attachment.router) == here && u64::from(attachment.cost) == remaining(here)
-        });
-        if delivers {
-            options.insert(0, None);
+        let mut options = nexts(here, &|z| brute.to_prefix(z, prefix));
+        if own_cost(prefix, here).is_some() {
+            options = vec![None];
         }
         match pick(&options) {
             Some(next) => here = next,
