@@ -273,7 +273,7 @@ pub record AsBefore (q : Question) (to : Target) : Type 0 where
   pub has-this : (n y : ℕ) → HasThis q to n y ↔ FormerlyHasThis q to n y
   -- So what an answer owes by the walks of today it owes by those of then; and only one answer could meet what was owed then.
   pub repaired : (answer : Answer) → Repaired q to answer → RepairedBy q (keys q) (FormerlyHasThis q to) to answer
-  pub one-answer : (answer other : Answer) → RepairedBy q (keys q) (FormerlyHasThis q to) to answer → RepairedBy q (keys q) (FormerlyHasThis q to) to other → answer ≡ other
+  pub only-answer : (answer other : Answer) → RepairedBy q (keys q) (FormerlyHasThis q to) to answer → RepairedBy q (keys q) (FormerlyHasThis q to) to other → answer ≡ other
 
 pub record Point4 (q : Question) : Type 0 where
   -- "a walk towards a prefix now ends at the first attached router on it, however dear that attachment is": a step of today is one of then

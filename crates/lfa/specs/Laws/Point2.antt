@@ -6,11 +6,10 @@ use mathlib.Core.Bool.{true}
 use mathlib.Core.Option.{Option, none, some}
 use mathlib.Core.List.{List}
 use native.Mathlib.Omega.{arith}
-use lib.ListN.{getD}
 use Rattle.lfa.specs.Lists.{memberOf, anyOf}
 use Rattle.lfa.specs.Network.{Target}
 use Rattle.lfa.specs.Ranks.{rankOf, Arrangement, ascending, isArrangement}
-use Rattle.lfa.specs.Repair.{Pair, HasClass, Told, Keys, keysAt, key}
+use Rattle.lfa.specs.Repair.{Pair, Told, keysAt}
 use Rattle.lfa.specs.Question.{Question, Call, load, fill, space, linkRepair, prefixRepair, route, askLink, askPrefix, askRoute, withRanks, Buffer, workArea, routeBuffer, aRankTable, lent, HasInput, inputsOf, inputNumber, hasInput, networkAsked, linkAsked, withDistances}
 use Rattle.lfa.specs.Refusal.{badLength, badCheck, badHead, badBlockCount, badBlock, badLink, parallelLink, badPrefix, routerTwice, shortArea, shortBuffer, badRanks, noSuchLink, noSuchPrefix, Row, ofFile, early, noPair, Decided, Decides, leavesAll, fileNumber, entryOf, returned, tries, allRows, rowsTried, refusalOf, Posed}
 use Rattle.lfa.specs.Answer.{Answer, refused, refusal, computed, answerTo, writtenTo, leave, exitBy, exitOf}

@@ -100,7 +100,7 @@ module _ (q : Question) (p : Posed q) (d2 : Demand2 q) (d3 : Demand3 q (answerTo
     may-cross = same-crossing (Hops q) (D q) dist to below;
     has-this = same-this to below;
     repaired = λ answer. other-repaired (same-this to below);
-    one-answer = only-answer q (λ t. rankOf (q .ranks) (t .class)) (FormerlyHasThis q to) to;
+    only-answer = only-answer q (λ t. rankOf (q .ranks) (t .class)) (FormerlyHasThis q to) to;
   }
 
   -- The first leg is as before; every walk of the second is the start of one of then, and arrives since the target is within reach.
