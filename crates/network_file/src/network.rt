@@ -1,6 +1,6 @@
 // The network by value: columns of numbers, every cell past its count zero.
 ghost use mathlib.Core.Path.{_≡_};
-ghost use mathlib.Core.List.{List, []};
+ghost use mathlib.Core.List.{[]};
 ghost use Rattle.network_file.specs.Struct.{structOf};
 
 // Routers, links and prefixes as document 01 counts them. Link k joins from[k] and to[k], at cost out[k] one way and back[k] the
