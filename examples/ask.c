@@ -14,8 +14,8 @@ static uint8_t file[6657];
 /* Enough for the distances of 64 routers. */
 static uint32_t work[64 * 64];
 
-/* The rank of each class, 0 to 3: the lower class is preferred. With 2, 3, 0, 1 tunnels would be. */
-static const uint8_t ranks[] = {0, 1, 2, 3};
+/* The rank of each class, 0 to 7: the lower class is preferred. With 4, 5, 0, 1, 6, 7, 2, 3 tunnels would be. */
+static const uint8_t ranks[] = {0, 1, 2, 3, 4, 5, 6, 7};
 
 int main(int count, char **words) {
     if (count != 2) {

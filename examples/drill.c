@@ -12,8 +12,8 @@
 static uint8_t file[1024];
 static uint32_t work[64 * 64];
 
-/* The rank of each class, 0 to 3: the lower class is preferred. */
-static const uint8_t ranks[] = {0, 1, 2, 3};
+/* The rank of each class, 0 to 7: the lower class is preferred. */
+static const uint8_t ranks[] = {0, 1, 2, 3, 4, 5, 6, 7};
 
 /* Asks for the repair and prints the answer. */
 static void repair(size_t length) {

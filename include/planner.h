@@ -10,9 +10,9 @@
  *   the distance from router x to router t, and 4294967295 where no path leads. The cells after them stay as they were. N is at most
  *   64, so that 4096 cells are enough for every file, and 128 bytes for `route`.
  * - `ranks` says which classes of pairs are preferred, and is never changed: cell c is the rank of class c, and of the pairs that serve
- *   the one whose class has the lowest rank comes first. It holds 0, 1, 2 and 3 once each, in any order, so that `ranks_len` is 4. The
- *   cells 0, 1, 2, 3 prefer the lower class, as `plan` does; 2, 3, 0, 1 prefer tunnels. Which questions row 14 refuses does not depend
- *   on the ranks, and the answer tells the class, not its rank.
+ *   the one whose class has the lowest rank comes first. It holds the numbers 0 to 7 once each, in any order, so that `ranks_len` is 8.
+ *   The cells 0, 1, 2, 3, 4, 5, 6, 7 prefer the lower class, as `plan` does; 4, 5, 0, 1, 6, 7, 2, 3 prefer tunnels. Which questions row
+ *   14 refuses does not depend on the ranks, and the answer tells the class, not its rank.
  * - `link` is the number of a link in file order, `end` is 0 where its first router is S and 1 where its second is, and `prefix` is the
  *   number of a prefix in file order.
  *
@@ -34,8 +34,8 @@
  *   9       prefix: two of its attachments name the same router                                      the first such prefix
  *   10      `work` has fewer than N * N cells                                                        N * N
  *   11      `route` has fewer than 2 * N bytes                                                       2 * N
- *   15      `ranks` does not hold 0, 1, 2 and 3 once each: too few or many cells, a rank over 3, or  0
- *           one that stands twice
+ *   15      `ranks` does not hold the numbers 0 to 7 once each: too few or many cells, a rank over   0
+ *           7, or one that stands twice
  *   12      `link` is not below the number of links, or `end` is above 1                             the number of links
  *   13      `prefix` is not below the number of prefixes                                             the number of prefixes
  *   14      there is no repair: no pair of first hop and endpoint serves; a neighbour to which the   0
@@ -52,11 +52,15 @@
 
 /* The version of this interface. It is one higher with each change of the interface; the list says what has to be changed in a program.
  *
+ *   4   There are eight classes: a pair by which a packet may visit the far router E has 4 more than before. So the repair of a link has
+ *       the class 4 to 7, and that of a prefix, with ascending ranks, is by a pair that does without E where there is one. `ranks` has
+ *       eight cells, and four are refused by row 15. A program that calls planner_link_repair, planner_prefix_repair or planner_route,
+ *       or that reads a class, has to be changed.
  *   3   planner_write and planner_drill are new. Nothing has to be changed in a program for version 2.
  *   2   planner_link_repair, planner_prefix_repair and planner_route take `ranks` and `ranks_len` after `work_len`, and may be refused
  *       by row 15. With the ranks 0, 1, 2, 3 they answer as before. A program that calls them has to be changed.
  *   1   had no number: the three calls took no ranks. */
-#define PLANNER_VERSION 3
+#define PLANNER_VERSION 4
 
 #ifdef __cplusplus
 extern "C" {
@@ -81,7 +85,7 @@ typedef struct {
     uint64_t value;      /* the value of a refusal, a set, or a number of routers */
     size_t first;        /* the first hop */
     size_t endpoint;     /* the tunnel's endpoint */
-    uint32_t pair_class; /* the class, 0 to 3 */
+    uint32_t pair_class; /* the class, 0 to 7. Below 4 no packet visits E, so that the repair survives the failure of E too */
     uint32_t cost;       /* the tunnel cost */
 } planner_answer;
 

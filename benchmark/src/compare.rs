@@ -10,7 +10,7 @@ const GUARD: usize = 3;
 
 /// The ranks that repairs are asked for with: those of links with both tables,
 /// those of prefixes with the first where the prefix number is even.
-const RANKS: [[u8; 4]; 2] = [ASCENDING_RANKS, [2, 3, 1, 0]];
+const RANKS: [[u8; 8]; 2] = [ASCENDING_RANKS, [2, 6, 4, 7, 3, 5, 1, 0]];
 
 /// The choices that each route is played with.
 fn choice_strings() -> Vec<Vec<u8>> {

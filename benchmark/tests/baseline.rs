@@ -164,6 +164,32 @@ fn random_networks_have_the_same_outcomes() {
     }
 }
 
+/// The three calls that take ranks, about link 0, end 0 and prefix 0.
+fn calls() -> [Question; 3] {
+    [Question::link_repair(0, 0), Question::prefix_repair(0, 0, 0), Question::route(0, 0, 0, &[])]
+}
+
+/// Every arrangement where each class has a pair, and 1,000 on each other network made by
+/// hand.
+#[test]
+fn arrangements_have_the_same_outcomes() {
+    let sound = Context::sound();
+    for (name, network) in oracle::worked::all() {
+        let tables = match name {
+            "node, eight classes" | "four classes" => oracle::ranks::arrangements(),
+            _ => oracle::ranks::random_tables(1000, 9),
+        };
+        let file = oracle::file::write(&network);
+        let opened = Opened::new(&sound, &file);
+        let lent = corpus::marked(4096, 128);
+        for (ranks, question) in tables.iter().flat_map(|ranks| calls().map(|call| (ranks, call))) {
+            let question = question.with_ranks(ranks);
+            let expected = opened.ask(&question, &lent);
+            assert!(agrees(&file, &question, &lent, &expected), "{name}: {question:?}");
+        }
+    }
+}
+
 /// Every wrong table, in each call that takes ranks.
 #[test]
 fn wrong_ranks_have_the_same_outcomes() {
@@ -171,11 +197,7 @@ fn wrong_ranks_have_the_same_outcomes() {
     let opened = Opened::new(&sound, &file);
     let lent = corpus::marked(17, 9);
     for ranks in oracle::ranks::wrong_tables() {
-        for question in [
-            Question::link_repair(0, 0),
-            Question::prefix_repair(0, 0, 0),
-            Question::route(0, 0, 0, &[]),
-        ] {
+        for question in calls() {
             let question = question.with_ranks(&ranks);
             let expected = opened.ask(&question, &lent);
             assert_eq!(expected.answer, Expected::Refused { number: 15, value: 0 });

@@ -1,5 +1,6 @@
-//! The protected link, targets, and the routers that avoid the link on the way to
-//! a target: by the distance test, and towards a prefix by following steps.
+//! The protected link, targets, the routers that avoid the link on the way to a
+//! target, and those that may visit its far router: by the distance test, and towards
+//! a prefix by following steps.
 //!
 //! A link leads both ways, so S, E and every first hop reach the same routers.
 //! Of these all distances are finite and small, so that no sum goes beyond 32
@@ -86,6 +87,17 @@ pub fn avoiding_from(graph: &Graph, work: &[u32], link: &Protected, x: usize) ->
     set
 }
 
+/// The routers on the way to which some walk from x visits the far router.
+pub fn visiting_from(graph: &Graph, work: &[u32], link: &Protected, x: usize) -> u64 {
+    let own = row(graph, work, x);
+    let over = own[link.far];
+    let mut set = 0;
+    for (y, (own, far)) in own.iter().zip(row(graph, work, link.far)).enumerate() {
+        set |= u64::from(over.wrapping_add(*far) == *own) << y;
+    }
+    set
+}
+
 /// The routers that avoid the link on the way to a target. A router that
 /// cannot reach S may be wrong in the set; no first hop avoids to it.
 pub fn avoiding_to(graph: &Graph, work: &[u32], link: &Protected, to: &[u32; 64]) -> u64 {
@@ -110,9 +122,27 @@ pub fn crossing(graph: &Graph, work: &[u32], link: &Protected, target: &Target) 
     let over = to[far].wrapping_add(link.out) == to[near];
     let under = to[near].wrapping_add(link.back) == to[far];
     let seeds = u64::from(over) << near | u64::from(under) << far;
-    let mut set = seeds & !target.attached;
-    let mut open = !avoiding_to(graph, work, link, to) & !target.attached & !set;
-    open &= u64::MAX >> (64 - graph.routers);
+    let open = !avoiding_to(graph, work, link, to) & u64::MAX >> (64 - graph.routers);
+    leading(graph, target, seeds & !target.attached, open)
+}
+
+/// The routers from which some walk towards a prefix visits the far router, that router
+/// among them. They are looked for as the ones that cross the link are.
+pub fn visiting(graph: &Graph, work: &[u32], link: &Protected, target: &Target) -> u64 {
+    let over = target.to[link.far & 63];
+    let mut open = 0;
+    for (x, (row, own)) in rows(graph, work).zip(&target.to).enumerate() {
+        open |= u64::from(row[link.far].wrapping_add(over) == *own) << x;
+    }
+    leading(graph, target, 1 << link.far, open)
+}
+
+/// The seeds, and those of the open routers that are not attached and from which tight
+/// arcs lead to a seed.
+fn leading(graph: &Graph, target: &Target, seeds: u64, open: u64) -> u64 {
+    let to = &target.to;
+    let mut set = seeds;
+    let mut open = open & !target.attached & !seeds;
     loop {
         let before = set;
         let mut rest = open;

@@ -1,5 +1,6 @@
 //! The rows that judge what is asked beside the file: 10, 12, 13 and 15.
 
+use super::search::Ranks;
 use crate::answer::{Network, Refusal};
 
 /// Row 10.
@@ -12,11 +13,11 @@ pub fn enough_cells(network: &Network, work: &[u32]) -> Result<(), Refusal> {
 }
 
 /// Row 15, and the ranks as a table that every class has a place in.
-pub fn arranged(ranks: &[u8]) -> Result<[u8; 4], Refusal> {
-    let ranks: [u8; 4] = ranks.try_into().map_err(|_| Refusal::new(15, 0))?;
+pub fn arranged(ranks: &[u8]) -> Result<Ranks, Refusal> {
+    let ranks: Ranks = ranks.try_into().map_err(|_| Refusal::new(15, 0))?;
     let seen =
         ranks.iter().fold(0, |seen, rank| seen | 1u32.checked_shl((*rank).into()).unwrap_or(0));
-    if seen != 0b1111 {
+    if seen != 0xff {
         return Err(Refusal::new(15, 0));
     }
     Ok(ranks)

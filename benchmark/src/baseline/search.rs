@@ -1,8 +1,20 @@
 //! Spaces and repairs, by one pass over the pairs.
 
-use super::avoid::{avoiding_from, avoiding_to, crossing, row, Protected, Target};
+use super::avoid::{
+    avoiding_from, avoiding_to, crossing, row, visiting, visiting_from, Protected, Target,
+};
 use super::graph::{Arc, Graph};
 use crate::answer::{self, Answer, Refusal, Space, NO_PATH, PAIR, UNREACHABLE, UNTOUCHED};
+
+/// The rank of each class.
+pub type Ranks = [u8; 8];
+
+/// The second legs: the routers where they may start, and those of which a walk visits
+/// the far router.
+struct SecondLegs {
+    from: u64,
+    visiting: u64,
+}
 
 /// The cost of an arc under maintenance, over which no repair starts.
 const MAINTENANCE: u32 = 65_535;
@@ -34,7 +46,7 @@ pub fn space(space: Space, graph: &Graph, work: &[u32], link: &Protected) -> u64
 pub fn repair(
     graph: &Graph,
     work: &[u32],
-    ranks: &[u8; 4],
+    ranks: &Ranks,
     link: &Protected,
     target: &Target,
 ) -> Result<Answer, Refusal> {
@@ -46,47 +58,53 @@ pub fn repair(
     if !step || target.attached >> link.near & 1 == 1 {
         return Ok(answer::of(UNTOUCHED));
     }
-    let ends = !crossing(graph, work, link, target);
-    first_pair(graph, work, ranks, link, target, ends)
+    let from = !crossing(graph, work, link, target);
+    let second = SecondLegs { from, visiting: visiting(graph, work, link, target) };
+    first_pair(graph, work, ranks, link, target, second)
 }
 
-/// What a link repair answers: its target is E.
+/// What a link repair answers: its target is E, which every second leg visits.
 pub fn link_repair(
     graph: &Graph,
     work: &[u32],
-    ranks: &[u8; 4],
+    ranks: &Ranks,
     link: &Protected,
 ) -> Result<Answer, Refusal> {
     let target = Target::router(graph, work, link.far);
-    let ends = avoiding_to(graph, work, link, &target.to);
-    first_pair(graph, work, ranks, link, &target, ends)
+    let from = avoiding_to(graph, work, link, &target.to);
+    let second = SecondLegs { from, visiting: u64::MAX };
+    first_pair(graph, work, ranks, link, &target, second)
 }
 
-/// The first of the pairs that serve a target, where the second leg may start
-/// at these routers. The five keys of a pair fit
-/// one number of 64 bits: the rank of its class above the distance (22 bits), the
-/// endpoint (6), the tunnel cost (23) and the first hop (6).
+/// The first of the pairs that serve a target. The five keys of a pair fit one number of
+/// 64 bits: the rank of its class above the distance (22 bits), the endpoint (6), the
+/// tunnel cost (23) and the first hop (6).
 fn first_pair(
     graph: &Graph,
     work: &[u32],
-    ranks: &[u8; 4],
+    ranks: &Ranks,
     link: &Protected,
     target: &Target,
-    ends: u64,
+    second: SecondLegs,
 ) -> Result<Answer, Refusal> {
-    let ends = ends & !(1 << link.near) & !(1 << link.far);
+    let ends = second.from & !(1 << link.near) & !(1 << link.far);
     let from_near = row(graph, work, link.near);
     let mut best = u64::MAX;
     for arc in first_hops(graph, link) {
         let hop = arc.head();
         let own = row(graph, work, hop);
         let mut rest = ends & avoiding_from(graph, work, link, hop);
+        let mut visiting = second.visiting;
+        if visiting != u64::MAX {
+            visiting |= visiting_from(graph, work, link, hop);
+        }
         while rest != 0 {
             let y = rest.trailing_zeros() as usize;
             rest &= rest - 1;
             let nearer = target.to[y & 63] < target.to[link.near & 63];
-            let class = 2 * usize::from(y != hop) + usize::from(!nearer);
-            let rank = u64::from(ranks[class & 3]);
+            let visits = (visiting >> y & 1) as usize;
+            let class = 4 * visits + 2 * usize::from(y != hop) + usize::from(!nearer);
+            let rank = u64::from(ranks[class & 7]);
             let cost = u64::from(arc.cost() + own[y]);
             let order = rank << 28 | u64::from(from_near[y]) << 6 | y as u64;
             best = best.min(order << 29 | cost << 6 | hop as u64);
@@ -96,7 +114,7 @@ fn first_pair(
 }
 
 /// The answer that the least number of `first_pair` stands for.
-fn pair_of(best: u64, ranks: &[u8; 4]) -> Result<Answer, Refusal> {
+fn pair_of(best: u64, ranks: &Ranks) -> Result<Answer, Refusal> {
     if best == u64::MAX {
         return Err(Refusal::new(14, 0));
     }

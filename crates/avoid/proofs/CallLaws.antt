@@ -1,20 +1,22 @@
--- The test of the public functions, return by return, what it tells once it passes, and the answers of the two sets.
+-- The test of the public functions, return by return, what it tells once it passes, and the answers of the three sets.
 -- Assumes nothing.
-use Prim.Native.Nat.{ℕ, _≤_, _<_}
-use mathlib.Core.Path.{_≡_, refl, sym, _∙_}
+use Prim.Native.Nat.{ℕ, _+_, _≤_, _<_}
+use mathlib.Core.Path.{_≡_, refl, sym, ap₂, _∙_}
 use mathlib.Core.Bool.{Bool, true, false, _&&_}
 use mathlib.Core.Logic.{_⊎_, inl, inr}
 use mathlib.Core.List.{List}
+use native.Mathlib.Omega.{arith}
 use lib.Dec.{ltb}
 use lib.ListN.{length}
 use borrow.Author.Tests.{ltb-true, le-ltb}
-use Rattle.lfa.specs.Space.{Protected, setOf}
+use Rattle.lfa.specs.Space.{underMaintenance, Protected, setOf}
 use Rattle.lfa.specs.Laws.Test.{and-left, and-right, fails-left, fails-right}
+use Rattle.lfa.specs.Laws.Set.{setOf-same}
 use Rattle.metric.specs.Fit.{cellsFit}
 use Rattle.metric.specs.Laws.Fit.{cells-give}
 use Rattle.metric.specs.Area.{held}
-use Rattle.avoid.specs.Avoiding.{clears, clearsTo}
-use Rattle.avoid.specs.Calls.{Readable, readable, avoidingTo, avoidingFrom}
+use Rattle.avoid.specs.Avoiding.{clears, clearsTo, missesTo}
+use Rattle.avoid.specs.Calls.{Readable, readable, avoidingTo, avoidingFrom, missingFrom}
 use Rattle.avoid.specs.Laws.Calls.{to-known, from-known}
 
 -- ---- the test
@@ -58,3 +60,27 @@ module _ (n : ℕ) (q : Protected) (left sums : List ℕ) (x : ℕ) where
 
   pub from-found : {set : ℕ} → Readable n q left → Readable n q sums → x < n → set ≡ setOf n (clearsTo (held n left) (held n sums) q x) → set ≡ avoidingFrom n q left sums x
   from-found l r h e = e ∙ sym (from-known l r x h refl)
+
+-- ---- a router in the place of the link: it leads from v to v and costs nothing
+
+-- the two tests of such a link are one
+same-twice : (b : Bool) → (b && b) ≡ b
+same-twice true = refl
+same-twice false = refl
+
+alone-reads : (fit v x : Bool) → ((fit && (v && v)) && (fit && (v && v)) && x) ≡ (fit && v && x)
+alone-reads true true x = refl
+alone-reads true false x = refl
+alone-reads false v x = refl
+
+abbrev aloneAt : ℕ → Protected
+aloneAt v = record { number = 0; near = v; far = v; out = 0; back = 0; maintenance = underMaintenance }
+
+pub missing-found : {set : ℕ} (n v : ℕ) (area : List ℕ) (x : ℕ) → set ≡ avoidingFrom n (aloneAt v) area area x → set ≡ missingFrom n v area x
+unfolding avoidingFrom missingFrom readable clearsTo clears missesTo
+missing-found n v area x e =
+    e ∙ ap₂ (λ (b : Bool) (s : ℕ). elim b [ true ↦ s | false ↦ 0 ]) (alone-reads (cellsFit n (length area)) (ltb v n) (ltb x n))
+    (setOf-same n (clearsTo (held n area) (held n area) (aloneAt v) x) (missesTo (held n area) v x) (λ r k. test r))
+  where
+    test : (r : ℕ) → clearsTo (held n area) (held n area) (aloneAt v) x r ≡ missesTo (held n area) v x r
+    test r = let none : held n area x v + 0 ≡ held n area x v = omega arith in rw none (same-twice (missesTo (held n area) v x r))

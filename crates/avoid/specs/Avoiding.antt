@@ -1,5 +1,5 @@
--- The test by distances, which the code computes, of whether a router avoids the protected link. The distances on its left side and those
--- in its sums are given apart.
+-- The tests by distances, which the code computes, of whether a router avoids the protected link, the distances on the left side and those
+-- in the sums given apart, and of whether it reaches another without visiting a third.
 -- Assumes nothing.
 use Prim.Native.Nat.{ℕ, _+_, min}
 use mathlib.Core.Bool.{Bool, _&&_}
@@ -24,3 +24,7 @@ clears left sums q target x = belowBoth (left x) (sums x (q .near)) (sums x (q .
 -- router x avoids the link on the way to router r, by the distances on the left side and in the sums
 unfoldable pub clearsTo : (left sums : ℕ → ℕ → ℕ) → Protected → (x r : ℕ) → Bool
 clearsTo left sums q x r = clears (λ z. left z r) sums q (λ z. sums z r) x
+
+-- x reaches router r, and no shortest path visits router v: the distance is below the sum over v
+unfoldable pub missesTo : (ℕ → ℕ → ℕ) → (v x r : ℕ) → Bool
+missesTo d v x r = ltb (d x r) (min (d x v + d v r) unreachable)

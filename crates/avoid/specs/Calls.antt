@@ -8,7 +8,7 @@ use lib.ListN.{length}
 use Rattle.lfa.specs.Space.{Protected, setOf}
 use Rattle.metric.specs.Fit.{cellsFit}
 use Rattle.metric.specs.Area.{held}
-use Rattle.avoid.specs.Avoiding.{clears, clearsTo}
+use Rattle.avoid.specs.Avoiding.{clears, clearsTo, missesTo}
 
 -- the area has a cell for each two of at most 64 routers, and the ends of the protected link are routers
 pub record Readable (n : ℕ) (q : Protected) (area : List ℕ) : Type 0 where
@@ -29,3 +29,7 @@ avoidingTo n q left sums target = elim (readable n q (length sums)) [ true ↦ s
 unfoldable pub avoidingFrom : (n : ℕ) → Protected → (left sums : List ℕ) → (x : ℕ) → ℕ
 avoidingFrom n q left sums x =
     elim (readable n q (length left) && readable n q (length sums) && ltb x n) [ true ↦ setOf n (clearsTo (held n left) (held n sums) q x) | false ↦ 0 ]
+
+-- the routers that x reaches and to which no shortest path visits router v
+unfoldable pub missingFrom : (n v : ℕ) → (area : List ℕ) → (x : ℕ) → ℕ
+missingFrom n v area x = elim (cellsFit n (length area) && ltb v n && ltb x n) [ true ↦ setOf n (missesTo (held n area) v x) | false ↦ 0 ]

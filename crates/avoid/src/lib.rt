@@ -1,4 +1,5 @@
-// The routers that avoid the protected link, by distances: on the way to a target, and from one router.
+// The routers that avoid the protected link, by distances: on the way to a target, and from one router; and those that a router reaches
+// without visiting another.
 //
 // A router avoids the link on the way to another exactly where its distance is below both sums over the link. On the way to a prefix this
 // test is enough, but a router may avoid the link without it, since walks end at attached routers. The distances on the left side of the
@@ -11,7 +12,7 @@ use set::set_to;
 ghost use mathlib.Core.Path.{_≡_};
 ghost use lib.ListN.{getD};
 ghost use Rattle.avoid.specs.Avoiding.{asked};
-ghost use Rattle.avoid.specs.Calls.{readable, avoidingTo, avoidingFrom};
+ghost use Rattle.avoid.specs.Calls.{readable, avoidingTo, avoidingFrom, missingFrom};
 
 mod set;
 
@@ -67,4 +68,19 @@ pub fn avoiding_from(left: &[u32], sums: &[u32], n: usize, protected: Protected,
         return 0;
     }
     set_from(left, sums, n, protected, x)
+}
+
+// The routers that x reaches and to which no shortest path from x visits router v. Of these, and of no others, the distance is below the
+// sum over v: the test is that of a link which leads from v to v and costs nothing.
+pub fn missing_from(dist: &[u32], n: usize, v: usize, x: usize) -> u64
+    ensures { λ r. ⌜ r ≡ missingFrom n v (now (dist .entry)) x ⌝ }
+{
+    let alone = Protected {
+        number: 0,
+        near: v,
+        far: v,
+        out: 0,
+        back: 0,
+    };
+    avoiding_from(dist, dist, n, alone, x)
 }

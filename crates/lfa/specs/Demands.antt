@@ -2,7 +2,7 @@
 -- `answerTo` and `exitOf` of a question, `networkLoaded`, `linkPart` and `prefixPart` of a file, `sizeOf` of a set, `Drilled` and `Wrote`
 -- of a buffer. Statements only: `Laws/Demands.antt` proves the last type of this page.
 -- Assumes nothing.
-use Prim.Native.Nat.{ℕ, _+_, _*_, _≤_, _<_}
+use Prim.Native.Nat.{ℕ, _+_, _*_, _%_, _≤_, _<_}
 use mathlib.Core.Path.{_≡_}
 use mathlib.Core.Logic.{_⊎_, _↔_}
 use mathlib.Core.Bool.{true}
@@ -17,9 +17,9 @@ use Rattle.lfa.specs.Walk.{Step, Delivers, WalkBy, Walk, CrossesBy, Arri
 use Rattle.lfa.specs.Former.{FormerStep, FormerDelivers, OwnCostsBelow}
 use Rattle.lfa.specs.Space.{underMaintenance, FirstHop, IsFirstHop, Space, has, sizeOf, Member}
 use Rattle.lfa.specs.Ranks.{rankOf, Arrangement, ascending}
-use Rattle.lfa.specs.Repair.{Pair, IsPair, Told, Tells, Keys, First, MayCross}
+use Rattle.lfa.specs.Repair.{Pair, IsPair, HasBaseClass, Told, Tells, Keys, First, MayCross}
 use Rattle.lfa.specs.Route.{deliver, AreOptionsBy, AreOptions, options, NamedRoute}
-use Rattle.lfa.specs.Question.{Question, Call, load, fill, linkRepair, prefixRepair, route, space, loading, filling, askSpace, askLink, askPrefix, askRoute, toPrefixRepair, withoutMaintenance, withRanks, LooksAtFirstHops, Buffer, workArea, routeBuffer, aRankTable, aPrefix, lent, HasInput, networkAsked, linkAsked, prefixAsked}
+use Rattle.lfa.specs.Question.{Question, Call, load, fill, linkRepair, prefixRepair, route, space, loading, filling, askSpace, askLink, askPrefix, askRoute, toPrefixRepair, withoutMaintenance, withRanks, LooksAtFirstHops, Buffer, workArea, routeBuffer, aRankTable, aLink, aPrefix, lent, HasInput, networkAsked, linkAsked, prefixAsked}
 use Rattle.lfa.specs.Refusal.{Row, noPair, Applies, entryOf, rowsTried, Decides, Accepted, Posed}
 use Rattle.lfa.specs.Writing.{Wrote}
 use Rattle.lfa.specs.Drill.{IsDrill, Drilled}
@@ -105,7 +105,7 @@ Candidate q p = IsPair (N q) (Hops q) (linkAsked q) p
 
 -- what a repair would tell of a pair
 abbrev pub TellsOf : Question → Target → Pair → Told → Type 0
-TellsOf q to p t = Tells (D q) (linkAsked q) to p t
+TellsOf q to p t = Tells (Hops q) (D q) (linkAsked q) to p t
 
 -- what the order of document 01 looks at: class, D(S,y), y, tunnel cost, n
 abbrev pub keysByClass : Question → Told → Keys
@@ -220,8 +220,9 @@ pub record Point1 (q : Question) : Type 0 where
   pub nothing-changes : (LooksAtFirstHops (q .call) → Posed q → (f : FirstHop) → IsNeighbour q f → f .cost < 65535) → SameReply q (withoutMaintenance q)
   pub same-distances : HasInput q (lent workArea) → (area : List ℕ) → exitOf q workArea area ≡ exitOf (withoutMaintenance q) workArea area
 
--- ---- Point 2: "The four classes get a table of four ranks, lent with each repair question." The order by ranks is in `keys`, the cause of
--- number 15 in `Causes`, its place in `EachCallTries`, and that demand 3 is for questions that it does not turn away in `Posed`.
+-- ---- Point 2: "The four classes get a table of four ranks, lent with each repair question." Since Point 5 there are eight of both. The
+-- order by ranks is in `keys`, the cause of number 15 in `Causes`, its place in `EachCallTries`, and that demand 3 is for questions that it
+-- does not turn away in `Posed`.
 
 -- "lent with each repair question": the question holds the table that the call is lent, and with another table it is the same but for it
 pub record RanksLent : Type 0 where
@@ -245,7 +246,7 @@ pub record Point2 (q : Question) : Type 0 where
   pub same-work : Arrangement (q .ranks) → (ranks : List ℕ) → Arrangement ranks → HasInput q (lent workArea) → (area : List ℕ) → exitOf q workArea area ≡ exitOf (withRanks ranks q) workArea area
   -- "Numbers 15 .. write nothing", "value 0"
   pub writes-nothing : (v : ℕ) → answerTo q ≡ refused 15 v → (v ≡ 0) × ((x : Buffer) → HasInput q (lent x) → (before : List ℕ) → exitOf q x before ≡ before)
-  -- with ascending ranks demand 3 is what it was before: a repair is the first by class
+  -- with ascending ranks demand 3 is what it was before the Point: a repair is the first by class
   pub as-before : q .ranks ≡ ascending → Posed q → Demand3By q (keysByClass q) (answerTo q)
   -- which leaves no choice: only one repair is first by class, and only one by the ranks
   pub one-by-class : (to : Target) (t u : Told) → IsFirst q (keysByClass q) (HasThis q to) to t → IsFirst q (keysByClass q) (HasThis q to) to u → t ≡ u
@@ -297,6 +298,47 @@ pub record Point4 (q : Question) : Type 0 where
   pub below-as-before : (to : Target) → OwnCostsBelow (Hops q) (D q) to → AsBefore q to
   pub one-cost-as-before : HasInput q aPrefix → (cost : ℕ) → ((x own : ℕ) → List·Memᴰ (at x own) (prefixAsked q) → own ≡ cost) → AsBefore q (prefixAsked q)
 
+-- ---- Point 5: "A storm takes the far router, not only the link." `Repair.NodeProtecting` says which pairs survive that, `Repair.HasClass`
+-- what class a pair has. Demands 2 and 3 speak of this class wherever a repair tells one, and of its rank wherever pairs are ordered.
+
+-- "no walk from n to y, nor from y to delivery, visits E": none has E for its start, its end or any router between
+pub record MissesFar (q : Question) (to : Target) (n y : ℕ) : Type 0 where
+  pub first-leg : (k : ℕ) → Walk (Hops q) (D q) (router y) n (linkAsked q .far) k → ⊥
+  pub second-leg : (k : ℕ) → Walk (Hops q) (D q) to y (linkAsked q .far) k → ⊥
+
+-- "The table of Point 2 now has eight ranks, 0 to 7 once each", and in ascending ranks class c has rank c
+pub record EightRanks : Type 0 where
+  pub once-each : (ranks : List ℕ) → Arrangement ranks ↔ ((length ranks ≡ 8) × ((k : ℕ) → k ≤ 7 → HowMany (λ class. getD ranks class 0 ≡ k) 8 1))
+  pub ascending-is : (class : ℕ) → class ≤ 7 → getD ascending class 0 ≡ class
+  pub ascending-arranged : Arrangement ascending
+
+-- what the order looked at while there were four classes: a class without the 4 that may have been added
+abbrev pub keysByFormerClass : Question → Told → Keys
+keysByFormerClass q t = record { rank = t .class % 4; distance = D q (linkAsked q .near) (t .endpoint); endpoint = t .endpoint; cost = t .cost; first = t .first }
+
+-- a class "in 4 to 7"
+abbrev pub From4To7 : ℕ → Type 0
+From4To7 class = (4 ≤ class) × (class ≤ 7)
+
+pub record Point5 (q : Question) : Type 0 where
+  -- "Classes 0 to 3 are for node-protecting pairs; any other pair has 4 added": a class is one of eight, it is below 4 exactly for
+  -- node-protecting pairs, and modulo 4 it is the class of before
+  pub eight-classes : (to : Target) (p : Pair) (t : Told) → TellsOf q to p t → t .class ≤ 7
+  pub below-4-exactly : (to : Target) (p : Pair) (t : Told) → TellsOf q to p t → (t .class < 4) ↔ MissesFar q to (p .hop .router) (p .endpoint)
+  pub class-of-before : (to : Target) (p : Pair) (t : Told) → TellsOf q to p t → HasBaseClass (D q) (linkAsked q) to (p .hop .router) (p .endpoint) (t .class % 4)
+  -- "A link's own target is E, so its pairs are in 4 to 7": every pair that serves it, and the one that is answered
+  pub link-pairs : HasInput q aLink → (p : Pair) (t : Told) → Candidate q p → HasThis q (router (linkAsked q .far)) (p .hop .router) (p .endpoint) → TellsOf q (router (linkAsked q .far)) p t → From4To7 (t .class)
+  pub link-class : q .call ≡ linkRepair → (t : Told) → answerTo q ≡ repair t → From4To7 (t .class)
+  -- so that with ascending ranks a link's own repair is the pair that it was before, and only one pair is
+  pub link-as-before : q .call ≡ linkRepair → q .ranks ≡ ascending → (t : Told) → answerTo q ≡ repair t →
+      IsFirst q (keysByFormerClass q) (HasThis q (router (linkAsked q .far))) (router (linkAsked q .far)) t
+  pub one-by-former-class : (to : Target) (t u : Told) → IsFirst q (keysByFormerClass q) (HasThis q to) to t → IsFirst q (keysByFormerClass q) (HasThis q to) to u → t ≡ u
+  -- "With the ranks ascending, a prefix repair's class below 4 tells a user that every walk misses E" (it does with other ranks too), "and 4
+  -- or more that no serving pair is node-protecting."
+  pub class-below-4 : q .call ≡ prefixRepair → (t : Told) → answerTo q ≡ repair t → t .class < 4 → MissesFar q (prefixAsked q) (t .first) (t .endpoint)
+  pub class-from-4 : q .call ≡ prefixRepair → q .ranks ≡ ascending → (t : Told) → answerTo q ≡ repair t → 4 ≤ t .class →
+      (p : Pair) → Candidate q p → HasThis q (prefixAsked q) (p .hop .router) (p .endpoint) → MissesFar q (prefixAsked q) (p .hop .router) (p .endpoint) → ⊥
+
 -- ---- Point 13: calls that make a network file in a lent buffer
 
 -- What a call leaves that is lent the buffer `before`: it has a file to write or none, of so many bytes, which holds such a network.
@@ -327,9 +369,10 @@ pub record Demands : Type 0 where
   pub put-at-65535 : PutAt65535
   pub point-1 : (q : Question) → q .maintenance ≡ underMaintenance → ((i : ℕ) → byteAt (q .file) i < 256) → Point1 q
   pub ranks-lent : RanksLent
-  pub ascending-arranged : Arrangement ascending
+  pub eight-ranks : EightRanks
   pub point-2 : (q : Question) → Point2 q
   pub point-4 : (q : Question) → Posed q → Point4 q
+  pub point-5 : (q : Question) → Posed q → Point5 q
   pub point-13 : Point13
   -- of a file of bytes, that is what `Posed` means
   pub posed-when : (q : Question) → ((i : ℕ) → byteAt (q .file) i < 256) →

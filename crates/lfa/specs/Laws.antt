@@ -14,6 +14,8 @@ pub mod Walk
 pub mod Arrive
 pub mod Bound
 pub mod Avoid
+pub mod Visit
+pub mod Class
 pub mod Order
 pub mod Pair
 pub mod Serve
@@ -47,5 +49,6 @@ pub mod OnlyOne
 pub mod Point2
 pub mod Former
 pub mod Point4
+pub mod Point5
 pub mod Point13
 pub mod Demands

@@ -1,4 +1,4 @@
--- "Members choose the order" (Point 2): the table that gives each class its rank.
+-- "Members choose the order" (Point 2): the table that gives each class its rank. Point 5 made eight classes of four.
 -- Assumes nothing.
 use Prim.Native.Nat.{ℕ, _<_}
 use mathlib.Core.Path.{_≡_}
@@ -8,23 +8,23 @@ use lib.Dec.{eqb}
 use lib.ListN.{getD, length}
 use Rattle.lfa.specs.Lists.{everyBelow, count, HowMany}
 
--- "The four classes": 0 to 3
+-- Point 5: the classes are 0 to 7, "0 to 3 .. for node-protecting pairs; any other pair has 4 added"
 abbrev pub classes : ℕ
-classes = 4
+classes = 8
 
 -- the rank that a table gives to a class
 abbrev pub rankOf : (ranks : List ℕ) → (class : ℕ) → ℕ
 rankOf ranks class = getD ranks class 0
 
--- "a table of four ranks .. It must hold 0, 1, 2 and 3 once each": it gives a rank to each class and to nothing else, and each rank to
--- just one class
+-- Point 5: "The table of Point 2 now has eight ranks, 0 to 7 once each": it gives a rank to each class and to nothing else, and each rank
+-- to just one class
 pub record Arrangement (ranks : List ℕ) : Type 0 where
   pub for-each-class : length ranks ≡ classes
   pub once-each : (k : ℕ) → k < classes → HowMany (λ class. rankOf ranks class ≡ k) classes 1
 
 -- "ascending ranks": class c has rank c
 abbrev pub ascending : List ℕ
-ascending = 0 ∷ 1 ∷ 2 ∷ 3 ∷ []
+ascending = 0 ∷ 1 ∷ 2 ∷ 3 ∷ 4 ∷ 5 ∷ 6 ∷ 7 ∷ []
 
 -- ---- the computation
 

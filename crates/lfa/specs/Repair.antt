@@ -1,4 +1,4 @@
--- "Repairs": pairs, serving, class, the order, link repair and prefix repair.
+-- "Repairs": pairs, serving, node protection (Point 5), class, the order, link repair and prefix repair.
 -- Assumes nothing.
 use Prim.Native.Nat.{ℕ, _+_, _≤_, _<_}
 use mathlib.Core.Path.{_≡_}
@@ -10,7 +10,7 @@ use lib.Dec.{eqb, ltb}
 use Rattle.lfa.specs.Lists.{below, select, flat}
 use Rattle.lfa.specs.Network.{Arc, Target, router}
 use Rattle.lfa.specs.Distance.{unreachable, towards}
-use Rattle.lfa.specs.Walk.{Avoids, Crosses, avoids, crosses}
+use Rattle.lfa.specs.Walk.{Avoids, Crosses, Visits, avoids, crosses, visits}
 use Rattle.lfa.specs.Space.{Protected, FirstHop, IsFirstHop, firstHops}
 use Rattle.lfa.specs.Ranks.{rankOf}
 
@@ -56,22 +56,40 @@ MayCross hops d q to = Crosses hops d to (q .near) (q .number) (q .near) (q .far
 unfoldable pub mayCross : ℕ → List Arc → (ℕ → ℕ → ℕ) → Protected → Target → Bool
 mayCross n hops d q to = crosses n hops d to (q .number) (q .near) (q .far) (q .near)
 
+-- ---- node protection
+
+-- Point 5: "A pair is node-protecting for a prefix when no walk from n to y, nor from y to delivery, visits E."
+pub record NodeProtecting (hops : List Arc) (d : ℕ → ℕ → ℕ) (q : Protected) (to : Target) (n y : ℕ) : Type 0 where
+  pub tunnel : Visits hops d (router y) n (q .far) → ⊥
+  pub onward : Visits hops d to y (q .far) → ⊥
+
+unfoldable pub nodeProtects : ℕ → List Arc → (ℕ → ℕ → ℕ) → Protected → Target → Pair → Bool
+nodeProtects routers hops d q to p = not (visits routers hops d (router (p .endpoint)) (q .far) (p .hop .router)) && not (visits routers hops d to (q .far) (p .endpoint))
+
 -- ---- class and order
 
--- "Class: 0 if y = n, 2 if not; plus 1 unless D(y,t) < D(S,t)": the class of a pair
-pub data HasClass (d : ℕ → ℕ → ℕ) (q : Protected) (to : Target) (n y : ℕ) : ℕ → Type 0 where
-  neighbour-downstream : y ≡ n → towards d to y < towards d to (q .near) → HasClass d q to n y 0
-  neighbour-other : y ≡ n → towards d to (q .near) ≤ towards d to y → HasClass d q to n y 1
-  tunnel-downstream : (y ≡ n → ⊥) → towards d to y < towards d to (q .near) → HasClass d q to n y 2
-  tunnel-other : (y ≡ n → ⊥) → towards d to (q .near) ≤ towards d to y → HasClass d q to n y 3
+-- "Class: 0 if y = n, 2 if not; plus 1 unless D(y,t) < D(S,t)": the class of document 01, which looks at the link alone
+pub data HasBaseClass (d : ℕ → ℕ → ℕ) (q : Protected) (to : Target) (n y : ℕ) : ℕ → Type 0 where
+  neighbour-downstream : y ≡ n → towards d to y < towards d to (q .near) → HasBaseClass d q to n y 0
+  neighbour-other : y ≡ n → towards d to (q .near) ≤ towards d to y → HasBaseClass d q to n y 1
+  tunnel-downstream : (y ≡ n → ⊥) → towards d to y < towards d to (q .near) → HasBaseClass d q to n y 2
+  tunnel-other : (y ≡ n → ⊥) → towards d to (q .near) ≤ towards d to y → HasBaseClass d q to n y 3
+
+-- Point 5: "Classes 0 to 3 are for node-protecting pairs; any other pair has 4 added."
+pub data HasClass (hops : List Arc) (d : ℕ → ℕ → ℕ) (q : Protected) (to : Target) (n y : ℕ) : ℕ → Type 0 where
+  node-protecting : {k : ℕ} → NodeProtecting hops d q to n y → HasBaseClass d q to n y k → HasClass hops d q to n y k
+  any-other : {k : ℕ} → (NodeProtecting hops d q to n y → ⊥) → HasBaseClass d q to n y k → HasClass hops d q to n y (k + 4)
 
 -- 0 where the test passes, else the number
 unfoldable pub orElse : Bool → ℕ → ℕ
 orElse true k = 0
 orElse false k = k
 
-unfoldable pub classOf : (ℕ → ℕ → ℕ) → Protected → Target → Pair → ℕ
-classOf d q to p = orElse (eqb (p .endpoint) (p .hop .router)) 2 + orElse (ltb (towards d to (p .endpoint)) (towards d to (q .near))) 1
+unfoldable pub baseClassOf : (ℕ → ℕ → ℕ) → Protected → Target → Pair → ℕ
+baseClassOf d q to p = orElse (eqb (p .endpoint) (p .hop .router)) 2 + orElse (ltb (towards d to (p .endpoint)) (towards d to (q .near))) 1
+
+unfoldable pub classOf : ℕ → List Arc → (ℕ → ℕ → ℕ) → Protected → Target → Pair → ℕ
+classOf routers hops d q to p = baseClassOf d q to p + orElse (nodeProtects routers hops d q to p) 4
 
 -- what a repair tells of its pair: "It holds n, y, class and that last sum, the tunnel cost."
 pub record Told : Type 0 where
@@ -81,17 +99,17 @@ pub record Told : Type 0 where
   pub cost : ℕ
 
 -- what is told is of this pair; the tunnel cost is "cost S to n plus D(n,y)"
-pub record Tells (d : ℕ → ℕ → ℕ) (q : Protected) (to : Target) (p : Pair) (t : Told) : Type 0 where
+pub record Tells (hops : List Arc) (d : ℕ → ℕ → ℕ) (q : Protected) (to : Target) (p : Pair) (t : Told) : Type 0 where
   pub first-is : t .first ≡ p .hop .router
   pub endpoint-is : t .endpoint ≡ p .endpoint
-  pub class-is : HasClass d q to (p .hop .router) (p .endpoint) (t .class)
+  pub class-is : HasClass hops d q to (p .hop .router) (p .endpoint) (t .class)
   pub cost-is : t .cost ≡ p .hop .cost + d (p .hop .router) (p .endpoint)
 
-unfoldable pub toldOf : (ℕ → ℕ → ℕ) → Protected → Target → Pair → Told
-toldOf d q to p = record {
+unfoldable pub toldOf : ℕ → List Arc → (ℕ → ℕ → ℕ) → Protected → Target → Pair → Told
+toldOf routers hops d q to p = record {
   first = p .hop .router;
   endpoint = p .endpoint;
-  class = classOf d q to p;
+  class = classOf routers hops d q to p;
   cost = p .hop .cost + d (p .hop .router) (p .endpoint);
 }
 
@@ -144,12 +162,12 @@ unfoldable pub choose : (Pair → List ℕ) → List Pair → Option Pair
 choose k [] = none
 choose k (p ∷ ps) = earlier k p (choose k ps)
 
-unfoldable pub pairKey : (ranks : List ℕ) → (ℕ → ℕ → ℕ) → Protected → Target → Pair → List ℕ
-pairKey ranks d q to p = key (keysOf ranks d q (toldOf d q to p))
+unfoldable pub pairKey : (ranks : List ℕ) → ℕ → List Arc → (ℕ → ℕ → ℕ) → Protected → Target → Pair → List ℕ
+pairKey ranks n hops d q to p = key (keysOf ranks d q (toldOf n hops d q to p))
 
 -- "Of the serving pairs the answer is the one with lowest class, then ..", by rank instead of class
 unfoldable pub firstPair : (ranks : List ℕ) → ℕ → List Arc → (ℕ → ℕ → ℕ) → Protected → Target → Option Pair
-firstPair ranks n hops d q to = choose (pairKey ranks d q to) (select (serves n hops d q to) (pairs q n hops))
+firstPair ranks n hops d q to = choose (pairKey ranks n hops d q to) (select (serves n hops d q to) (pairs q n hops))
 
 -- ---- what a repair question finds
 
@@ -157,13 +175,13 @@ pub data Outcome : Type 0 where
   prefixUnreachable prefixUntouched noneServes : Outcome
   serving : Told → Outcome
 
-unfoldable pub outcomeOf : (ℕ → ℕ → ℕ) → Protected → Target → Option Pair → Outcome
-outcomeOf d q to none = noneServes
-outcomeOf d q to (some p) = serving (toldOf d q to p)
+unfoldable pub outcomeOf : ℕ → List Arc → (ℕ → ℕ → ℕ) → Protected → Target → Option Pair → Outcome
+outcomeOf n hops d q to none = noneServes
+outcomeOf n hops d q to (some p) = serving (toldOf n hops d q to p)
 
 -- "A link repair has target E."
 unfoldable pub linkOutcome : (ranks : List ℕ) → ℕ → List Arc → (ℕ → ℕ → ℕ) → Protected → Outcome
-linkOutcome ranks n hops d q = outcomeOf d q (router (q .far)) (firstPair ranks n hops d q (router (q .far)))
+linkOutcome ranks n hops d q = outcomeOf n hops d q (router (q .far)) (firstPair ranks n hops d q (router (q .far)))
 
 -- "A prefix repair answers unreachable when D(S,p) is unreachable, untouched when no walk from S towards p crosses the link from
 -- S to E, else a pair."
@@ -173,6 +191,6 @@ prefixOutcome ranks n hops d q to =
       | false ↦ prefixUnreachable
       | true ↦ elim (mayCross n hops d q to) [
         | false ↦ prefixUntouched
-        | true ↦ outcomeOf d q to (firstPair ranks n hops d q to)
+        | true ↦ outcomeOf n hops d q to (firstPair ranks n hops d q to)
       ]
     ]

@@ -1,4 +1,4 @@
--- "Distances and walks", second half: walks, crossing a link, arriving, avoiding.
+-- "Distances and walks", second half: walks, crossing a link, visiting a router, arriving, avoiding.
 -- `hops` are the network's arcs, `d x t` is D(x,t), and `towards d to x` is D(x, target). A router is the target to which it
 -- alone is attached, at no cost, so that one notion of walk serves routers and prefixes.
 -- Assumes nothing.
@@ -41,6 +41,12 @@ pub record CrossesBy (steps : ℕ → ℕ → ℕ → Type 0) (x l u v : ℕ) : 
   pub walk : WalkBy steps x u count
   pub step : steps u v l
 
+-- some walk by these steps from x visits v. Point 5 asks that no walk "visits E": the start of a walk is visited, and so is the router at
+-- which it ends.
+pub record VisitsBy (steps : ℕ → ℕ → ℕ → Type 0) (x v : ℕ) : Type 0 where
+  pub count : ℕ
+  pub walk : WalkBy steps x v count
+
 -- "Every walk arrives in fewer than N hops when, whatever steps were taken, each has ended or can step or deliver next, and
 -- none has N hops." `ends u` says that a walk may end at u.
 pub record ArrivesBy (steps : ℕ → ℕ → ℕ → Type 0) (ends : ℕ → Type 0) (n x : ℕ) : Type 0 where
@@ -53,6 +59,9 @@ Walk hops d to = WalkBy (Step hops d to)
 
 abbrev pub Crosses : List Arc → (ℕ → ℕ → ℕ) → Target → ℕ → ℕ → ℕ → ℕ → Type 0
 Crosses hops d to = CrossesBy (Step hops d to)
+
+abbrev pub Visits : List Arc → (ℕ → ℕ → ℕ) → Target → ℕ → ℕ → Type 0
+Visits hops d to = VisitsBy (Step hops d to)
 
 abbrev pub Arrives : List Arc → (ℕ → ℕ → ℕ) → Target → ℕ → ℕ → Type 0
 Arrives hops d to = ArrivesBy (Step hops d to) (Delivers d to)
@@ -94,3 +103,11 @@ avoids n hops d to l x = ltb (towards d to x) unreachable && not (memberOf x (ta
 -- whether some walk from x towards the target crosses link l from u to v
 unfoldable pub crosses : ℕ → List Arc → (ℕ → ℕ → ℕ) → Target → ℕ → ℕ → ℕ → ℕ → Bool
 crosses n hops d to l u v x = memberOf x (takers n hops d to (overFrom l u v) n)
+
+-- the hop leads to router v
+unfoldable pub into : ℕ → Arc → Bool
+into v (arc x z c k) = eqb z v
+
+-- whether some walk from x towards the target visits router v: it starts there, or takes a hop to v
+unfoldable pub visits : ℕ → List Arc → (ℕ → ℕ → ℕ) → Target → ℕ → ℕ → Bool
+visits n hops d to v x = eqb x v || memberOf x (takers n hops d to (into v) n)

@@ -2,7 +2,7 @@
 -- more, the class, and what a repair tells of a pair.
 -- Assumes nothing.
 use Prim.Native.Nat.{ℕ, _+_}
-use mathlib.Core.Bool.{true, false}
+use mathlib.Core.Bool.{Bool, true, false}
 use mathlib.Core.Option.{Option, none, some}
 use mathlib.Core.List.{List, [], _∷_}
 use lib.Dec.{eqb, ltb}
@@ -30,6 +30,6 @@ unfoldable pub earlierOf : Option Ordered → Ordered → Option Ordered
 earlierOf none o = some o
 earlierOf (some b) o = elim (noLater (keysIn b) (keysIn o)) [ true ↦ some b | false ↦ some o ]
 
--- the class of a pair whose endpoint is at distance `end` from the target, S being at distance `near`
-abbrev pub classBy : (n y end near : ℕ) → ℕ
-classBy n y end near = orElse (eqb y n) 2 + orElse (ltb end near) 1
+-- the class of a pair whose endpoint is at distance `end` from the target, S being at distance `near`; whether it is node-protecting
+abbrev pub classBy : (n y end near : ℕ) → (protecting : Bool) → ℕ
+classBy n y end near protecting = orElse (eqb y n) 2 + orElse (ltb end near) 1 + orElse protecting 4

@@ -68,11 +68,12 @@ fn or_else(test: bool, k: u32) -> u32
     k
 }
 
-// The class of a pair: 0 where the first hop is the endpoint, else 2, and 1 more unless the endpoint is nearer to the target than S.
-pub fn class_of(hop: usize, endpoint: usize, end: u32, near: u32) -> u32
-    ensures { λ r. ⌜ r ≡ classBy hop endpoint end near ⌝ }
+// The class of a pair: 0 where the first hop is the endpoint, else 2, 1 more unless the endpoint is nearer to the target than S, and 4
+// more unless the pair is node-protecting.
+pub fn class_of(hop: usize, endpoint: usize, end: u32, near: u32, protecting: bool) -> u32
+    ensures { λ r. ⌜ r ≡ classBy hop endpoint end near protecting ⌝ }
 {
-    or_else(endpoint == hop, 2) + or_else(end < near, 1)
+    or_else(endpoint == hop, 2) + or_else(end < near, 1) + or_else(protecting, 4)
 }
 
 // A rank as a number to compare by.

@@ -51,7 +51,7 @@ fn print_question(link: usize, side: usize, near: u8, far: u8) {
 
 // Prints the lines of the two ends of a link, which joins the routers a and b. The ranks ascend: the rank of a class is its number.
 fn print_ends(file: &[u8], work: &mut [u32], link: usize, a: u8, b: u8) {
-    let ranks: [u8; 4] = [0, 1, 2, 3];
+    let ranks: [u8; 8] = [0, 1, 2, 3, 4, 5, 6, 7];
     print_question(link, 0, a, b);
     print_repair(link_repair(file, work, &ranks, link, 0));
     end();

@@ -188,7 +188,7 @@ pub extern "C" fn planner_size(set: u64) -> u32
     size(set)
 }
 
-// The pair that repairs a link. The table gives each class its rank.
+// The pair that repairs a link. The table gives each of the eight classes its rank: 0 to 7, once each. The class is 4 to 7.
 #[no_mangle]
 pub extern "C" fn planner_link_repair(
     file: &[u8],
@@ -202,7 +202,7 @@ pub extern "C" fn planner_link_repair(
     repair_numbers(link_repair(file, work, ranks, link, end))
 }
 
-// The pair that repairs the traffic to a prefix.
+// The pair that repairs the traffic to a prefix. A class below 4 tells that no walk of the pair visits the far router.
 #[no_mangle]
 pub extern "C" fn planner_prefix_repair(
     file: &[u8],

@@ -19,15 +19,15 @@ fn times_given(ranks: &[u8], rank: u8) -> usize
     given
 }
 
-// Whether a table holds 0, 1, 2 and 3 once each and nothing else.
+// Whether a table holds 0 to 7 once each and nothing else.
 pub fn arranged(ranks: &[u8]) -> bool
     ensures { λ r. ⌜ r ≡ isArrangement (now (ranks .entry)) ⌝ }
 {
-    if ranks.len() != 4 {
+    if ranks.len() != 8 {
         return false;
     }
     let mut rank: u8 = 0;
-    while rank < 4 {
+    while rank < 8 {
         if times_given(ranks, rank) != 1 {
             return false;
         }

@@ -1,17 +1,19 @@
 -- Laws of the search: the pairs of one endpoint more and of one first hop more.
 -- Assumes nothing.
-use Prim.Native.Nat.{ℕ, _+_}
+use Prim.Native.Nat.{ℕ, _+_, _/_, _^_}
 use mathlib.Core.Path.{_≡_, refl, sym, ap, ap₂, _∙_}
 use mathlib.Core.Bool.{Bool, true, false}
-use mathlib.Core.Option.{Option, none, some}
+use mathlib.Core.Option.{Option, none}
 use mathlib.Core.List.{List, [], _∷_, _++_, map, map-append, append-nil}
 use lib.ListN.{getD}
-use lib.Bits.{bitAnd}
+use lib.Bits.{bitAnd, and-mask, and-le-r}
+use lib.Dec.{eqb}
+use native.Mathlib.Omega.{arith}
 use types.Run.{OneOf}
 use denote.Enum.Declared.{tagOf}
 use borrow.Author.Tests.{eqb-false}
 use Rattle.lfa.specs.Lists.{countUp, below, keepIf, select, flat}
-use Rattle.lfa.specs.Space.{Protected, FirstHop}
+use Rattle.lfa.specs.Space.{Protected, FirstHop, has}
 use Rattle.lfa.specs.Repair.{Outcome, noneServes, serving}
 use Rattle.metric.specs.Laws.List.{below-more, select-append}
 use Rattle.order.specs.declared.Ordered.{Ordered}
@@ -19,10 +21,11 @@ use Rattle.order.specs.declared.Earliest.{Earliest}
 use Rattle.order.specs.declared.Earliest.the-variants.{Nothing, Found}
 use Rattle.order.specs.Order.{toldIn, earliestIn, earlierOf}
 use Rattle.order.proofs.Earliest.{the-type}
+use Rattle.steps.specs.declared.Onward.{Onward}
 use Rattle.arcs.specs.Arcs.{hopBy}
 use Rattle.search.specs.Hops.{hopsIn}
 use Rattle.search.specs.Spaces.{avoidedFrom}
-use Rattle.search.specs.Choice.{outcomeFor, firstOf, orderedAt, mayEnd, hopPairs, pairsOver, pairsTried}
+use Rattle.search.specs.Choice.{outcomeFor, firstOf, orderedAt, mayEnd, hopPairs, protectingFrom, pairsOver, pairsTried}
 use Rattle.metric.specs.Laws.Select.{flat-append}
 use Rattle.search.proofs.HopLaws.{hops-more}
 
@@ -43,13 +46,22 @@ unfolding firstOf
 first-append found [] m = refl
 first-append found (o ∷ l) m = first-append (earlierOf found o) l m
 
+-- whether a router is a member, read by a shift and a mask
+pub bit-read : (set y : ℕ) → eqb (bitAnd (set / 2 ^ y) 1) 1 ≡ has set y
+unfolding has
+bit-read set y = ap (λ (k : ℕ). eqb k 1) (and-mask (set / 2 ^ y) 1)
+
+-- no router of the empty set is a member of another one too
+pub none-common : (set other : ℕ) → other ≡ 0 → 0 ≡ bitAnd set other
+none-common set other e = omega (arith, and-le-r set other)
+
 -- the endpoints of one first hop, one router more
-module _ (ranks : List ℕ) (n : ℕ) (area : List ℕ) (near far : ℕ) (column : List ℕ) (f : FirstHop) (set y : ℕ) where
+module _ (ranks : List ℕ) (n : ℕ) (area : List ℕ) (near far : ℕ) (column : List ℕ) (f : FirstHop) (protecting set y : ℕ) where
   abbrev at : ℕ → Ordered
-  at = orderedAt ranks n area near column f
+  at = orderedAt ranks n area near column f protecting
 
   abbrev upTo : ℕ → List Ordered
-  upTo = hopPairs ranks n area near far column f set
+  upTo = hopPairs ranks n area near far column f protecting set
 
   one-more : (b : Bool) → mayEnd set near far y ≡ b → upTo (y + 1) ≡ upTo y ++ map at (keepIf b y [])
   unfolding hopPairs select
@@ -68,25 +80,29 @@ module _ (ranks : List ℕ) (n : ℕ) (area : List ℕ) (near far : ℕ) (column
   end-same found t e = e ∙ sym (ap (firstOf found) (one-more false t ∙ append-nil (upTo y)))
 
 -- the pairs of one first hop more of a column
-module _ (ranks : List ℕ) (n : ℕ) (q : Protected) (area column : List ℕ) (mask : ℕ) (from to out back arcs : List ℕ) where
+module _ (ranks : List ℕ) (n : ℕ) (q : Protected) (area column : List ℕ) (kept : Onward) (from to out back arcs : List ℕ) where
   abbrev tried : ℕ → List Ordered
-  tried i = pairsTried ranks n q area column mask (hopsIn from to out back i arcs)
+  tried i = pairsTried ranks n q area column kept (hopsIn from to out back i arcs)
 
   pub none-tried : none ≡ firstOf none (tried 0)
   unfolding firstOf pairsTried hopsIn below countUp flat
   none-tried = refl
 
-  pub hop-tried : {before next : Option Ordered} {f : FirstHop} {set : ℕ} (i : ℕ) → before ≡ firstOf none (tried i) → f ≡ hopBy from to out back (getD arcs i 0) →
-      set ≡ avoidedFrom n q area (f .router) → next ≡ firstOf before (hopPairs ranks n area (q .near) (q .far) column f (bitAnd mask set) n) → next ≡ firstOf none (tried (i + 1))
+  -- the pairs of a first hop, by its two sets
+  abbrev pairsBy : FirstHop → (protecting set : ℕ) → List Ordered
+  pairsBy f protecting set = hopPairs ranks n area (q .near) (q .far) column f protecting (bitAnd (kept .avoiding) set) n
+
+  pub hop-tried : {before next : Option Ordered} {f : FirstHop} {set protecting : ℕ} (i : ℕ) → before ≡ firstOf none (tried i) → f ≡ hopBy from to out back (getD arcs i 0) →
+      set ≡ avoidedFrom n q area (f .router) → protecting ≡ protectingFrom n q area (kept .missing) f → next ≡ firstOf before (pairsBy f protecting set) → next ≡ firstOf none (tried (i + 1))
   unfolding pairsTried pairsOver flat
-  hop-tried {before} {next} {f} {set} i e ef es s =
+  hop-tried {before} {next} {f} {set} {protecting} i e ef es ep s =
       let passed = hopsIn from to out back i arcs in
       let g = hopBy from to out back (getD arcs i 0) in
-      let own = pairsOver ranks n q area column mask g in
-      let one : hopPairs ranks n area (q .near) (q .far) column f (bitAnd mask set) n ≡ own = ap (λ (k : ℕ). hopPairs ranks n area (q .near) (q .far) column f (bitAnd mask k) n) es ∙ ap (pairsOver ranks n q area column mask) ef in
+      let own = pairsOver ranks n q area column kept g in
+      let one : pairsBy f protecting set ≡ own = ap₂ (pairsBy f) ep es ∙ ap (pairsOver ranks n q area column kept) ef in
       let all : tried (i + 1) ≡ tried i ++ own =
-      ap (pairsTried ranks n q area column mask) (hops-more from to out back i arcs)
-      ∙ ap flat (map-append (pairsOver ranks n q area column mask) passed (g ∷ []))
-      ∙ flat-append (map (pairsOver ranks n q area column mask) passed) (own ∷ [])
+      ap (pairsTried ranks n q area column kept) (hops-more from to out back i arcs)
+      ∙ ap flat (map-append (pairsOver ranks n q area column kept) passed (g ∷ []))
+      ∙ flat-append (map (pairsOver ranks n q area column kept) passed) (own ∷ [])
       ∙ ap (λ (l : List Ordered). tried i ++ l) (append-nil own) in
       s ∙ ap₂ firstOf e one ∙ sym (ap (firstOf none) all ∙ first-append none (tried i) own)

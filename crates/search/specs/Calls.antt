@@ -15,7 +15,8 @@ use Rattle.metric.specs.Columns.{arcsIn}
 use Rattle.column.specs.Calls.{routerColumn, prefixColumn, attachedSet}
 use Rattle.avoid.specs.Calls.{readable}
 use Rattle.search.specs.Hops.{protectedIn}
-use Rattle.steps.specs.Crossing.{stepsOver, avoidingBySteps}
+use Rattle.steps.specs.declared.Onward.{Onward}
+use Rattle.steps.specs.Crossing.{stepsOver, onwardBySteps}
 use Rattle.search.specs.Spaces.{avoidingIn, spaceFor}
 use Rattle.search.specs.Choice.{outcomeFor, firstServing}
 
@@ -28,26 +29,27 @@ searchable n links q cells = leb links 128 && readable n q cells
 unfoldable pub spaceIf : Bool → Space → (n : ℕ) → List Arc → Protected → (area : List ℕ) → ℕ
 spaceIf passes s n hops q area = elim passes [ true ↦ spaceFor s n hops q area | false ↦ 0 ]
 
--- the pair that serves a target to which a column holds the distances; from the routers of `onward` the second leg avoids the link
-unfoldable pub pairFor : (ranks : List ℕ) → (n : ℕ) → List Arc → Protected → (area column : List ℕ) → (onward : ℕ) → Outcome
+-- the pair that serves a target to which a column holds the distances; `onward` tells from which routers the second leg avoids the link,
+-- and from which it misses E
+unfoldable pub pairFor : (ranks : List ℕ) → (n : ℕ) → List Arc → Protected → (area column : List ℕ) → Onward → Outcome
 pairFor ranks n hops q area column onward = outcomeFor (firstServing ranks n hops q area column onward)
 
--- what is found for E: from the routers of Q the second leg avoids the link
+-- what is found for E: from the routers of Q the second leg avoids the link, and from none it misses E
 unfoldable pub linkFor : (ranks : List ℕ) → (n : ℕ) → List Arc → Protected → (area column : List ℕ) → Outcome
-linkFor ranks n hops q area column = pairFor ranks n hops q area column (avoidingIn n q area column)
+linkFor ranks n hops q area column = pairFor ranks n hops q area column (record { avoiding = avoidingIn n q area column; missing = 0 })
 
 unfoldable pub linkIf : (ranks : List ℕ) → Bool → (n : ℕ) → List Arc → Protected → (area : List ℕ) → Outcome
 linkIf ranks passes n hops q area = elim passes [ true ↦ linkFor ranks n hops q area (routerColumn n (q .far) area) | false ↦ noneServes ]
 
 -- what is found for a prefix to which a column holds the distances; every walk towards it ends at the routers of `ends`
-unfoldable pub prefixFor : (ranks : List ℕ) → (n : ℕ) → List Arc → Protected → (area : List ℕ) → (ends : ℕ) → (column : List ℕ) → (onward : ℕ) → Outcome
+unfoldable pub prefixFor : (ranks : List ℕ) → (n : ℕ) → List Arc → Protected → (area : List ℕ) → (ends : ℕ) → (column : List ℕ) → Onward → Outcome
 prefixFor ranks n hops q area ends column onward =
     elim (ltb (getD column (q .near) 0) unreachable) [
       | false ↦ prefixUnreachable
       | true ↦ elim (stepsOver q ends column) [ false ↦ prefixUntouched | true ↦ pairFor ranks n hops q area column onward ]
     ]
 
-unfoldable pub prefixIf : (ranks : List ℕ) → Bool → (n : ℕ) → List Arc → Protected → (area : List ℕ) → (ends : ℕ) → (column : List ℕ) → (onward : ℕ) → Outcome
+unfoldable pub prefixIf : (ranks : List ℕ) → Bool → (n : ℕ) → List Arc → Protected → (area : List ℕ) → (ends : ℕ) → (column : List ℕ) → Onward → Outcome
 prefixIf ranks passes n hops q area ends column onward = elim passes [ true ↦ prefixFor ranks n hops q area ends column onward | false ↦ noneServes ]
 
 -- ---- by a network and a question
@@ -77,9 +79,9 @@ columnTo network prefix area = prefixColumn (network .routers) (network .at) (ne
 abbrev pub endsTo : Network → (prefix : ℕ) → ℕ
 endsTo network prefix = attachedSet (network .at) (8 * prefix) (getD (network .attached) prefix 0)
 
--- the routers from which the second leg avoids the link
-abbrev pub onwardTo : Network → (link end ends : ℕ) → (column : List ℕ) → ℕ
-onwardTo network link end ends column = avoidingBySteps (network .routers) (network .links) (network .from) (network .to) (network .out) (network .back) (protectedOf network link end) ends column
+-- the routers from which the second leg avoids the link, and those from which it misses E
+abbrev pub onwardTo : Network → (link end ends : ℕ) → (column : List ℕ) → Onward
+onwardTo network link end ends column = onwardBySteps (network .routers) (network .links) (network .from) (network .to) (network .out) (network .back) (protectedOf network link end) ends column
 
 -- what a prefix repair finds
 unfoldable pub prefixBy : Network → (ranks : List ℕ) → (link end prefix : ℕ) → (area : List ℕ) → Outcome

@@ -16,6 +16,8 @@ use Rattle.lfa.specs.Repair.{Outcome, prefixUnreachable, prefixUntouched, noneS
 use Rattle.metric.specs.Area.{cellIn}
 use Rattle.order.specs.declared.Ordered.{Ordered}
 use Rattle.order.specs.Order.{toldIn, earlierOf, classBy}
+use Rattle.avoid.specs.Calls.{missingFrom}
+use Rattle.steps.specs.declared.Onward.{Onward}
 use Rattle.search.specs.declared.Found.{Found}
 use Rattle.search.specs.declared.Found.the-variants.{Unreachable, Untouched, Nothing, Pair}
 use Rattle.search.specs.Spaces.{avoidedFrom, spaceFor}
@@ -43,10 +45,11 @@ firstOf found (o ∷ os) = firstOf (earlierOf found o) os
 
 -- ---- the pairs that are tried
 
--- the pair of a first hop and an endpoint; a column holds the distances to the target. The first key is the rank of the class.
-unfoldable pub orderedAt : (ranks : List ℕ) → (n : ℕ) → (area : List ℕ) → (near : ℕ) → (column : List ℕ) → FirstHop → (y : ℕ) → Ordered
-orderedAt ranks n area near column f y =
-    let class = classBy (f .router) y (getD column y 0) (getD column near 0) in
+-- the pair of a first hop and an endpoint; a column holds the distances to the target, and a set the endpoints that make it
+-- node-protecting. The first key is the rank of the class.
+unfoldable pub orderedAt : (ranks : List ℕ) → (n : ℕ) → (area : List ℕ) → (near : ℕ) → (column : List ℕ) → FirstHop → (protecting y : ℕ) → Ordered
+orderedAt ranks n area near column f protecting y =
+    let class = classBy (f .router) y (getD column y 0) (getD column near 0) (has protecting y) in
     record {
       rank = rankOf ranks class;
       distance = cellIn n area near y;
@@ -58,17 +61,26 @@ abbrev pub mayEnd : (set near far y : ℕ) → Bool
 mayEnd set near far y = has set y && (not (eqb y near) && not (eqb y far))
 
 -- the pairs of one first hop whose endpoints are in the set and below `last`
-unfoldable pub hopPairs : (ranks : List ℕ) → (n : ℕ) → (area : List ℕ) → (near far : ℕ) → (column : List ℕ) → FirstHop → (set last : ℕ) → List Ordered
-hopPairs ranks n area near far column f set last = map (orderedAt ranks n area near column f) (select (mayEnd set near far) (below last))
+unfoldable pub hopPairs : (ranks : List ℕ) → (n : ℕ) → (area : List ℕ) → (near far : ℕ) → (column : List ℕ) → FirstHop → (protecting set last : ℕ) → List Ordered
+hopPairs ranks n area near far column f protecting set last = map (orderedAt ranks n area near column f protecting) (select (mayEnd set near far) (below last))
 
--- the pairs of one first hop whose endpoints are in the mask, and those that it avoids the link on the way to
-unfoldable pub pairsOver : (ranks : List ℕ) → (n : ℕ) → Protected → (area column : List ℕ) → (mask : ℕ) → FirstHop → List Ordered
-pairsOver ranks n q area column mask f = hopPairs ranks n area (q .near) (q .far) column f (bitAnd mask (avoidedFrom n q area (f .router))) n
+-- the endpoints that make the pairs of a first hop node-protecting: those that it reaches without visiting E, and from which the second
+-- leg misses E
+abbrev pub protectingFrom : (n : ℕ) → Protected → (area : List ℕ) → (missing : ℕ) → FirstHop → ℕ
+protectingFrom n q area missing f = bitAnd (missingFrom n (q .far) area (f .router)) missing
 
-unfoldable pub pairsTried : (ranks : List ℕ) → (n : ℕ) → Protected → (area column : List ℕ) → (mask : ℕ) → List FirstHop → List Ordered
-pairsTried ranks n q area column mask firsts = flat (map (pairsOver ranks n q area column mask) firsts)
+-- the pairs of one first hop whose endpoints are kept, and are those that it avoids the link on the way to
+unfoldable pub pairsOver : (ranks : List ℕ) → (n : ℕ) → Protected → (area column : List ℕ) → (kept : Onward) → FirstHop → List Ordered
+pairsOver ranks n q area column kept f = hopPairs ranks n area (q .near) (q .far) column f (protectingFrom n q area (kept .missing) f) (bitAnd (kept .avoiding) (avoidedFrom n q area (f .router))) n
+
+unfoldable pub pairsTried : (ranks : List ℕ) → (n : ℕ) → Protected → (area column : List ℕ) → (kept : Onward) → List FirstHop → List Ordered
+pairsTried ranks n q area column kept firsts = flat (map (pairsOver ranks n q area column kept) firsts)
+
+-- of the endpoints from which the second leg avoids the link, those of extended P
+abbrev pub keptOf : (extended : ℕ) → Onward → Onward
+keptOf extended onward = record { avoiding = bitAnd extended (onward .avoiding); missing = onward .missing }
 
 -- The first of the pairs that serve a target to which a column holds the distances: their endpoints are in extended P, masked by the set
--- of routers from which the second leg avoids the link, `onward`.
-unfoldable pub firstServing : (ranks : List ℕ) → (n : ℕ) → List Arc → Protected → (area column : List ℕ) → (onward : ℕ) → Option Ordered
-firstServing ranks n hops q area column onward = firstOf none (pairsTried ranks n q area column (bitAnd (spaceFor extendedP n hops q area) onward) (firstHops q hops))
+-- of routers from which the second leg avoids the link. From those of another set it misses E.
+unfoldable pub firstServing : (ranks : List ℕ) → (n : ℕ) → List Arc → Protected → (area column : List ℕ) → Onward → Option Ordered
+firstServing ranks n hops q area column onward = firstOf none (pairsTried ranks n q area column (keptOf (spaceFor extendedP n hops q area) onward) (firstHops q hops))

@@ -9,6 +9,7 @@ use arcs::hop_of;
 use avoid::Protected;
 use avoid::avoiding_from;
 use avoid::avoiding_to;
+use avoid::missing_from;
 use column::towards_router;
 use metric::Distance;
 use metric::read::cell;
@@ -18,22 +19,26 @@ use order::Pair;
 use order::class_of;
 use order::earlier;
 use order::rank_of;
-use steps::avoiding_by_steps;
+use steps::Onward;
+use steps::onward_by_steps;
 use steps::steps_over;
 ghost use mathlib.Core.Path.{_≡_};
 ghost use mathlib.Core.Option.{none};
 ghost use Prim.Native.Nat.{_≤_, _<_};
+ghost use lib.Bits.{bitAnd};
 ghost use lib.ListN.{length};
 ghost use Rattle.metric.specs.Columns.{arcsIn};
 ghost use Rattle.order.specs.Order.{earliestIn};
 ghost use Rattle.avoid.specs.Avoiding.{asked};
-ghost use Rattle.steps.specs.Crossing.{avoidingBySteps};
+ghost use Rattle.avoid.specs.Calls.{missingFrom};
+ghost use Rattle.steps.specs.Crossing.{onwardBySteps};
 ghost use Rattle.arcs.specs.Arcs.{hopIn};
 ghost use Rattle.search.specs.Hops.{hopsIn};
 ghost use Rattle.search.specs.Choice.{outcomeIn, firstOf, orderedAt, mayEnd, hopPairs, pairsTried, firstServing};
 ghost use Rattle.search.specs.Calls.{searchable, pairFor, linkIf, prefixIf};
 
-// The pair of a first hop and an endpoint. Its first key is the rank of its class.
+// The pair of a first hop and an endpoint, where the set `protecting` holds the endpoints that make it node-protecting. Its first key is
+// the rank of its class.
 fn pair_of(
     ranks: &[u8],
     dist: &[u32],
@@ -41,13 +46,15 @@ fn pair_of(
     near: usize,
     target: &[u32; 64],
     hop: Hop,
+    protecting: u64,
     endpoint: usize,
 ) -> Ordered
     requires { ⌜ (near < 64) × (endpoint < 64) ⌝ }
-    ensures { λ r. ⌜ r ≡ orderedAt (now (ranks .entry)) n (now (dist .entry)) near (now (target .entry)) (hopIn hop) endpoint ⌝ }
+    ensures { λ r. ⌜ r ≡ orderedAt (now (ranks .entry)) n (now (dist .entry)) near (now (target .entry)) (hopIn hop) protecting endpoint ⌝ }
 {
     let first = hop.router;
-    let class = class_of(first, endpoint, target[endpoint], target[near]);
+    let protects = (protecting >> endpoint) & 1 == 1;
+    let class = class_of(first, endpoint, target[endpoint], target[near], protects);
     let rank = rank_of(ranks, class);
     Ordered {
         rank,
@@ -81,24 +88,39 @@ fn over_hop(
     far: usize,
     target: &[u32; 64],
     hop: Hop,
-    ends: u64,
+    protecting: u64,
+    endpoints: u64,
     before: Earliest,
 ) -> Earliest
     requires { ⌜ (n ≤ 64) × (near < 64) ⌝ }
-    ensures { λ r. ⌜ earliestIn r ≡ firstOf (earliestIn before) (hopPairs (now (ranks .entry)) n (now (dist .entry)) near far (now (target .entry)) (hopIn hop) ends n) ⌝ }
+    ensures { λ r. ⌜ earliestIn r ≡ firstOf (earliestIn before) (hopPairs (now (ranks .entry)) n (now (dist .entry)) near far (now (target .entry)) (hopIn hop) protecting endpoints n) ⌝ }
 {
     let mut best = before;
     let mut y = 0;
     while y < n {
-        if may_end(ends, near, far, y) {
-            best = earlier(best, pair_of(ranks, dist, n, near, target, hop, y));
+        if may_end(endpoints, near, far, y) {
+            best = earlier(
+                best,
+                pair_of(ranks, dist, n, near, target, hop, protecting, y),
+            );
         }
         y += 1;
     }
     best
 }
 
-// The earliest of the pairs of the first hops with an endpoint in the mask that the first hop avoids the link on the way to.
+// The endpoints that make the pairs of a first hop node-protecting: those that it reaches without visiting E, and from which the second
+// leg does not visit E, as the set `missing` says. There is nothing to look for where `missing` is empty, as it is for a link repair.
+fn protecting_from(dist: &[u32], n: usize, far: usize, missing: u64, first: usize) -> u64
+    ensures { λ r. ⌜ r ≡ bitAnd (missingFrom n far (now (dist .entry)) first) missing ⌝ }
+{
+    if missing == 0 {
+        return 0;
+    }
+    missing_from(dist, n, far, first) & missing
+}
+
+// The earliest of the pairs of the first hops with an endpoint in the set `kept.avoiding` that the first hop avoids the link on the way to.
 fn search(
     ranks: &[u8],
     dist: &[u32],
@@ -110,27 +132,39 @@ fn search(
     protected: Protected,
     target: &[u32; 64],
     hops: FirstHops,
-    mask: u64,
+    kept: Onward,
 ) -> Earliest
     requires { ⌜ (n ≤ 64) × (protected .near < 64) × (hops .count ≤ 256) ⌝ }
-    ensures { λ r. ⌜ earliestIn r ≡ firstOf none (pairsTried (now (ranks .entry)) n (asked protected) (now (dist .entry)) (now (target .entry)) mask
+    ensures { λ r. ⌜ earliestIn r ≡ firstOf none (pairsTried (now (ranks .entry)) n (asked protected) (now (dist .entry)) (now (target .entry)) kept
         (hopsIn (now (from .entry)) (now (to .entry)) (now (out .entry)) (now (back .entry)) (hops .count) (hops .arcs))) ⌝ }
 {
-    let near = protected.near;
     let far = protected.far;
     let mut best = Earliest::Nothing;
     let mut i = 0;
     while i < hops.count {
         let hop = hop_of(hops.arcs[i], from, to, out, back);
-        let ends = mask & avoiding_from(dist, dist, n, protected, hop.router);
-        best = over_hop(ranks, dist, n, near, far, target, hop, ends, best);
+        let endpoints = kept.avoiding & avoiding_from(dist, dist, n, protected, hop.router);
+        let protecting = protecting_from(dist, n, far, kept.missing, hop.router);
+        best = over_hop(
+            ranks,
+            dist,
+            n,
+            protected.near,
+            far,
+            target,
+            hop,
+            protecting,
+            endpoints,
+            best,
+        );
         i += 1;
     }
     best
 }
 
 // The first of the pairs that serve a target, `target` holding the distances to it and `onward` the routers from which the second leg
-// avoids the link. The endpoints are those of extended P that `onward` holds: for the link repair, the intersection of extended P and Q.
+// avoids the link, and those from which it misses E. The endpoints are those of extended P from which it avoids: for the link repair, the
+// intersection of extended P and Q.
 fn first_pair(
     ranks: &[u8],
     dist: &[u32],
@@ -142,13 +176,16 @@ fn first_pair(
     back: &[u16; 128],
     protected: Protected,
     target: &[u32; 64],
-    onward: u64,
+    onward: Onward,
 ) -> Earliest
     requires { ⌜ (n ≤ 64) × (protected .near < 64) × (links ≤ 128) ⌝ }
     ensures { λ r. ⌜ earliestIn r ≡ firstServing (now (ranks .entry)) n (arcsIn (now (from .entry)) (now (to .entry)) (now (out .entry)) (now (back .entry)) links) (asked protected) (now (dist .entry)) (now (target .entry)) onward ⌝ }
 {
     let hops = first_hops(links, from, to, out, back, protected);
-    let mask = extended_p(dist, n, from, to, protected, hops) & onward;
+    let kept = Onward {
+        avoiding: extended_p(dist, n, from, to, protected, hops) & onward.avoiding,
+        missing: onward.missing,
+    };
     search(
         ranks,
         dist,
@@ -160,7 +197,7 @@ fn first_pair(
         protected,
         target,
         hops,
-        mask,
+        kept,
     )
 }
 
@@ -176,7 +213,7 @@ fn pair_found(
     back: &[u16; 128],
     protected: Protected,
     target: &[u32; 64],
-    onward: u64,
+    onward: Onward,
 ) -> Found
     requires { ⌜ (n ≤ 64) × (protected .near < 64) × (links ≤ 128) ⌝ }
     ensures { λ r. ⌜ outcomeIn r ≡ pairFor (now (ranks .entry)) n (arcsIn (now (from .entry)) (now (to .entry)) (now (out .entry)) (now (back .entry)) links) (asked protected) (now (dist .entry)) (now (target .entry)) onward ⌝ }
@@ -201,7 +238,7 @@ fn pair_found(
     Found::Pair(pair)
 }
 
-// What a link repair finds: its target is E.
+// What a link repair finds: its target is E, so that every second leg visits E.
 pub(crate) fn link_found<'a>(
     ranks: &[u8],
     dist: &[u32],
@@ -221,7 +258,10 @@ pub(crate) fn link_found<'a>(
     }
     let far = protected.far;
     let target = towards_router(dist, n, far);
-    let onward = avoiding_to(&target, dist, n, protected, &target);
+    let onward = Onward {
+        avoiding: avoiding_to(&target, dist, n, protected, &target),
+        missing: 0,
+    };
     pair_found(
         ranks,
         dist,
@@ -253,7 +293,7 @@ pub(crate) fn prefix_found<'a>(
 ) -> Found
     ensures { λ r. ⌜ outcomeIn r ≡ prefixIf (now (ranks .entry)) (searchable n links (asked protected) (length (now (dist .entry)))) n
         (arcsIn (now (from .entry)) (now (to .entry)) (now (out .entry)) (now (back .entry)) links) (asked protected) (now (dist .entry)) ends (now (target .entry))
-        (avoidingBySteps n links (now (from .entry)) (now (to .entry)) (now (out .entry)) (now (back .entry)) (asked protected) ends (now (target .entry))) ⌝ }
+        (onwardBySteps n links (now (from .entry)) (now (to .entry)) (now (out .entry)) (now (back .entry)) (asked protected) ends (now (target .entry))) ⌝ }
 {
     if !can_search(n, links, protected, dist.len()) {
         return Found::Nothing;
@@ -265,7 +305,7 @@ pub(crate) fn prefix_found<'a>(
     if !steps_over(protected, ends, target) {
         return Found::Untouched;
     }
-    let onward = avoiding_by_steps(n, links, from, to, out, back, protected, ends, target);
+    let onward = onward_by_steps(n, links, from, to, out, back, protected, ends, target);
     pair_found(
         ranks,
         dist,

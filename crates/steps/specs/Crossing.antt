@@ -1,4 +1,5 @@
--- The routers that avoid the protected link on the way to a target, found by following the steps of walks backwards from it.
+-- The routers that avoid the protected link on the way to a target, and those that do not visit E, found by following the steps of walks
+-- backwards from the link and from E.
 -- Assumes nothing.
 use Prim.Native.Nat.{ℕ}
 use mathlib.Core.Bool.{Bool, true, false, not, _&&_, _||_}
@@ -7,6 +8,7 @@ use lib.Dec.{eqb, ltb, leb}
 use lib.ListN.{getD}
 use Rattle.lfa.specs.Distance.{unreachable}
 use Rattle.lfa.specs.Space.{Protected, has, setOf}
+use Rattle.steps.specs.declared.Onward.{Onward}
 use Rattle.steps.specs.Steps.{isTight, nextsBy, ledIn}
 
 -- the hop over the link from S to E is a step; not so where an end of the link is no number below 64
@@ -24,12 +26,19 @@ reachesWithout target set x = ltb (target x) unreachable && not (has set x)
 
 -- at most 64 routers, the ends of the link among numbers below 64
 unfoldable pub numbersFit : (n : ℕ) → Protected → Bool
-numbersFit n q = leb n 64 && ltb (q .near) 64 && ltb (q .far) 64
+numbersFit n q = leb n 64 && (ltb (q .near) 64 && ltb (q .far) 64)
 
--- The routers below n that reach the target and from which steps do not lead over the link, for any numbers.
-unfoldable pub avoidingBySteps : (n links : ℕ) → (from to out back : List ℕ) → Protected → (ends : ℕ) → (target : List ℕ) → ℕ
-avoidingBySteps n links from to out back q ends target =
+-- the routers below n that reach the target and from which steps do not lead to a router of `start`
+unfoldable pub keptFrom : (n : ℕ) → (nexts : List ℕ) → (ℕ → ℕ) → (start : ℕ) → ℕ
+keptFrom n nexts target start = setOf n (reachesWithout target (ledIn nexts start n))
+
+-- For any numbers: of the routers below n that reach the target, those from which steps do not lead over the link, and those from which
+-- they do not lead to E.
+unfoldable pub onwardBySteps : (n links : ℕ) → (from to out back : List ℕ) → Protected → (ends : ℕ) → (target : List ℕ) → Onward
+onwardBySteps n links from to out back q ends target =
+    let h : ℕ → ℕ = λ y. getD target y 0 in
+    let nexts : List ℕ = nextsBy links from to out back ends target in
     elim (numbersFit n q) [
-      | true ↦ setOf n (reachesWithout (λ y. getD target y 0) (ledIn (nextsBy links from to out back ends target) (overLink q ends (λ y. getD target y 0)) n))
-      | false ↦ 0
+      | true ↦ record { avoiding = keptFrom n nexts h (overLink q ends h); missing = keptFrom n nexts h (setOf 64 (eqb (q .far))) }
+      | false ↦ record { avoiding = 0; missing = 0 }
     ]

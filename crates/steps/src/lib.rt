@@ -17,7 +17,14 @@ ghost use Rattle.metric.specs.Columns.{arcsIn};
 ghost use Rattle.metric.specs.Fit.{ColumnsWithin};
 ghost use Rattle.avoid.specs.Avoiding.{asked};
 ghost use Rattle.steps.specs.Steps.{isTight, nextsIn, nextsBy, ledTo, ledIn};
-ghost use Rattle.steps.specs.Crossing.{stepsOver, overLink, reachesWithout, avoidingBySteps};
+ghost use Rattle.steps.specs.Crossing.{stepsOver, overLink, reachesWithout, numbersFit, onwardBySteps};
+
+// What is known of the second leg of a pair, by its endpoint: the routers from which no walk crosses the protected link, and those from
+// which none visits E. Both hold only routers that reach the target.
+pub struct Onward {
+    pub avoiding: u64,
+    pub missing: u64,
+}
 
 // Whether a hop from u to v at this cost is a step.
 fn is_step(ends: u64, target: &[u32; 64], u: usize, v: usize, cost: u32) -> bool
@@ -186,9 +193,19 @@ fn reaching_without(n: usize, target: &[u32; 64], set: u64) -> u64
     kept
 }
 
-// The routers that avoid the protected link on the way to the target, found by following the steps of walks. None, where the numbers are
-// not those of a network of at most 64 routers.
-pub fn avoiding_by_steps<'a>(
+// Whether there are at most 64 routers, and the ends of the link are numbers below 64.
+fn numbers_fit(n: usize, protected: Protected) -> bool
+    ensures { λ r. ⌜ r ≡ numbersFit n (asked protected) ⌝ }
+{
+    if 64 < n {
+        return false;
+    }
+    protected.near < 64 && protected.far < 64
+}
+
+// The routers that avoid the protected link on the way to the target, and those that do not visit E, found by following the steps of
+// walks backwards from the link and from E. None, where the numbers are not those of a network of at most 64 routers.
+pub fn onward_by_steps<'a>(
     n: usize,
     links: usize,
     from: &'a [u8; 128],
@@ -198,19 +215,20 @@ pub fn avoiding_by_steps<'a>(
     protected: Protected,
     ends: u64,
     target: &'a [u32; 64],
-) -> u64
-    ensures { λ r. ⌜ r ≡ avoidingBySteps n links (now (from .entry)) (now (to .entry)) (now (out .entry)) (now (back .entry)) (asked protected) ends (now (target .entry)) ⌝ }
+) -> Onward
+    ensures { λ r. ⌜ r ≡ onwardBySteps n links (now (from .entry)) (now (to .entry)) (now (out .entry)) (now (back .entry)) (asked protected) ends (now (target .entry)) ⌝ }
 {
-    if 64 < n {
-        return 0;
-    }
-    if 64 <= protected.near {
-        return 0;
-    }
-    if 64 <= protected.far {
-        return 0;
+    if !numbers_fit(n, protected) {
+        return Onward {
+            avoiding: 0,
+            missing: 0,
+        };
     }
     let nexts = next_routers(links, from, to, out, back, ends, target);
     let crossing = leading_to(&nexts, over_link(protected, ends, target), n);
-    reaching_without(n, target, crossing)
+    let far = protected.far;
+    let visiting = leading_to(&nexts, one_if(true, far), n);
+    let avoiding = reaching_without(n, target, crossing);
+    let missing = reaching_without(n, target, visiting);
+    Onward { avoiding, missing }
 }

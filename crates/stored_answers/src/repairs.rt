@@ -90,14 +90,14 @@ fn print_ranked(file: &[u8], ranks: &[u8], link: usize, side: usize) {
 // The line of the link repair.
 fn print_link_repair(file: &[u8], link: usize, side: usize) {
     print_question(b"link-repair", link, side);
-    let ranks = [0u8, 1, 2, 3];
+    let ranks = [0u8, 1, 2, 3, 4, 5, 6, 7];
     print_ranked(file, &ranks, link, side);
 }
 
-// The line of the link repair with ranks by which tunnels come first.
+// The line of the link repair with ranks by which the classes come in the order 7, 6, 0, 4, 2, 5, 1, 3.
 fn print_ranked_link_repair(file: &[u8], link: usize, side: usize) {
     print_question(b"ranked-link-repair", link, side);
-    let ranks = [2u8, 3, 1, 0];
+    let ranks = [2u8, 6, 4, 7, 3, 5, 1, 0];
     print_ranked(file, &ranks, link, side);
 }
 
@@ -113,7 +113,7 @@ fn print_link(file: &[u8], link: usize, side: usize) {
 fn print_prefix(file: &[u8], link: usize, side: usize, prefix: usize) {
     print_question(b"prefix-repair", link, side);
     number(prefix);
-    let ranks = [0u8, 1, 2, 3];
+    let ranks = [0u8, 1, 2, 3, 4, 5, 6, 7];
     let mut work = [7u32; 4096];
     print_repair(repair::prefix_repair(file, &mut work, &ranks, link, side, prefix));
 }
@@ -176,19 +176,19 @@ fn check_sum(file: &[u8], ranks: &[u8], link: usize, side: usize, prefixes: usiz
 // The line of the check sum.
 fn print_sum(file: &[u8], link: usize, side: usize, prefixes: usize) {
     print_question(b"prefix-repairs", link, side);
-    let ranks = [0u8, 1, 2, 3];
+    let ranks = [0u8, 1, 2, 3, 4, 5, 6, 7];
     let sum = check_sum(file, &ranks, link, side, prefixes);
     number(sum as usize);
     end();
 }
 
-// The line of the check sum with ranks by which classes 1 and 3 come first, if there is a prefix.
+// The line of the check sum with ranks by which the classes come in the order 1, 7, 3, 4, 2, 5, 0, 6, if there is a prefix.
 fn print_ranked_sum(file: &[u8], link: usize, side: usize, prefixes: usize) {
     if prefixes == 0 {
         return;
     }
     print_question(b"ranked-prefix-repairs", link, side);
-    let ranks = [3u8, 0, 2, 1];
+    let ranks = [6u8, 0, 4, 2, 3, 5, 7, 1];
     let sum = check_sum(file, &ranks, link, side, prefixes);
     number(sum as usize);
     end();
@@ -231,39 +231,44 @@ fn print_wrong(file: &[u8], table: usize, ranks: &[u8], links: usize) {
     print_ranked(file, ranks, links, 0);
 }
 
-// Tables of another length: none, one rank too few, one too many.
+// Tables of another length: none, the four ranks of before, one rank too few, one too many.
 fn print_wrong_lengths(file: &[u8], links: usize) {
-    let ranks = [0u8, 1, 2, 3, 0];
+    let ranks = [0u8, 1, 2, 3, 4, 5, 6, 7, 0];
     print_wrong(file, 0, &ranks[..0], links);
-    print_wrong(file, 1, &ranks[..3], links);
-    print_wrong(file, 2, &ranks, links);
+    print_wrong(file, 1, &ranks[..4], links);
+    print_wrong(file, 2, &ranks[..7], links);
+    print_wrong(file, 3, &ranks, links);
 }
 
-// Tables with a rank over 3, with a rank twice, and with two ranks twice.
+// Tables with a rank over 7, with a rank twice, with four ranks twice, and with two ranks four times.
 fn print_wrong_ranks(file: &[u8], links: usize) {
-    let over = [0u8, 1, 2, 4];
-    print_wrong(file, 3, &over, links);
-    let twice = [0u8, 1, 2, 2];
-    print_wrong(file, 4, &twice, links);
-    let both = [3u8, 0, 3, 0];
-    print_wrong(file, 5, &both, links);
+    let over = [0u8, 1, 2, 3, 4, 5, 6, 8];
+    print_wrong(file, 4, &over, links);
+    let twice = [0u8, 1, 2, 3, 4, 5, 6, 6];
+    print_wrong(file, 5, &twice, links);
+    let four = [0u8, 1, 2, 3, 0, 1, 2, 3];
+    print_wrong(file, 6, &four, links);
+    let two = [7u8, 0, 7, 0, 7, 0, 7, 0];
+    print_wrong(file, 7, &two, links);
 }
 
 // Tables with a rank of which some lower bits are those of a sound one.
 fn print_wrong_bits(file: &[u8], links: usize) {
-    let five = [32u8, 1, 2, 3];
-    print_wrong(file, 6, &five, links);
-    let six = [64u8, 1, 2, 3];
-    print_wrong(file, 7, &six, links);
-    let two = [0u8, 1, 2, 255];
-    print_wrong(file, 8, &two, links);
+    let three = [8u8, 1, 2, 3, 4, 5, 6, 7];
+    print_wrong(file, 8, &three, links);
+    let five = [32u8, 1, 2, 3, 4, 5, 6, 7];
+    print_wrong(file, 9, &five, links);
+    let six = [64u8, 1, 2, 3, 4, 5, 6, 7];
+    print_wrong(file, 10, &six, links);
+    let all = [0u8, 1, 2, 3, 4, 5, 6, 255];
+    print_wrong(file, 11, &all, links);
 }
 
-// The line of the prefix repair with too few ranks, and with a prefix number that is too large as well.
+// The line of the prefix repair with the four ranks of before, and with a prefix number that is too large as well.
 fn print_wrong_prefix(file: &[u8], prefixes: usize) {
     io::write_all(1, b"wrong-prefix-ranks");
     number(1);
-    let ranks = [0u8, 1, 2];
+    let ranks = [0u8, 1, 2, 3];
     let mut work = [7u32; 4096];
     print_repair(repair::prefix_repair(file, &mut work, &ranks, 0, 0, prefixes));
 }

@@ -88,16 +88,16 @@ fn print_route(
 ) {
     io::write_all(1, b"route");
     print_question(link, side, prefix, string);
-    let ranks = [0u8, 1, 2, 3];
+    let ranks = [0u8, 1, 2, 3, 4, 5, 6, 7];
     let mut buffer = [255u8; 128];
     print_played(file, &ranks, link, side, prefix, choices, &mut buffer);
 }
 
-// Prints the line of a route with choice string 3 and with ranks by which tunnels come first.
+// Prints the line of a route with choice string 3 and with ranks by which the classes come in the order 7, 6, 0, 4, 2, 5, 1, 3.
 fn print_ranked_route(file: &[u8], link: usize, side: usize, prefix: usize, choices: &[u8]) {
     io::write_all(1, b"ranked-route");
     print_question(link, side, prefix, 3);
-    let ranks = [2u8, 3, 1, 0];
+    let ranks = [2u8, 6, 4, 7, 3, 5, 1, 0];
     let mut buffer = [255u8; 128];
     print_played(file, &ranks, link, side, prefix, choices, &mut buffer);
 }
@@ -206,18 +206,18 @@ fn print_short(file: &[u8], name: &[u8], ranks: &[u8], n: usize) {
     print_played(file, ranks, 0, 0, 0, &choices[..0], &mut buffer[..bytes]);
 }
 
-// Prints the lines of the questions with a route buffer too short for n routers; the second has too few ranks too.
+// Prints the lines of the questions with a route buffer too short for n routers; the second has the four ranks of before too.
 fn print_shorts(file: &[u8], n: usize) {
-    let ranks = [0u8, 1, 2, 3];
+    let ranks = [0u8, 1, 2, 3, 4, 5, 6, 7];
     print_short(file, b"short-route", &ranks, n);
-    print_short(file, b"short-route-and-ranks", &ranks[..3], n);
+    print_short(file, b"short-route-and-ranks", &ranks[..4], n);
 }
 
-// Prints the line of a question with too few ranks and a link number too large, and whether the work area is kept.
+// Prints the line of a question with the four ranks of before and a link number too large, and whether the work area is kept.
 fn print_wrong_ranks(file: &[u8], links: usize) {
     io::write_all(1, b"wrong-ranks");
     print_question(links, 0, 0, 0);
-    let ranks = [0u8, 1, 2];
+    let ranks = [0u8, 1, 2, 3];
     let choices = [0u8; 1];
     let mut work = [7u32; 4096];
     let mut buffer = [255u8; 128];

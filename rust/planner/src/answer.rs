@@ -15,11 +15,23 @@ pub struct Pair {
     pub first: u8,
     /// The endpoint y. Where it is the first hop itself no tunnel is needed.
     pub endpoint: u8,
-    /// The class, 0 to 3: 0 or 1 where the endpoint is the first hop and 2 or 3 where it is not,
-    /// the lower of the two where the endpoint is closer to the target than S.
+    /// The class, 0 to 7: 0 or 1 where the endpoint is the first hop and 2 or 3 where it is not,
+    /// the lower of the two where the endpoint is closer to the target than S; and 4 more where a
+    /// packet may visit E. A link's own repair leads to E, so that its class is 4 to 7.
     pub class: u8,
     /// The tunnel cost: the cost from S to n plus the distance from n to y.
     pub cost: u32,
+}
+
+impl Pair {
+    /// Whether the repair survives the failure of the far router E too, and not of the link alone:
+    /// whichever equal hops it takes, no packet visits E. The class is below 4 then.
+    ///
+    /// With [`ASCENDING_RANKS`](crate::ASCENDING_RANKS) a prefix has such a repair wherever there is
+    /// one. A link's own repair is none: it leads to E.
+    pub fn survives_far_router(&self) -> bool {
+        self.class < 4
+    }
 }
 
 impl Display for Pair {

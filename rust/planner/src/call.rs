@@ -21,8 +21,9 @@ pub const WORK_CELLS: usize = MOST_ROUTERS * MOST_ROUTERS;
 /// Bytes of a route buffer that is enough for every network.
 pub const ROUTE_BYTES: usize = 2 * MOST_ROUTERS;
 
-/// Ranks by which the lower class is preferred, as the program `plan` does.
-pub const ASCENDING_RANKS: [u8; 4] = [0, 1, 2, 3];
+/// Ranks by which the lower class is preferred, as the program `plan` does: repairs that survive the
+/// failure of the far router too come first.
+pub const ASCENDING_RANKS: [u8; 8] = [0, 1, 2, 3, 4, 5, 6, 7];
 
 /// The fewest routers of a drill.
 pub const LEAST_DRILL_ROUTERS: usize = 3;
@@ -111,9 +112,9 @@ pub fn q_space(file: &[u8], work: &mut [u32], link: usize, end: usize) -> Result
 /// The pair that repairs a link: its packets go around it to its far router E.
 ///
 /// The ranks say which classes are preferred: the rank of class c is `ranks[c]`, and of the pairs
-/// that serve the one whose class has the lowest rank comes first. They are 0, 1, 2 and 3 in any
-/// order; [`ASCENDING_RANKS`] prefers the lower class. Whether there is a repair does not depend on
-/// them.
+/// that serve the one whose class has the lowest rank comes first. They are the numbers 0 to 7 in
+/// any order; [`ASCENDING_RANKS`] prefers the lower class. Whether there is a repair does not depend
+/// on them.
 ///
 /// Refuses by the rows 1 to 10, 15, 12 and 14. Leaves the distances in the work area, also where
 /// row 14 refuses.

@@ -6,7 +6,7 @@
 //! lent a work area, which receives the distances; [`WORK_CELLS`] cells are enough for every file.
 //!
 //! A question names a link and an end: 0 makes the link's router a the repairing router S and its
-//! router b the far router E, 1 the reverse. A question for a repair is lent the ranks of the four
+//! router b the far router E, 1 the reverse. A question for a repair is lent the ranks of the eight
 //! classes too, which say what is preferred, [`ASCENDING_RANKS`] or others. docs/SPECIFICATION.md
 //! says what a network file holds, and what distances, spaces, repairs and routes are.
 //!
@@ -28,7 +28,12 @@
 //! // Link 0 drops. Router 0 sends packets for router 1 to router 3, in a tunnel to router 2.
 //! let mut work = [0; WORK_CELLS];
 //! let pair = planner::link_repair(&file, &mut work, &ASCENDING_RANKS, 0, 0)?;
-//! assert_eq!(pair, Pair { first: 3, endpoint: 2, class: 3, cost: 2 });
+//! assert_eq!(pair, Pair { first: 3, endpoint: 2, class: 7, cost: 2 });
+//!
+//! // Packets for the prefix do without router 1, so that it may fail as well.
+//! let repair = planner::prefix_repair(&file, &mut work, &ASCENDING_RANKS, 0, 0, 0)?;
+//! let Repair::Pair(pair) = repair else { panic!("{repair:?}") };
+//! assert!(pair.survives_far_router());
 //!
 //! // A packet for the prefix goes by router 3 to router 2, which delivers it.
 //! let mut route = [0; ROUTE_BYTES];
@@ -36,8 +41,9 @@
 //! assert_eq!(played, Played::Written(3));
 //! assert_eq!(route[..3], [0, 3, 2]);
 //!
-//! // Ranks that prefer tunnels, classes 2 and 3: one ends at router 2.
-//! let repair = planner::prefix_repair(&file, &mut work, &[2, 3, 0, 1], 0, 0, 0)?;
+//! // Ranks that prefer tunnels, classes 2, 3, 6 and 7: one ends at router 2.
+//! let ranks = [4, 5, 0, 1, 6, 7, 2, 3];
+//! let repair = planner::prefix_repair(&file, &mut work, &ranks, 0, 0, 0)?;
 //! assert_eq!(repair, Repair::Pair(Pair { first: 3, endpoint: 2, class: 2, cost: 2 }));
 //!
 //! // A drill, which is a network for training: five routers in a ring, with costs drawn from seed 8.

@@ -4,7 +4,7 @@
 #![allow(missing_docs)]
 
 /// `PLANNER_VERSION`: the version of the interface.
-pub const VERSION: u32 = 3;
+pub const VERSION: u32 = 4;
 
 /// The kinds of an answer.
 pub mod kind {

@@ -91,8 +91,8 @@ fn question_words(out: &mut Formatter, number: u32, value: u64) -> fmt::Result {
         14 => write!(out, "there is no repair: no pair of first hop and endpoint serves"),
         15 => write!(
             out,
-            "the ranks are no arrangement: the four classes have the ranks 0, 1, 2 and 3, each \
-             once, in any order"
+            "the ranks are no arrangement: the eight classes have the ranks 0 to 7, each once, in \
+             any order"
         ),
         _ => write!(out, "the table of refusals has no such row"),
     }

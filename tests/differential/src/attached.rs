@@ -7,9 +7,11 @@ use crate::compare::Asked;
 use crate::coverage::{Coverage, ends};
 use crate::routes::own_cost;
 use oracle::answer::{Answer, Opened, Outcome, Question};
+use oracle::class::NOT_PROTECTING;
 use oracle::network::LinkEnd;
+use oracle::ranks::ASCENDING;
 use oracle::repair::Pair;
-use oracle::walk::{Move, Walks};
+use oracle::walk::Walks;
 use oracle::workings::Workings;
 
 /// Things that a run meets where routers are attached.
@@ -19,6 +21,7 @@ pub mod thing {
     pub const REPAIRED: &str = "attached: prefix repair: a pair where 14 was";
     pub const OTHER_CLASS: &str = "attached: prefix repair: another pair, of another class";
     pub const OTHER_PAIR: &str = "attached: prefix repair: another pair of the same class";
+    pub const WITHOUT_E: &str = "attached: prefix repair: the same pair, now without E";
     pub const SAME_PAIR: &str = "attached: prefix repair: the same pair as before";
     pub const SAME_14: &str = "attached: prefix repair: 14 as before";
     pub const SAME_UNTOUCHED: &str = "attached: prefix repair: untouched as before";
@@ -47,12 +50,13 @@ pub mod thing {
     pub const PLAYED_PAST: &str = "attached: played in a tunnel past an attached router";
 
     /// All of them.
-    pub const ALL: [&str; 31] = [
+    pub const ALL: [&str; 32] = [
         UNTOUCHED_PAIR,
         UNTOUCHED_14,
         REPAIRED,
         OTHER_CLASS,
         OTHER_PAIR,
+        WITHOUT_E,
         SAME_PAIR,
         SAME_14,
         SAME_UNTOUCHED,
@@ -106,8 +110,10 @@ impl Coverage {
             self.ends_attached(&to, &ends, &outcome.answer);
             self.met(repaired(&outcome.answer, &old.answer), 1);
         } else {
-            let pair = |opened: &Opened| repair(opened, asked);
-            let same_pair = pair(opened) == pair(before);
+            let same_pair = match (repair(opened, asked), repair(before, asked)) {
+                (Answer::Pair(now), Answer::Pair(old)) => same_routers(&now, &old),
+                _ => false,
+            };
             self.met(played(outcome, &old, same_pair), 1);
         }
     }
@@ -137,9 +143,9 @@ impl Coverage {
         self.met(thing::FIRST_HOP_DEAREST, u64::from(n == y && dear && to.dearest(y)));
         self.met(thing::ENDPOINT, u64::from(n != y && dear));
         let tunnel = to.workings.to_router(y);
-        let passes = |x: &usize| *x != y && to.walks().delivers(*x) && comes_to(tunnel, n, *x);
+        let passes = |x: &usize| *x != y && to.walks().delivers(*x) && tunnel.visits(n, *x);
         self.met(thing::TUNNEL, u64::from(to.workings.routers().any(|x| passes(&x))));
-        let ended = |x: &usize| *x != y && to.dear(*x) && comes_to(to.walks(), y, *x);
+        let ended = |x: &usize| *x != y && to.dear(*x) && to.walks().visits(y, *x);
         self.met(thing::LATER, u64::from(to.workings.routers().any(|x| ended(&x))));
         self.met(thing::SUMS, u64::from(to.a_sum_is_the_distance(ends, y)));
     }
@@ -160,23 +166,6 @@ fn repair(opened: &Opened, asked: &Asked) -> Answer {
     };
     let question = Question::prefix_repair(*link, *end, *prefix).with_ranks(ranks);
     opened.ask(&question, &asked.buffers()).answer
-}
-
-/// Whether some walk from a start comes to another router.
-fn comes_to(walks: &Walks, start: usize, x: usize) -> bool {
-    let mut seen = vec![start];
-    let mut looked = 0;
-    while let Some(here) = seen.get(looked).copied() {
-        for next in walks.moves(here) {
-            if let Move::Step(hop) = next
-                && !seen.contains(&hop.to)
-            {
-                seen.push(hop.to);
-            }
-        }
-        looked += 1;
-    }
-    seen.contains(&x)
 }
 
 /// A prefix of a network.
@@ -238,15 +227,20 @@ impl To<'_> {
         match (&now.answer, &old.answer) {
             (Answer::Untouched, old) => assert!(attached || *old == Answer::Untouched),
             (Answer::Pair(now), Answer::Pair(old)) => {
-                let ranks = question.ranks().expect("a repair has ranks");
-                let rank = |pair: &Pair| ranks[pair.class as usize];
-                assert!(rank(now) <= rank(old), "{question:?}");
+                // A pair may now do without E and so have 4 less, which may be any rank.
+                let ascending = question.ranks() == Some(&ASCENDING[..]);
+                assert!(!ascending || now.class <= old.class, "{question:?}");
             }
             (Answer::Pair(_) | Answer::Count(_), Answer::Refused { .. }) => {}
             (Answer::Count(_), Answer::Count(_)) => {}
             (now, old) => assert_eq!(now, old, "{question:?}"),
         }
     }
+}
+
+/// Whether two pairs have the same first hop and endpoint.
+fn same_routers(one: &Pair, other: &Pair) -> bool {
+    (one.first_hop, one.endpoint) == (other.first_hop, other.endpoint)
 }
 
 /// How a repair differs from the one before.
@@ -256,6 +250,12 @@ fn repaired(now: &Answer, old: &Answer) -> &'static str {
         (Answer::Untouched, Answer::Refused { .. }) => thing::UNTOUCHED_14,
         (Answer::Untouched, _) => thing::SAME_UNTOUCHED,
         (Answer::Pair(_), Answer::Refused { .. }) => thing::REPAIRED,
+        (Answer::Pair(now), Answer::Pair(old))
+            if same_routers(now, old) && now.class != old.class =>
+        {
+            assert_eq!(now.class + NOT_PROTECTING, old.class);
+            thing::WITHOUT_E
+        }
         (Answer::Pair(now), Answer::Pair(old)) if now.class != old.class => thing::OTHER_CLASS,
         (Answer::Pair(now), Answer::Pair(old)) if now != old => thing::OTHER_PAIR,
         (Answer::Pair(_), _) => thing::SAME_PAIR,

@@ -7,6 +7,7 @@ use crate::files::NamedFile;
 use crate::legs::{Pairs, walk_told};
 use crate::networks::Named;
 use crate::questions;
+use crate::ranked;
 use crate::routes::{Asking, Rules, follow_heard};
 use crate::threads::each;
 use oracle::answer::{Opened, Question, load};
@@ -25,8 +26,12 @@ pub enum Breadth {
     Limits,
     /// What the file alone decides.
     Reading,
-    /// Every link, end and prefix by every arrangement of ranks.
-    Arrangements,
+    /// Every link, end and prefix by every arrangement of ranks that decides.
+    DecidingRanks,
+    /// Link 0, end 0 by so many arrangements of ranks at random.
+    RandomRanks(usize),
+    /// Link 0, end 0 by all arrangements of ranks.
+    AllRanks,
     /// Every wrong table of ranks.
     WrongRanks,
     /// Questions that write a file; the one of the case gives their seed alone.
@@ -71,7 +76,7 @@ impl Case {
     pub fn asked(&self) -> Vec<Asked> {
         let random = &mut Random::new(self.seed);
         match (self.network(), self.breadth) {
-            (_, Breadth::WrongRanks) => questions::every_wrong_table(random),
+            (_, Breadth::WrongRanks) => ranked::every_wrong_table(random),
             (_, Breadth::Writing) => questions::writing(random),
             (None, _) => questions::of_refused(random),
             (Some(network), Breadth::Whole(routes)) => questions::whole(&network, routes, random),
@@ -81,9 +86,11 @@ impl Case {
                 asked.extend(questions::lengths_at_limits(&network, random));
                 asked
             }
-            (Some(network), Breadth::Arrangements) => {
-                questions::every_arrangement(&network, random)
+            (Some(network), Breadth::DecidingRanks) => ranked::by_deciding_ranks(&network, random),
+            (Some(network), Breadth::RandomRanks(count)) => {
+                ranked::by_random_ranks(&network, count, random)
             }
+            (Some(network), Breadth::AllRanks) => ranked::by_all_ranks(&network, random),
         }
     }
 
@@ -153,11 +160,13 @@ pub fn run(planner: &dyn Planner, cases: &[Case]) -> Report {
 
 fn run_case(planner: &dyn Planner, case: &Case) -> Report {
     let ctx = Context::sound();
-    let [all_in_use, passed] = [Fault::NOTHING_LEFT_OUT, Fault::AttachedPassed]
-        .map(|as_before| Context::with(&[as_before]));
+    let [all_in_use, passed, no_four] =
+        [Fault::NOTHING_LEFT_OUT, Fault::AttachedPassed, Fault::NodeNotLookedAt]
+            .map(|as_before| Context::with(&[as_before]));
     let opened = Opened::new(&ctx, &case.file);
     let before_maintenance = Opened::new(&all_in_use, &case.file);
     let before_attached = Opened::new(&passed, &case.file);
+    let before_node = Opened::new(&no_four, &case.file);
     let network = case.network().unwrap_or_default();
     let rules = Rules::of(&network);
     let mut report = Report { files: 1, ..Report::default() };
@@ -169,6 +178,7 @@ fn run_case(planner: &dyn Planner, case: &Case) -> Report {
         report.coverage.maintenance(&opened, &before_maintenance, &asked, &compared.expected);
         report.coverage.attached(&opened, &before_attached, &asked, &compared.expected);
         report.coverage.ranks(&opened, &asked, &compared.expected);
+        report.coverage.node(&opened, &before_node, &asked, &compared.expected);
         pairs.remember(&asked.question, &compared.heard.told);
         let wrong = match &compared.difference {
             Some(difference) => Some(difference.clone()),

@@ -4,12 +4,13 @@
 use crate::attached;
 use crate::compare::Asked;
 use crate::maintenance;
+use crate::node;
 use crate::ranks;
 use crate::routes::Met;
 use crate::writing;
 use oracle::answer::{Answer, Opened, Outcome, Question, inputs};
 use oracle::network::{LinkEnd, Network};
-use oracle::repair::{deciding_key, serving};
+use oracle::repair::{asked_about, deciding_key, serving};
 use oracle::row::Cause;
 use oracle::space::{self, Space};
 use std::collections::BTreeMap;
@@ -137,14 +138,10 @@ impl Coverage {
     /// The key that puts the answer before the next serving pair.
     fn deciding(&mut self, opened: &Opened, question: &Question) {
         let workings = opened.workings();
-        let (Some(ends), Some(ranks)) = (ends(opened, question), question.ranks()) else {
-            return;
-        };
-        let target = match question {
-            Question::PrefixRepair { prefix, .. } => workings.to_prefix(*prefix),
-            _ => workings.to_router(ends.e),
-        };
-        if let Some(key) = deciding_key(&serving(workings, &ends, target, ranks)) {
+        if let (Some((ends, target)), Some(ranks)) =
+            (asked_about(workings, question), question.ranks())
+            && let Some(key) = deciding_key(&serving(workings, &ends, target, ranks))
+        {
             self.met(&of_key(key), 1);
         }
     }
@@ -199,6 +196,7 @@ pub fn everything() -> Vec<String> {
     things.extend(of_repairs());
     things.extend(attached::thing::ALL.map(str::to_string));
     things.extend(maintenance::thing::ALL.map(str::to_string));
+    things.extend(node::thing::ALL.map(str::to_string));
     things.extend(ranks::things());
     things.extend(writing::things());
     things.extend(Cause::ALL.iter().map(|cause| of_cause(*cause)));
@@ -207,8 +205,9 @@ pub fn everything() -> Vec<String> {
 
 /// The classes and the deciding keys.
 pub fn of_repairs() -> Vec<String> {
-    let classes = [true, false].into_iter().flat_map(|link| (0..4).map(move |c| of_class(link, c)));
-    classes.chain((1..=5).map(of_key)).collect()
+    let of_links = (4..8).map(|class| of_class(true, class));
+    let of_prefixes = (0..8).map(|class| of_class(false, class));
+    of_links.chain(of_prefixes).chain((1..=5).map(of_key)).collect()
 }
 
 /// The causes of some rows.

@@ -1,14 +1,17 @@
 //! The questions about a file: all there are, those at the limits of numbers
-//! and lengths, those with ranks of every kind, and those about a file that is
-//! refused. And those that write a file.
+//! and lengths, and those about a file that is refused. And those that write a
+//! file. Those by ranks of every kind are in `ranked`.
 
 use crate::compare::Asked;
+use crate::ranked::other_ranks;
 use oracle::answer::Question;
 use oracle::corpus::wrongly_ranked_too;
+use oracle::fault::Context;
 use oracle::network::Network;
 use oracle::random::Random;
-use oracle::ranks::{ASCENDING, arrangements, wrong_tables};
+use oracle::ranks::ASCENDING;
 use oracle::space::Space;
+use oracle::workings::Workings;
 use oracle::write_questions;
 
 /// Every question with numbers in range, for each prefix question that many
@@ -17,15 +20,17 @@ use oracle::write_questions;
 /// link repairs show.
 pub fn whole(network: &Network, routes: usize, random: &mut Random) -> Vec<Asked> {
     let mut questions = about_the_file(network, random);
-    let arrangements = arrangements();
+    let workings = Workings::of(&Context::sound(), network.clone());
     for (link, end) in link_ends(network) {
         questions.extend(link_questions(link, end));
-        let other = random.pick(&arrangements);
-        questions.push(Question::link_repair(link, end).with_ranks(&other));
+        let link_repair = Question::link_repair(link, end);
+        let other = other_ranks(&workings, &link_repair, random);
+        questions.push(link_repair.with_ranks(&other));
         for prefix in 0..network.prefixes.len() as u64 {
-            let other = random.pick(&arrangements);
+            let prefix_repair = Question::prefix_repair(link, end, prefix);
+            let other = other_ranks(&workings, &prefix_repair, random);
             for (ranks, routes) in [(ASCENDING, routes), (other, 1)] {
-                questions.push(Question::prefix_repair(link, end, prefix).with_ranks(&ranks));
+                questions.push(prefix_repair.clone().with_ranks(&ranks));
                 for _ in 0..routes {
                     let choices = choices(network, random);
                     let route = Question::route(link, end, prefix, &choices);
@@ -36,38 +41,6 @@ pub fn whole(network: &Network, routes: usize, random: &mut Random) -> Vec<Asked
     }
     questions.push(Question::Plan);
     lent(network, questions, random)
-}
-
-/// Every link, end and prefix by every arrangement of ranks, with one route for
-/// each.
-pub fn every_arrangement(network: &Network, random: &mut Random) -> Vec<Asked> {
-    let mut questions = Vec::new();
-    for (link, end) in link_ends(network) {
-        for ranks in arrangements() {
-            questions.push(Question::link_repair(link, end).with_ranks(&ranks));
-            for prefix in 0..network.prefixes.len() as u64 {
-                let choices = choices(network, random);
-                questions.push(Question::prefix_repair(link, end, prefix).with_ranks(&ranks));
-                questions.push(Question::route(link, end, prefix, &choices).with_ranks(&ranks));
-            }
-        }
-    }
-    lent(network, questions, random)
-}
-
-/// Every wrong table, in each call that takes ranks, with buffers that are
-/// enough for any file. The link and the prefix may be in range or not.
-pub fn every_wrong_table(random: &mut Random) -> Vec<Asked> {
-    let mut asked = Vec::new();
-    for ranks in wrong_tables() {
-        let link = random.pick(&[0, 0, 1, u64::MAX]);
-        let prefix = random.pick(&[0, 0, 1, u64::MAX]);
-        let mut questions = vec![Question::link_repair(link, 0)];
-        questions.extend(prefix_questions(link, 0, prefix));
-        let ranked = questions.into_iter().map(|question| question.with_ranks(&ranks));
-        asked.extend(ranked.map(|question| Asked::of_file(question, 4096, 128)));
-    }
-    asked
 }
 
 /// Questions that write a file, drills and networks of every kind.
@@ -82,7 +55,7 @@ pub fn reading(network: &Network, random: &mut Random) -> Vec<Asked> {
 }
 
 /// Questions with buffers that are just enough or a little longer.
-fn lent(network: &Network, questions: Vec<Question>, random: &mut Random) -> Vec<Asked> {
+pub(crate) fn lent(network: &Network, questions: Vec<Question>, random: &mut Random) -> Vec<Asked> {
     let (cells, bytes) = enough(network);
     let mut lend =
         |question| Asked::of_file(question, cells + random.below(3), bytes + random.below(3));
@@ -102,7 +75,7 @@ fn about_the_file(network: &Network, random: &mut Random) -> Vec<Question> {
 }
 
 /// Some choice bytes: often too few for the route, sometimes none.
-fn choices(network: &Network, random: &mut Random) -> Vec<u8> {
+pub(crate) fn choices(network: &Network, random: &mut Random) -> Vec<u8> {
     let most = 2 * usize::from(network.routers);
     let count = match random.below(4) {
         0 => 0,
@@ -197,7 +170,7 @@ pub fn of_refused(random: &mut Random) -> Vec<Asked> {
     asked
 }
 
-fn link_ends(network: &Network) -> impl Iterator<Item = (u64, u64)> {
+pub(crate) fn link_ends(network: &Network) -> impl Iterator<Item = (u64, u64)> {
     (0..network.links.len() as u64).flat_map(|link| [(link, 0), (link, 1)])
 }
 
@@ -206,7 +179,7 @@ fn link_questions(link: u64, end: u64) -> Vec<Question> {
     spaces.chain([Question::link_repair(link, end)]).collect()
 }
 
-fn prefix_questions(link: u64, end: u64, prefix: u64) -> [Question; 2] {
+pub(crate) fn prefix_questions(link: u64, end: u64, prefix: u64) -> [Question; 2] {
     let choices = [1, 2, 3, 4, 5, 6, 7, 8];
     [Question::prefix_repair(link, end, prefix), Question::route(link, end, prefix, &choices)]
 }

@@ -5,7 +5,7 @@
 use crate::compare::Asked;
 use crate::coverage::Coverage;
 use oracle::answer::{Answer, Opened, Outcome, Question};
-use oracle::ranks::{ASCENDING, Arrangement, arrangement_of, deciding, decisions};
+use oracle::ranks::{ASCENDING, Decision, arrangement_of, deciding, decisions};
 
 /// Things that a run meets where the ranks do not ascend.
 pub mod thing {
@@ -52,18 +52,37 @@ pub const ANSWERED: [&str; 11] = [
     thing::UNREACHABLE,
 ];
 
-/// All of them, and a decision between each two neighbouring ranks by each
-/// arrangement.
+/// All of them, and of links and of prefixes each class before each other one, and each
+/// class as the first of two by each rank but the last.
 pub fn things() -> Vec<String> {
     let mut things = vec![thing::LINK_15, thing::PREFIX_15, thing::ROUTE_15, thing::FILE_FIRST];
     things.extend(ANSWERED);
     things.extend(thing::BEFORE_15.iter().chain(&thing::AFTER_15));
-    let decided = decisions().map(|(ranks, rank)| decision(&ranks, rank));
+    let decided = every_decision().flat_map(|(call, decided)| parts_of(call, decided));
     things.into_iter().map(str::to_string).chain(decided).collect()
 }
 
-fn decision(ranks: &Arrangement, rank: u8) -> String {
-    format!("ranks {ranks:?} decide between rank {rank} and {}", rank + 1)
+/// Every decision between two classes of neighbouring ranks: each two classes in both
+/// orders, by each rank but the last. A link's classes are 4 to 7.
+pub fn all_decisions() -> Vec<String> {
+    every_decision().map(|(call, decided)| decision(call, decided)).collect()
+}
+
+fn every_decision() -> impl Iterator<Item = (&'static str, Decision)> {
+    let of_links = decisions(4..8).into_iter().map(|decided| ("link repair", decided));
+    let of_prefixes = decisions(0..8).into_iter().map(|decided| ("prefix repair", decided));
+    of_links.chain(of_prefixes)
+}
+
+fn decision(call: &str, Decision { first, next, rank }: Decision) -> String {
+    format!("ranks: {call}: class {first} at rank {rank} before class {next}")
+}
+
+fn parts_of(call: &str, Decision { first, next, rank }: Decision) -> [String; 2] {
+    [
+        format!("ranks: {call}: class {first} before class {next}"),
+        format!("ranks: {call}: class {first} first by rank {rank}"),
+    ]
 }
 
 impl Coverage {
@@ -83,15 +102,21 @@ impl Coverage {
             return;
         };
         if let Answer::Pair(pair) = &outcome.answer
-            && let Some(rank) = deciding(opened, &asked.question, &asked.buffers(), pair)
+            && let Some(decided) = deciding(opened, &asked.question, &asked.buffers(), pair)
         {
-            self.met(&decision(&ranks, rank), 1);
+            self.decided(&asked.question, decided);
         }
         let turned_away = matches!(outcome.answer, Answer::Refused { number, .. } if number != 14);
         if ranks != ASCENDING && !turned_away {
             let ascending = opened.ask(&ascending, &asked.buffers());
             self.met(changed(&asked.question, outcome, &ascending), 1);
         }
+    }
+
+    fn decided(&mut self, question: &Question, decided: Decision) {
+        let call = by_call(question, ["link repair", "prefix repair", "route"]);
+        self.met(&decision(call, decided), 1);
+        parts_of(call, decided).iter().for_each(|part| self.met(part, 1));
     }
 }
 

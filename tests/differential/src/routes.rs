@@ -125,6 +125,12 @@ impl<'a> Rules<'a> {
         Ok(Met { hops: route.len() - 1, maintained, ..walk.met })
     }
 
+    /// The neighbours of S other than E to which the link is not under maintenance.
+    pub(crate) fn first_hops(&self, s: usize, e: usize) -> Vec<usize> {
+        let in_use = |n: &usize| self.cost[s][*n].is_some() && !self.maintained(s, *n);
+        (0..self.routers()).filter(|n| *n != e && in_use(n)).collect()
+    }
+
     /// Whether the hop from x to z is under maintenance.
     fn maintained(&self, x: usize, z: usize) -> bool {
         self.cost[x][z] == Some(MAINTENANCE)

@@ -9,11 +9,11 @@ use differential::c_interface::CInterface;
 use differential::call::Planner;
 use differential::campaign::{Breadth, Case, Report, run};
 use differential::files::NamedFile;
-use differential::legs::Target;
+use differential::legs::{Leg, Target};
 use differential::library::Library;
 use differential::networks::{MIDDLE, SMALL, Size, of_family};
 use differential::routes::Rules;
-use differential::stand_in::StandIn;
+use differential::stand_in::{StandIn, assert_noticed};
 use oracle::fault::{Context, Fault};
 use oracle::file::write;
 use oracle::generate::Family;
@@ -26,10 +26,10 @@ fn cases(size: Size, seeds: std::ops::Range<u64>, breadth: Breadth) -> Vec<Case>
     networks.map(|named| Case::of_network(named, breadth)).collect()
 }
 
-/// The networks worked by hand, by every arrangement of ranks and with many routes.
+/// The networks worked by hand, by every arrangement that decides and with many routes.
 fn by_hand() -> Vec<Case> {
     let networks = || attached().into_iter();
-    let breadths = [Breadth::Whole(8), Breadth::Arrangements, Breadth::Limits];
+    let breadths = [Breadth::Whole(8), Breadth::DecidingRanks, Breadth::Limits];
     let of = |breadth| {
         networks().map(move |(name, network)| {
             let file = NamedFile { name: name.to_string(), bytes: write(&network) };
@@ -94,16 +94,7 @@ fn the_oracle_keeps_the_rules_too() {
 #[test]
 fn wrong_planners_are_noticed() {
     let cases = cases(SMALL, 6601..6701, Breadth::Whole(1));
-    let differing = |faults: &[Fault]| {
-        let planner = StandIn { ctx: Context::with(faults) };
-        run(&planner, &cases).differences.len()
-    };
-    assert_eq!(differing(&[]), 0);
-    for fault in Fault::OF_ATTACHED {
-        let count = differing(&[fault]);
-        println!("{} differs in {count} of {} networks", fault.name(), cases.len());
-        assert!(count >= 5, "{} differs in {count} networks only", fault.name());
-    }
+    assert_noticed(&Fault::OF_ATTACHED, &cases, 5);
 }
 
 /// The legs of ring 4 with its dear attachment, for link 0, end 0.
@@ -112,8 +103,9 @@ fn legs_that_cross_are_noticed() {
     let network = attached_ring_4();
     let rules = Rules::of(&network);
     let prefix = Target::Prefix(&network.prefixes[0]);
-    assert_eq!(rules.every_walk(3, prefix, (0, 1)), Ok(0));
-    assert_eq!(rules.every_walk(2, prefix, (0, 1)), Ok(1));
+    let leg = |hops, visits| Ok(Leg { hops, visits });
+    assert_eq!(rules.every_walk(3, prefix, (0, 1)), leg(0, false));
+    assert_eq!(rules.every_walk(2, prefix, (0, 1)), leg(1, true));
     assert!(rules.every_walk(0, prefix, (0, 1)).is_err());
     assert!(rules.every_walk(0, prefix, (1, 0)).is_err());
     assert!(rules.both_legs((3, 3), prefix, (0, 1)).is_ok());
@@ -129,6 +121,6 @@ fn legs_that_cross_are_noticed() {
     let rules = Rules::of(&plain);
     let prefix = Target::Prefix(&plain.prefixes[0]);
     assert!(rules.every_walk(3, prefix, (0, 1)).is_err());
-    assert_eq!(rules.every_walk(2, prefix, (0, 1)), Ok(1));
+    assert_eq!(rules.every_walk(2, prefix, (0, 1)), leg(1, true));
     assert!(rules.may_cross((3, 0), &plain.prefixes[0]));
 }

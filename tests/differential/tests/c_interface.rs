@@ -13,7 +13,7 @@ fn cases() -> Vec<Case> {
     let file = |file| Case::of_file(file, Breadth::Limits);
     let named = |(name, bytes)| NamedFile { name, bytes };
     let mut cases: Vec<Case> = files::worked().into_iter().map(file).collect();
-    let ranked = |file| Case::of_file(file, Breadth::Arrangements);
+    let ranked = |file| Case::of_file(file, Breadth::DecidingRanks);
     cases.extend(files::worked().into_iter().map(ranked));
     cases.extend(networks::of_extremes(4001).into_iter().map(whole));
     cases.extend(networks::of_families(WIDE, 4002..4003).into_iter().map(whole));

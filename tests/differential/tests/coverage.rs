@@ -16,7 +16,7 @@ fn cases() -> Vec<Case> {
     let whole = |routes| move |named| Case::of_network(named, Breadth::Whole(routes));
     let limits = |named| Case::of_network(named, Breadth::Limits);
     let file = |file| Case::of_file(file, Breadth::Limits);
-    let ranked = |file| Case::of_file(file, Breadth::Arrangements);
+    let ranked = |file| Case::of_file(file, Breadth::DecidingRanks);
     let mut cases = vec![whole(1)(networks::largest(1001))];
     cases.extend(networks::of_extremes(1002).into_iter().map(whole(1)));
     cases.extend(networks::of_families(WIDE, 1003..1005).into_iter().map(whole(1)));

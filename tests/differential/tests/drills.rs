@@ -135,7 +135,7 @@ fn repairs_in_drills() {
     cases.reverse();
     let report = run(&Library, &cases);
     report.assert_same();
-    let classes = (0..4).map(|class| format!("link repair: class {class}"));
+    let classes = (4..8).map(|class| format!("link repair: class {class}"));
     let repairs: Vec<u64> = classes.map(|class| report.coverage.count(&class)).collect();
     let fourteen = report.coverage.count(coverage::thing::LINK_14);
     println!("{}; repairs by class {repairs:?}, 14 {fourteen} times", report.summary());

@@ -6,8 +6,8 @@ use differential::campaign::{Breadth, Case, run};
 use differential::library::Library;
 use differential::maintenance::thing;
 use differential::networks::{MIDDLE, SMALL, Size, of_family};
-use differential::stand_in::StandIn;
-use oracle::fault::{Context, Fault};
+use differential::stand_in::assert_noticed;
+use oracle::fault::Fault;
 use oracle::generate::Family;
 
 /// Networks of a size and of some seeds, with so many routes for each question.
@@ -34,14 +34,5 @@ fn networks_with_many_links_under_maintenance() {
 #[test]
 fn wrong_planners_are_noticed() {
     let cases = cases(SMALL, 4200..4260, 1);
-    let differing = |faults: &[Fault]| {
-        let planner = StandIn { ctx: Context::with(faults) };
-        run(&planner, &cases).differences.len()
-    };
-    assert_eq!(differing(&[]), 0);
-    for fault in Fault::OF_MAINTENANCE {
-        let count = differing(&[fault]);
-        println!("{} differs in {count} of {} networks", fault.name(), cases.len());
-        assert!(count >= 5, "{} differs in {count} networks only", fault.name());
-    }
+    assert_noticed(&Fault::OF_MAINTENANCE, &cases, 5);
 }

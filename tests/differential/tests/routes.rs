@@ -111,7 +111,7 @@ fn delivery_is_the_only_option() {
 fn a_tunnel_that_ends_at_an_attached_router_is_noticed() {
     let network = attached_tunnel();
     let rules = Rules::of(&network);
-    let met = rules.follow(&asking((2, 4), &[]), &[0, 2, 3, 4, 1]).expect("it passes 3");
+    let met = rules.follow(&asking((2, 4), &[]), &[0, 2, 3, 4, 5]).expect("it passes 3");
     assert_eq!(met.passed, 1);
     assert!(rules.follow(&asking((2, 4), &[]), &[0, 2, 3]).is_err());
     let met = rules.follow(&asking((2, 3), &[]), &[0, 2, 3]).expect("it ends at 3");

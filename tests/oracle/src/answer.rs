@@ -432,7 +432,7 @@ impl<'a> Opened<'a> {
                 self.repair(ranks, link_end(*link, *end).map_or(Repair::None, repaired))
             }
             Question::Route { ranks, link, end, prefix, choices } => {
-                let ranks = self.ranks(ranks, Fault::RouteAscending);
+                let ranks = &self.route_ranks(ranks);
                 match link_end(*link, *end) {
                     Some(link_end) => self.played(ranks, &link_end, *prefix, choices, route_buffer),
                     None => self.repair(ranks, Repair::None),
@@ -445,6 +445,15 @@ impl<'a> Opened<'a> {
     /// The ranks that a call goes by: those lent to it, unless a fault drops them.
     fn ranks<'r>(&self, lent: &'r [u8], dropped: Fault) -> &'r [u8] {
         if self.ctx.has(dropped) { &ASCENDING } else { lent }
+    }
+
+    /// The ranks that a route goes by. With a fault the classes from 4 on have those
+    /// of the others.
+    fn route_ranks(&self, lent: &[u8]) -> Vec<u8> {
+        let ranks = self.ranks(lent, Fault::RouteAscending);
+        let half = &ranks[..ranks.len() / 2];
+        let halved = self.ctx.has(Fault::RouteRankOfClassModulo4);
+        if halved { half.repeat(2) } else { ranks.to_vec() }
     }
 
     fn repair(&self, ranks: &[u8], repair: Repair) -> Answer {

@@ -45,9 +45,9 @@ oracle [OPTION ...] COMMAND
 
   --work CELLS                     cells of the work area lent to `ask`
   --buffer BYTES                   bytes of the route buffer lent to `ask`
-  --ranks RANK,RANK,RANK,RANK      the ranks of the classes 0 to 3 for the repairs
-                                   and routes of `ask` and `batch`; 0,1,2,3 if none
-                                   are given
+  --ranks RANK,RANK,...            the ranks of the classes 0 to 7 for the repairs
+                                   and routes of `ask` and `batch`; 0,1,2,3,4,5,6,7
+                                   if none are given
   --left                           `ask` prints the lent buffers after the call
   --fault NAME                     turns on a fault
 ";

@@ -8,10 +8,12 @@ use crate::file::{BLOCK, LARGEST, write};
 use crate::generate::{self, Family};
 use crate::network::Network;
 use crate::random::Random;
-use crate::ranks::{ASCENDING, Arrangement, WRONG, arrangements};
+use crate::ranks::{ASCENDING, Arrangement, DESCENDING, WRONG, deciding_tables, random_table};
+use crate::repair::serving_classes;
 use crate::row::Cause;
 use crate::space::Space;
 use crate::worked;
+use crate::workings::Workings;
 use crate::write_questions;
 
 /// A file with the questions about it, each with the buffers lent to it.
@@ -232,6 +234,7 @@ pub fn questions(network: &Network, random: &mut Random) -> Vec<(Question, Buffe
 /// asked for with the ranks ascending and with two other arrangements, a route
 /// with one of these and three strings of choices.
 pub fn valid_questions(network: &Network, random: &mut Random) -> Vec<Question> {
+    let workings = Workings::of(&Context::sound(), network.clone());
     let (links, prefixes) = (network.links.len() as u64, network.prefixes.len() as u64);
     let mut questions = vec![Question::Load, Question::Plan, Question::Distances];
     questions.extend([0, 1, u64::MAX, random.any()].map(|set| Question::Size { set }));
@@ -244,10 +247,11 @@ pub fn valid_questions(network: &Network, random: &mut Random) -> Vec<Question> 
             end,
         }));
         let link_repair = Question::link_repair(link, end);
-        questions.extend(some_ranks(random).map(|ranks| link_repair.clone().with_ranks(&ranks)));
+        let tables = some_ranks(&workings, &link_repair, random);
+        questions.extend(tables.map(|ranks| link_repair.clone().with_ranks(&ranks)));
         for prefix in 0..prefixes {
             let prefix_repair = Question::prefix_repair(link, end, prefix);
-            let tables = some_ranks(random);
+            let tables = some_ranks(&workings, &prefix_repair, random);
             questions.extend(tables.map(|ranks| prefix_repair.clone().with_ranks(&ranks)));
             let short = random.below(4);
             let long = 2 * usize::from(network.routers);
@@ -261,10 +265,17 @@ pub fn valid_questions(network: &Network, random: &mut Random) -> Vec<Question> 
     questions
 }
 
-/// The ranks ascending, and two arrangements more.
-fn some_ranks(random: &mut Random) -> [Arrangement; 3] {
-    let arrangements = arrangements();
-    [ASCENDING, random.pick(&arrangements), random.pick(&arrangements)]
+/// The ranks ascending, any arrangement, and one that decides the question if there is
+/// such.
+pub fn some_ranks(
+    workings: &Workings,
+    question: &Question,
+    random: &mut Random,
+) -> [Arrangement; 3] {
+    let mut deciding = deciding_tables(&serving_classes(workings, question));
+    deciding.push(random_table(random));
+    let decides = random.below(deciding.len().max(2) - 1);
+    [ASCENDING, random_table(random), deciding[decides]]
 }
 
 /// Questions with buffers, ranks and numbers just inside and just outside.
@@ -272,7 +283,7 @@ fn questions_at_limits(network: &Network, random: &mut Random) -> Vec<(Question,
     let cells = usize::from(network.routers) * usize::from(network.routers);
     let enough = marked(cells, 2 * usize::from(network.routers));
     let mut questions = numbers_at_limits(network, random);
-    questions.extend(every_kind_of_ranks());
+    questions.extend(every_kind_of_ranks(network, random));
     let mut asked: Vec<(Question, Buffers)> =
         questions.into_iter().map(|question| (question, enough.clone())).collect();
     asked.extend(lengths_at_limits(network, random));
@@ -318,14 +329,17 @@ fn lengths_at_limits(network: &Network, random: &mut Random) -> Vec<(Question, B
     asked
 }
 
-/// Every arrangement and every kind of wrong table, for each call that takes
-/// ranks.
-fn every_kind_of_ranks() -> Vec<Question> {
-    let arrangements = arrangements();
-    let tables: Vec<&[u8]> = arrangements.iter().map(|ranks| &ranks[..]).chain(WRONG).collect();
+/// For each call that takes ranks, about link 0, end 0 and prefix 0: arrangements that
+/// decide it in every way, some others, and every kind of wrong table.
+fn every_kind_of_ranks(network: &Network, random: &mut Random) -> Vec<Question> {
+    let workings = Workings::of(&Context::sound(), network.clone());
+    let others = [DESCENDING, random_table(random), random_table(random)];
     let questions = any_questions(0, 0, &[0]).into_iter().filter(|each| each.ranks().is_some());
     let ranked = |question: Question| {
-        tables.iter().map(|ranks| question.clone().with_ranks(ranks)).collect::<Vec<Question>>()
+        let deciding = deciding_tables(&serving_classes(&workings, &question));
+        let sound = deciding.iter().chain(&others).map(|ranks| &ranks[..]);
+        let all = sound.chain(WRONG).map(|ranks| question.clone().with_ranks(ranks));
+        all.collect::<Vec<Question>>()
     };
     questions.flat_map(ranked).collect()
 }

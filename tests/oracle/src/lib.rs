@@ -12,6 +12,7 @@ mod listed;
 
 pub mod answer;
 pub mod batch;
+pub mod class;
 pub mod columns;
 pub mod command;
 pub mod corpus;
@@ -33,6 +34,7 @@ pub mod space;
 pub mod spoil;
 pub mod stored;
 pub mod text;
+pub mod visit;
 pub mod walk;
 pub mod words;
 pub mod worked;

@@ -1,8 +1,9 @@
 //! The text that the program `plan` prints for a file.
 
 use crate::answer::Opened;
+use crate::class::NOT_PROTECTING;
 use crate::fault::Fault;
-use crate::ranks::ASCENDING;
+use crate::ranks::{ASCENDING, DESCENDING};
 use crate::repair::{Repair, link_repair};
 use crate::row::Inputs;
 use crate::workings::Workings;
@@ -38,14 +39,17 @@ fn line(workings: &Workings, link: u64, end: u64) -> String {
     let Some(link_end) = workings.network.link_end(ctx, link, end) else {
         return String::new();
     };
-    let ranks = if ctx.has(Fault::PlanDescending) { [3, 2, 1, 0] } else { ASCENDING };
+    let ranks = if ctx.has(Fault::PlanDescending) { DESCENDING } else { ASCENDING };
     let own_repair = match link_repair(workings, &link_end, &ranks) {
         Repair::Pair(pair) => {
-            let (mut n, mut y) = (pair.first_hop, pair.endpoint);
+            let (mut n, mut y, mut class) = (pair.first_hop, pair.endpoint, pair.class);
             if ctx.has(Fault::PlanHopAndEndpointSwapped) {
                 (n, y) = (y, n);
             }
-            format!("{n} {y} {} {}", pair.class, pair.tunnel_cost)
+            if ctx.has(Fault::PlanClassesBelowFour) {
+                class %= NOT_PROTECTING;
+            }
+            format!("{n} {y} {class} {}", pair.tunnel_cost)
         }
         _ if ctx.has(Fault::PlanNoneOnce) => "none".to_string(),
         _ => "none none none none".to_string(),

@@ -1,13 +1,16 @@
 //! Link repairs and prefix repairs: every pair is looked at, those that serve
 //! are kept, and the first in the order of document 01 is taken.
 
+use crate::answer::Question;
+use crate::class;
 use crate::distance::{UNREACHABLE, plus};
-use crate::fault::Fault;
+use crate::fault::{Context, Fault};
 use crate::network::LinkEnd;
-use crate::ranks;
+use crate::ranks::{self, ASCENDING};
 use crate::space::{first_hops_unless, q_target};
 use crate::walk::Walks;
 use crate::workings::Workings;
+use std::collections::BTreeSet;
 
 /// A pair with what its answer holds.
 #[derive(Clone, Copy, Debug, PartialEq, Eq)]
@@ -16,6 +19,7 @@ pub struct Pair {
     pub first_hop: usize,
     /// y, a router, neither S nor E.
     pub endpoint: usize,
+    /// 0 to 3 if the pair is node-protecting, otherwise 4 to 7.
     pub class: u32,
     /// The cost S to n plus D(n,y).
     pub tunnel_cost: u32,
@@ -65,6 +69,9 @@ fn touched(workings: &Workings, link_end: &LinkEnd, walks: &Walks) -> bool {
     if workings.ctx.has(Fault::AttachedSRepaired) {
         return walks.tight(link_end.s).iter().any(|hop| hop.number == link_end.s_to_e());
     }
+    if workings.ctx.has(Fault::TouchedByVisit) {
+        return walks.visits(link_end.s, link_end.e);
+    }
     walks.takes(link_end.s, link_end.s_to_e())
 }
 
@@ -98,6 +105,36 @@ pub fn serving(
     serving.map(|pair| candidate(workings, link_end, target, ranks, pair)).collect()
 }
 
+/// The classes of which a pair serves the target of a repair or route question; none
+/// where the question names a link or a prefix that is not there.
+pub fn serving_classes(workings: &Workings, question: &Question) -> BTreeSet<u32> {
+    let Some((link_end, target)) = asked_about(workings, question) else {
+        return BTreeSet::new();
+    };
+    let serving = serving(workings, &link_end, target, &ASCENDING);
+    serving.iter().map(|candidate| candidate.pair.class).collect()
+}
+
+/// The link, the end and the walks towards the target of a repair or route question,
+/// if there are such.
+pub fn asked_about<'a>(
+    workings: &'a Workings,
+    question: &Question,
+) -> Option<(LinkEnd, &'a Walks)> {
+    let link_end = |link, end| workings.network.link_end(&workings.ctx, link, end);
+    match *question {
+        Question::LinkRepair { link, end, .. } => {
+            let link_end = link_end(link, end)?;
+            Some((link_end, workings.to_router(link_end.e)))
+        }
+        Question::PrefixRepair { link, end, prefix, .. }
+        | Question::Route { link, end, prefix, .. } => {
+            Some((link_end(link, end)?, workings.to_prefix(prefix)))
+        }
+        _ => None,
+    }
+}
+
 /// Every pair (n, y).
 fn pairs(workings: &Workings, link_end: &LinkEnd) -> Vec<(usize, usize)> {
     let ctx = &workings.ctx;
@@ -123,8 +160,10 @@ fn serves(workings: &Workings, link_end: &LinkEnd, target: &Walks, n: usize, y: 
     if ctx.has(Fault::PrefixAvoidedBySums) {
         second_leg = avoids_by_sums(workings, link_end, target, y);
     }
+    let needs_node = ctx.has(Fault::OnlyNodeProtectingServe) && target.to_prefix();
     (first_leg || ctx.has(Fault::OnlySecondLegJudged))
         && (second_leg || ctx.has(Fault::OnlyFirstLegJudged))
+        && (!needs_node || class::node_protecting(workings, link_end, target, (n, y)))
 }
 
 /// What a fault takes for avoiding: the distance is below the sums over the link,
@@ -148,9 +187,12 @@ fn candidate(
     (n, y): (usize, usize),
 ) -> Candidate {
     let ctx = &workings.ctx;
-    let class = class(workings, link_end, target, n, y);
-    let rank = ranks::of_class(ctx, ranks, class);
-    let class = if ctx.has(Fault::RankToldAsClass) { rank } else { class };
+    let class = class::of_pair(workings, link_end, target, (n, y));
+    let mut rank = ranks::of_class(ctx, ranks, class);
+    if ctx.has(Fault::NodeBeforeRank) {
+        rank += class / class::NOT_PROTECTING * (1 + u32::from(u8::MAX));
+    }
+    let class = told_class(ctx, class, rank);
     let tunnel_cost = tunnel_cost(workings, link_end.s, n, y);
     let from_s = workings.distances.between(link_end.s, y);
     Candidate {
@@ -159,14 +201,15 @@ fn candidate(
     }
 }
 
-/// Class: 0 if y = n, 2 if not; plus 1 unless D(y,t) < D(S,t).
-fn class(workings: &Workings, link_end: &LinkEnd, target: &Walks, n: usize, y: usize) -> u32 {
-    let ctx = &workings.ctx;
-    let tunnel = if y == n || ctx.has(Fault::ClassWithoutTunnel) { 0 } else { 2 };
-    let from_y = target.remaining(y);
-    let from_s = target.remaining(link_end.s);
-    let nearer = from_y < from_s || (from_y == from_s && ctx.has(Fault::ClassNotStrict));
-    tunnel + u32::from(!nearer)
+/// The class that the answer tells: the pair's, unless with a fault.
+fn told_class(ctx: &Context, class: u32, rank: u32) -> u32 {
+    if ctx.has(Fault::RankToldAsClass) {
+        rank
+    } else if ctx.has(Fault::ClassToldModulo4) {
+        class % class::NOT_PROTECTING
+    } else {
+        class
+    }
 }
 
 /// The cost S to n, which is the link's, plus D(n,y).
@@ -247,7 +290,7 @@ fn wrong_search(workings: &Workings) -> Option<Repair> {
     if ctx.has(Fault::FourteenBeforeSearch) || ctx.has(Fault::FourteenAlways) {
         Some(Repair::None)
     } else if ctx.has(Fault::AlwaysSamePair) {
-        let ring_4 = Pair { first_hop: 3, endpoint: 2, class: 3, tunnel_cost: 2 };
+        let ring_4 = Pair { first_hop: 3, endpoint: 2, class: 7, tunnel_cost: 2 };
         Some(Repair::Pair(ring_4))
     } else {
         None

@@ -57,7 +57,7 @@ pub fn play(
     let left = |x: usize| ctx.has(Fault::TunnelPlayedToAttached) && to_prefix.delivers(x);
     let mut here = pair.first_hop;
     while here != pair.endpoint && !left(here) && route.len() <= most {
-        match choose(ctx, to_endpoint, here, &mut choices) {
+        match choose(ctx, to_endpoint, (here, link_end.e), &mut choices) {
             Some(Move::Step(hop)) => here = hop.to,
             _ => break,
         }
@@ -71,7 +71,7 @@ pub fn play(
         choices.next(ctx);
     }
     while route.len() <= most {
-        match choose(ctx, to_prefix, here, &mut choices) {
+        match choose(ctx, to_prefix, (here, link_end.e), &mut choices) {
             Some(Move::Step(hop)) => here = hop.to,
             _ => break,
         }
@@ -81,9 +81,17 @@ pub fn play(
 }
 
 /// The move that the next choice byte names: the byte modulo the number of
-/// options. None where there is no option.
-fn choose(ctx: &Context, walks: &Walks, here: usize, choices: &mut Choices) -> Option<Move> {
-    let options = options(ctx, walks, here);
+/// options. None where there is no option. With a fault E is no option among others.
+fn choose(
+    ctx: &Context,
+    walks: &Walks,
+    (here, e): (usize, usize),
+    choices: &mut Choices,
+) -> Option<Move> {
+    let mut options = options(ctx, walks, here);
+    if ctx.has(Fault::RouteMissesE) && options.len() > 1 {
+        options.retain(|option| !matches!(option, Move::Step(hop) if hop.to == e));
+    }
     if options.is_empty() || (options.len() == 1 && ctx.has(Fault::SingleOptionFree)) {
         return options.first().copied();
     }

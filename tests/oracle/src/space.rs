@@ -53,12 +53,14 @@ fn left_out(workings: &Workings, hop: &Hop) -> bool {
 pub fn members(workings: &Workings, space: Space, link_end: &LinkEnd) -> Vec<usize> {
     let ctx = &workings.ctx;
     let avoids = |x, t| workings.to_router(t).avoids(ctx, x, link_end);
+    let misses_e = |x, t| !workings.to_router(t).visits(x, link_end.e);
+    let reaches = |x, t| avoids(x, t) && (misses_e(x, t) || !ctx.has(Fault::SpacesMissE));
     let first_hops = first_hops_unless(Fault::ExtendedPOfEveryNeighbour, workings, link_end);
     let is_member = |r: &usize| match space {
-        Space::P => avoids(link_end.s, *r),
+        Space::P => reaches(link_end.s, *r),
         Space::ExtendedP => {
             let own = ctx.has(Fault::OwnPAdded) && avoids(link_end.s, *r);
-            own || first_hops.iter().any(|n| avoids(*n, *r))
+            own || first_hops.iter().any(|n| reaches(*n, *r))
         }
         Space::Q => avoids(*r, q_target(workings, link_end)),
     };

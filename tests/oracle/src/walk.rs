@@ -3,13 +3,14 @@
 //! The step rule of document 01 gives, at each router, the hops that a walk
 //! may take next; a walk ends at the first router that is attached to its
 //! target, and a router is attached to itself alone. Which hops the walks from a
-//! router may take at all is found by following every step from there. No sum of
-//! distances decides whether a walk crosses a link.
+//! router may take at all, and which routers they visit, is found by following every
+//! step from there. No sum of distances decides whether a walk crosses a link.
 
 use crate::distance::{Distances, UNREACHABLE, plus};
 use crate::fault::{Context, Fault};
 use crate::file::ATTACHMENTS;
 use crate::network::{Hop, Hops, LinkEnd, MAINTENANCE, Prefix};
+use crate::visit;
 
 /// What a walk goes towards.
 #[derive(Clone, Copy, Debug)]
@@ -44,6 +45,8 @@ pub struct Walks {
     tight: Vec<Vec<Hop>>,
     /// By start x and hop number: whether some walk from x takes the hop.
     taken: Vec<Vec<bool>>,
+    /// By start x and router: whether some walk from x visits the router.
+    visited: Vec<Vec<bool>>,
 }
 
 impl Walks {
@@ -67,8 +70,8 @@ impl Walks {
         if ctx.has(Fault::MaintenanceNotWalked) {
             tight.iter_mut().for_each(|tight| tight.retain(|hop| hop.cost != MAINTENANCE));
         }
-        let taken = Vec::new();
-        let walks = Walks { to_prefix, remaining, may_end, stops, tight, taken };
+        let (taken, visited) = (Vec::new(), Vec::new());
+        let walks = Walks { to_prefix, remaining, may_end, stops, tight, taken, visited };
         walks.searched(ctx, hops.numbers())
     }
 
@@ -82,10 +85,11 @@ impl Walks {
         walks.searched(ctx, hops.numbers())
     }
 
-    /// The walks with the hops that they take found.
+    /// The walks with the hops that they take and the routers that they visit found.
     fn searched(mut self, ctx: &Context, numbers: usize) -> Walks {
-        let starts = 0..self.stops.len();
-        self.taken = starts.map(|x| self.search(ctx, x, numbers)).collect();
+        let starts = 0..self.routers();
+        self.taken = starts.clone().map(|x| self.search(ctx, x, numbers)).collect();
+        self.visited = starts.map(|x| visit::from(ctx, &self, x)).collect();
         self
     }
 
@@ -93,7 +97,7 @@ impl Walks {
     /// that is met.
     fn search(&self, ctx: &Context, start: usize, numbers: usize) -> Vec<bool> {
         let mut taken = vec![false; numbers];
-        let mut seen = vec![false; self.stops.len()];
+        let mut seen = vec![false; self.routers()];
         let mut waiting = vec![start];
         seen[start] = true;
         let mut rounds = self.rounds(ctx);
@@ -123,8 +127,18 @@ impl Walks {
         }
     }
 
+    /// N, the number of routers.
+    pub(crate) fn routers(&self) -> usize {
+        self.stops.len()
+    }
+
+    /// Whether a walk at x ends there.
+    pub(crate) fn ends(&self, x: usize) -> bool {
+        self.may_end[x]
+    }
+
     /// The steps at x: none where a walk ends.
-    fn steps(&self, x: usize) -> &[Hop] {
+    pub(crate) fn steps(&self, x: usize) -> &[Hop] {
         if self.stops[x] { &[] } else { &self.tight[x] }
     }
 
@@ -136,6 +150,11 @@ impl Walks {
         }
         let count = if self.may_end[x] { 0 } else { steps.len().min(1) };
         &steps[..count]
+    }
+
+    /// Whether the target is a prefix.
+    pub fn to_prefix(&self) -> bool {
+        self.to_prefix
     }
 
     /// D(x, target).
@@ -164,6 +183,11 @@ impl Walks {
         self.taken.get(x).is_some_and(|taken| taken[hop_number])
     }
 
+    /// Whether some walk from x visits a router. The start and the end count.
+    pub fn visits(&self, x: usize, router: usize) -> bool {
+        self.visited.get(x).is_some_and(|visited| visited.get(router) == Some(&true))
+    }
+
     /// Avoiding: the target is reachable from x and no walk from x towards it
     /// crosses the link, either way.
     pub fn avoids(&self, ctx: &Context, x: usize, link_end: &LinkEnd) -> bool {
@@ -176,7 +200,7 @@ impl Walks {
     /// What a walk may do next at x: deliver, or step to one of the next routers,
     /// ascending. There is nothing to do where a walk towards a router ends.
     pub fn moves(&self, x: usize) -> Vec<Move> {
-        if x >= self.stops.len() {
+        if x >= self.routers() {
             return Vec::new();
         }
         let delivery = self.delivers(x).then_some(Move::Deliver);

@@ -81,6 +81,17 @@ fn every_network_of_the_cases() {
     assert!(texts.iter().any(|text| text.contains(" none none none none\n")));
 }
 
+/// The class is 4 to 7 in every line that has one: a link's own repair leads to its far
+/// router.
+#[test]
+fn every_class_is_from_4_to_7() {
+    let texts = compared(&cases().networks);
+    let class = |line: &str| line.split(' ').nth(6).map(str::to_string);
+    let fields = texts.iter().flat_map(|text| text.lines().skip(1)).filter_map(class);
+    let classes: BTreeSet<String> = fields.collect();
+    assert_eq!(classes, ["4", "5", "6", "7", "none"].map(str::to_string).into());
+}
+
 /// The ranks ascend: a plan by descending ones has another text where a link has
 /// pairs of several classes.
 #[test]
@@ -93,7 +104,7 @@ fn the_ranks_ascend() {
     for case in ranked {
         assert_eq!(printed(&case.file), expected(&case.file), "{}", case.name);
     }
-    assert!(printed(&write(&four_classes())).contains("\n0 0 0 1 2 2 0 3\n"));
+    assert!(printed(&write(&four_classes())).contains("\n0 0 0 1 2 2 4 3\n"));
 }
 
 #[test]
@@ -108,7 +119,7 @@ fn the_stored_texts() {
 #[test]
 fn every_example() {
     let texts = compared(&cases().examples);
-    assert!(texts.iter().any(|text| text.starts_with("plan 4 4 1\n0 0 0 1 3 2 3 2\n")));
+    assert!(texts.iter().any(|text| text.starts_with("plan 4 4 1\n0 0 0 1 3 2 7 2\n")));
 }
 
 #[test]

@@ -6,6 +6,7 @@ use mathlib.Core.Path.{_≡_, refl, sym, _∙_}
 use mathlib.Core.Bool.{true}
 use mathlib.Core.List.{List}
 use native.Mathlib.Omega.{arith}
+use lib.ListN.{length}
 use borrow.Author.Tests.{ltb-true, lt-ltb}
 use Rattle.lfa.specs.Network.{Arc, router}
 use Rattle.lfa.specs.Distance.{unreachable, towards}
@@ -16,10 +17,12 @@ use Rattle.lfa.specs.Laws.Set.{setOf-same}
 use Rattle.lfa.specs.Laws.Target.{towards-router}
 use Rattle.lfa.specs.Laws.Walk.{router-none-leaves}
 use Rattle.lfa.specs.Laws.Bound.{falls}
+use Rattle.lfa.specs.Laws.Visit.{misses, misses-sum}
 use Rattle.lfa.specs.Laws.Avoid.{avoids-gives, avoids-make, avoids-below, below-avoids}
 use Rattle.metric.specs.Area.{held}
-use Rattle.avoid.specs.Avoiding.{clears, clearsTo}
-use Rattle.avoid.specs.Calls.{Readable, avoidingTo, avoidingFrom}
+use Rattle.metric.specs.Laws.Fit.{cells-fit}
+use Rattle.avoid.specs.Avoiding.{clears, clearsTo, missesTo}
+use Rattle.avoid.specs.Calls.{Readable, avoidingTo, avoidingFrom, missingFrom}
 use Rattle.avoid.specs.Known.{Known}
 use Rattle.avoid.specs.Laws.Calls.{to-known, from-known}
 
@@ -72,3 +75,10 @@ module _ (n : ℕ) (hops : List Arc) (q : Protected) (area : List ℕ) (known : 
 
   pub avoiding-from : (x : ℕ) → x < n → avoidingFrom n q area area x ≡ setOf n (λ r. avoids n hops d (router r) (q .number) x)
   avoiding-from x i = from-known can-read can-read x i refl ∙ setOf-same n _ _ (λ r k. clearsTo-avoids x r i)
+
+  -- To these routers, and to no others that x reaches, every walk from x misses router v.
+  pub missing-from : (v x : ℕ) → v < n → x < n → missingFrom n v area x ≡ setOf n (λ r. misses n hops d (router r) v x)
+  unfolding missingFrom missesTo
+  missing-from v x hv hx =
+      rw (cells-fit n (length area) (known .sound .few) (known .long), lt-ltb v n hv, lt-ltb x n hx, missingFrom)
+      (setOf-same n _ _ (λ r k. sym (misses-sum n hops d (known .sound) (known .costs) v r x hx)))

@@ -23,9 +23,10 @@ use Rattle.lfa.specs.Laws.HasThis.{sound, least-costs, named, has-this, 
 use Rattle.lfa.specs.Laws.Replies.{computes, link-answer, link-has-link, link-meaning, prefix-has-link, prefix-meaning, Tells, prefix-tells, has-buffer, space-has-link, prefix-has-prefix, route-has-prefix, nothing-written, prefix-tells-same, pair-found, searched-first, played-named}
 use Rattle.lfa.specs.Laws.Options.{are-options}
 use Rattle.lfa.specs.Laws.Point1.{put-at-65535, point-1}
-use Rattle.lfa.specs.Laws.Ranks.{ascending-arranged}
+use Rattle.lfa.specs.Laws.Ranks.{eight-ranks}
 use Rattle.lfa.specs.Laws.Point2.{ranks-lent, point-2}
 use Rattle.lfa.specs.Laws.Point4.{point-4}
+use Rattle.lfa.specs.Laws.Point5.{point-5}
 use Rattle.lfa.specs.Laws.Point13.{point-13}
 use Rattle.lfa.specs.Laws.PosedWhen.{posed-when}
 
@@ -97,4 +98,4 @@ the-demand-3 q p = record {
 -- ---- the demands
 
 pub demands : Demands
-demands = record { demand-1 = the-demand-1; demand-2 = the-demand-2; demand-3 = the-demand-3; put-at-65535 = put-at-65535; point-1 = point-1; ranks-lent = ranks-lent; ascending-arranged = ascending-arranged; point-2 = λ q. point-2 q (the-demand-3 q); point-4 = λ q p. point-4 q p (the-demand-2 q p) (the-demand-3 q p); point-13 = point-13; posed-when = posed-when }
+demands = record { demand-1 = the-demand-1; demand-2 = the-demand-2; demand-3 = the-demand-3; put-at-65535 = put-at-65535; point-1 = point-1; ranks-lent = ranks-lent; eight-ranks = eight-ranks; point-2 = λ q. point-2 q (the-demand-3 q); point-4 = λ q p. point-4 q p (the-demand-2 q p) (the-demand-3 q p); point-5 = λ q p. point-5 q p (the-demand-2 q p); point-13 = point-13; posed-when = posed-when }

@@ -70,7 +70,7 @@ module _ (q : Question) (p : Posed q) (l : HasInput q aLink) (to : Target) where
   unfolding toldOf
   first-repair {t} f =
       let p′ = f .pair in
-      let tells : TellsOf q to p′ t = subst (TellsOf q to p′) (sym (f .told-is)) (told-tells (D q) (linkAsked q) to p′) in
+      let tells : TellsOf q to p′ t = subst (TellsOf q to p′) (sym (f .told-is)) (told-tells (N q) (Hops q) (D q) (linkAsked q) to p′ (sound q p) (f .is-pair)) in
       record {
         pair = p′;
         candidate = f .is-pair;
@@ -78,7 +78,7 @@ module _ (q : Question) (p : Posed q) (l : HasInput q aLink) (to : Target) where
         has-this = rw (tells .first-is, tells .endpoint-is) (has-this q p l to (p′ .hop .router) (p′ .endpoint) (sound q p .within .to (f .is-pair .first-hop .joined)) (f .is-pair .end-in) (f .serves));
         earliest = λ r other is told h.
             let s = serves-it q p l to (r .hop .router) (r .endpoint) (rw (told .first-is, told .endpoint-is) at h) in
-            rw (tells-told (D q) (linkAsked q) to r told) (f .earliest r is s);
+            rw (tells-told (N q) (Hops q) (D q) (linkAsked q) to r (sound q p) is told) (f .earliest r is s);
       }
 
   pub repaired : (o : Outcome) → SearchMeans (N q) (Hops q) (D q) (linkAsked q) (q .ranks) to o → Repaired q to (repairAnswer o)

@@ -15,7 +15,7 @@ use Rattle.lfa.specs.Network.{Link, link, Arc, arc, Target, router}
 use Rattle.lfa.specs.Distance.{unreachable, towards}
 use Rattle.lfa.specs.Walk.{avoids}
 use Rattle.lfa.specs.Space.{underMaintenance, Protected, protectedBy, protected, isFirst, hopOver, firstHops, FirstHop, Space, pSpace, extendedP, qSpace, inSpace, spaceOf, setOf}
-use Rattle.lfa.specs.Repair.{Pair, isEndpoint, pairsOf, pairs, serves, mayCross, classOf, toldOf, pairKey, choose, firstPair, Outcome, prefixUnreachable, prefixUntouched, noneServes, serving, outcomeOf, linkOutcome, prefixOutcome}
+use Rattle.lfa.specs.Repair.{Pair, isEndpoint, pairsOf, pairs, serves, mayCross, nodeProtects, baseClassOf, classOf, toldOf, pairKey, choose, firstPair, Outcome, prefixUnreachable, prefixUntouched, noneServes, serving, outcomeOf, linkOutcome, prefixOutcome}
 use Rattle.lfa.specs.Question.{Question, Call, load, fill, space, linkRepair, prefixRepair, route, withoutMaintenance, LooksAtFirstHops, Buffer, workArea, routeBuffer, lent, HasInput, networkAsked, linkAsked, prefixAsked, withDistances, linkFound, prefixFound, searched, ifNone}
 use Rattle.lfa.specs.Refusal.{Row, ofFile, early, noPair, Decided, returned, tries, allRows, rowsTried, refusalOf}
 use Rattle.lfa.specs.Answer.{Answer, set, refusal, routeFor, routePlayed, routeAnswer, repairAnswer, computed, answerTo, writtenTo, exitBy, exitOf}
@@ -70,16 +70,16 @@ module _ (ranks : List ℕ) (n : ℕ) (hops : List Arc) (d : ℕ → ℕ → ℕ
   pairs-same = ap (λ (fs : List FirstHop). flat (map (pairsOf q n) fs)) same
 
   first-same : (to : Target) → firstPair ranks n hops d q to ≡ firstPair ranks n hops d (unlimited q) to
-  unfolding firstPair serves pairKey toldOf classOf unlimited
-  first-same to = ap (λ (ps : List _). choose (pairKey ranks d q to) (select (serves n hops d q to) ps)) pairs-same
+  unfolding firstPair serves pairKey toldOf classOf baseClassOf nodeProtects unlimited
+  first-same to = ap (λ (ps : List _). choose (pairKey ranks n hops d q to) (select (serves n hops d q to) ps)) pairs-same
 
-  outcome-same : (to : Target) (o : Option Pair) → outcomeOf d q to o ≡ outcomeOf d (unlimited q) to o
-  unfolding outcomeOf toldOf classOf unlimited
+  outcome-same : (to : Target) (o : Option Pair) → outcomeOf n hops d q to o ≡ outcomeOf n hops d (unlimited q) to o
+  unfolding outcomeOf toldOf classOf baseClassOf nodeProtects unlimited
   outcome-same to none = refl
   outcome-same to (some p) = refl
 
-  search-same : (to : Target) → outcomeOf d q to (firstPair ranks n hops d q to) ≡ outcomeOf d (unlimited q) to (firstPair ranks n hops d (unlimited q) to)
-  search-same to = outcome-same to (firstPair ranks n hops d q to) ∙ ap (outcomeOf d (unlimited q) to) (first-same to)
+  search-same : (to : Target) → outcomeOf n hops d q to (firstPair ranks n hops d q to) ≡ outcomeOf n hops d (unlimited q) to (firstPair ranks n hops d (unlimited q) to)
+  search-same to = outcome-same to (firstPair ranks n hops d q to) ∙ ap (outcomeOf n hops d (unlimited q) to) (first-same to)
 
   link-same : linkOutcome ranks n hops d q ≡ linkOutcome ranks n hops d (unlimited q)
   unfolding linkOutcome unlimited

@@ -6,12 +6,12 @@ use mathlib.Core.Logic.{_⊎_, inl, inr}
 use mathlib.Core.List.{List}
 use lib.ListN.{getD}
 use Rattle.lfa.specs.Network.{Target}
-use Rattle.lfa.specs.Repair.{Pair, HasClass, Told, Keys, keysAt, key}
+use Rattle.lfa.specs.Repair.{HasClass, Told, Keys, keysAt, key}
 use Rattle.lfa.specs.Question.{Question, linkAsked}
 use Rattle.lfa.specs.Answer.{Answer, refused, repair}
-use Rattle.lfa.specs.Demands.{D, IsFirst, RepairedBy}
+use Rattle.lfa.specs.Demands.{Hops, D, IsFirst, RepairedBy}
 use Rattle.lfa.specs.Laws.Order.{first-both}
-use Rattle.lfa.specs.Laws.Repair.{class-once}
+use Rattle.lfa.specs.Laws.Class.{class-once}
 
 module _ (q : Question) (rank : Told → ℕ) (has : ℕ → ℕ → Type 0) (to : Target) where
   abbrev ranked : Told → Keys
@@ -26,10 +26,9 @@ module _ (q : Question) (rank : Told → ℕ) (has : ℕ → ℕ → Type 0) (to
       let firsts : t .first ≡ u .first = ap (λ (l : List ℕ). getD l 4 0) e in
       let endpoints : t .endpoint ≡ u .endpoint = ap (λ (l : List ℕ). getD l 2 0) e in
       let costs : t .cost ≡ u .cost = ap (λ (l : List ℕ). getD l 3 0) e in
-      let class-t : HasClass (D q) (linkAsked q) to (t .first) (t .endpoint) (t .class) = rw (f .tells .first-is, f .tells .endpoint-is) (f .tells .class-is) in
-      let class-u : HasClass (D q) (linkAsked q) to (t .first) (t .endpoint) (u .class) = rw (firsts, endpoints, g .tells .first-is, g .tells .endpoint-is) (g .tells .class-is) in
-      let pair : Pair = record { hop = record { router = t .first; cost = 0; over = 0 }; endpoint = t .endpoint } in
-      let classes : t .class ≡ u .class = class-once pair class-t ∙ sym (class-once pair class-u) in
+      let class-t : HasClass (Hops q) (D q) (linkAsked q) to (t .first) (t .endpoint) (t .class) = rw (f .tells .first-is, f .tells .endpoint-is) (f .tells .class-is) in
+      let class-u : HasClass (Hops q) (D q) (linkAsked q) to (t .first) (t .endpoint) (u .class) = rw (firsts, endpoints, g .tells .first-is, g .tells .endpoint-is) (g .tells .class-is) in
+      let classes : t .class ≡ u .class = class-once class-t class-u in
       let same : record { first = t .first; endpoint = t .endpoint; class = t .class; cost = t .cost } ≡ u = rw (firsts, endpoints, classes, costs) in
       same
 

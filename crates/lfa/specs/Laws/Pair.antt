@@ -99,13 +99,13 @@ module _ (n : ℕ) (hops : List Arc) (d : ℕ → ℕ → ℕ) (q : Protected) (
     Best none = (p : Pair) → IsPair n hops q p → ServesBy p → ⊥
     Best (some b) =
         IsPair n hops q b × ServesBy b ×
-        ((p : Pair) → IsPair n hops q p → ServesBy p → First (keysOf ranks d q (toldOf d q to b)) (keysOf ranks d q (toldOf d q to p)))
+        ((p : Pair) → IsPair n hops q p → ServesBy p → First (keysOf ranks d q (toldOf n hops d q to b)) (keysOf ranks d q (toldOf n hops d q to p)))
 
     -- The pair chosen is the best: the list searched holds each serving pair and nothing else, and the choice from a list is first
     -- by the keys, which agree with the clauses.
     pub best : Best (firstPair ranks n hops d q to)
     unfolding firstPair pairKey
-    best = go (choose (pairKey ranks d q to) serving) (chosen (pairKey ranks d q to) serving)
+    best = go (choose (pairKey ranks n hops d q to) serving) (chosen (pairKey ranks n hops d q to) serving)
       where
         serving : List Pair
         serving = select (serves n hops d q to) (pairs q n hops)
@@ -113,12 +113,12 @@ module _ (n : ℕ) (hops : List Arc) (d : ℕ → ℕ → ℕ) (q : Protected) (
         listed : (p : Pair) → IsPair n hops q p → ServesBy p → List·Memᴰ p serving
         listed p is s = select-make (serves n hops d q to) (pairs-make q n hops p is) (serves-make p s)
 
-        go : (o : Option Pair) → Chosen (pairKey ranks d q to) serving o → Best o
+        go : (o : Option Pair) → Chosen (pairKey ranks n hops d q to) serving o → Best o
         go none f = λ p is s. f p (listed p is s)
         go (some b) f =
             let g = select-gives (serves n hops d q to) (pairs q n hops) (f .0) in
             let is = pairs-give q n hops b (g .0) in (
               is,
               serves-gives b (sound .within .to (is .first-hop .joined)) (is .end-in) (g .1),
-              λ p is′ s. key-first (keysOf ranks d q (toldOf d q to b)) (keysOf ranks d q (toldOf d q to p)) (f .1 p (listed p is′ s)),
+              λ p is′ s. key-first (keysOf ranks d q (toldOf n hops d q to b)) (keysOf ranks d q (toldOf n hops d q to p)) (f .1 p (listed p is′ s)),
             )

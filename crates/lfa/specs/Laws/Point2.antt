@@ -15,7 +15,7 @@ use Rattle.lfa.specs.Refusal.{badLength, badCheck, badHead, badBlockCoun
 use Rattle.lfa.specs.Answer.{Answer, refused, refusal, computed, answerTo, writtenTo, leave, exitBy, exitOf}
 use Rattle.lfa.specs.Demands.{D, HasThis, keysByClass, keys, IsFirst, IsRepair, TellsOf, RepairedBy, Repaired, Demand3By, Demand3, SameReply, RanksLent, SameKind, one-answer, Point2}
 use Rattle.lfa.specs.Laws.Ranks.{arrangement-make, ascending-rank}
-use Rattle.lfa.specs.Laws.Repair.{class-few}
+use Rattle.lfa.specs.Laws.Class.{class-few}
 use Rattle.lfa.specs.Laws.OnlyOne.{only-one}
 use Rattle.lfa.specs.Laws.Rows.{same-decides}
 use Rattle.lfa.specs.Laws.Answers.{refusal-stated, row-leaves}
@@ -117,7 +117,7 @@ module _ (q : Question) (e : q .ranks ≡ ascending) where
   keys-same {t = t} tells =
       ap (λ (r : ℕ). keysAt r (D q) (linkAsked q) t) (ap (λ (l : List ℕ). rankOf l (t .class)) e ∙ ascending-rank (t .class) (class-few (tells .class-is)))
 
-  first-by-class : {to : Target} {t : Told} → IsRepair q to t → IsFirst q (keysByClass q) (HasThis q to) to t
+  pub first-by-class : {to : Target} {t : Told} → IsRepair q to t → IsFirst q (keysByClass q) (HasThis q to) to t
   first-by-class f = record {
     pair = f .pair;
     candidate = f .candidate;

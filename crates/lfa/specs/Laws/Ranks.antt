@@ -11,6 +11,7 @@ use lib.ListN.{length}
 use borrow.Author.Tests.{eqb-true, eq-eqb}
 use Rattle.lfa.specs.Lists.{everyBelow, count, HowMany}
 use Rattle.lfa.specs.Ranks.{classes, rankOf, Arrangement, ascending, timesGiven, isArrangement}
+use Rattle.lfa.specs.Demands.{EightRanks}
 use Rattle.lfa.specs.Laws.Test.{and-left, and-right, and-make, fails-make}
 use Rattle.lfa.specs.Laws.List.{every-gives, every-make}
 use Rattle.lfa.specs.Laws.Counting.{counted-holds, holds-once}
@@ -23,12 +24,12 @@ module _ (ranks : List ℕ) where
   pub arrangement-gives : isArrangement ranks ≡ true → Arrangement ranks
   unfolding isArrangement
   arrangement-gives e =
-      let four : length ranks ≡ classes = eqb-true _ _ (and-left _ _ e) in
+      let whole : length ranks ≡ classes = eqb-true _ _ (and-left _ _ e) in
       record {
-        for-each-class = four;
+        for-each-class = whole;
         once-each = λ k h.
             let once : timesGiven ranks k ≡ 1 = eqb-true _ _ (every-gives (λ k. eqb (timesGiven ranks k) 1) classes (and-right (eqb (length ranks) classes) _ e) k h) in
-            rw (four, once) at (given k);
+            rw (whole, once) at (given k);
       }
 
   pub arrangement-make : Arrangement ranks → isArrangement ranks ≡ true
@@ -46,8 +47,16 @@ ascending-rank zero h = refl
 ascending-rank (suc zero) h = refl
 ascending-rank (suc (suc zero)) h = refl
 ascending-rank (suc (suc (suc zero))) h = refl
-ascending-rank (suc (suc (suc (suc class)))) h = absurd (omega (arith, h))
+ascending-rank (suc (suc (suc (suc zero)))) h = refl
+ascending-rank (suc (suc (suc (suc (suc zero))))) h = refl
+ascending-rank (suc (suc (suc (suc (suc (suc zero)))))) h = refl
+ascending-rank (suc (suc (suc (suc (suc (suc (suc zero))))))) h = refl
+ascending-rank (suc (suc (suc (suc (suc (suc (suc (suc class)))))))) h = absurd (omega (arith, h))
 
-pub ascending-arranged : Arrangement ascending
+pub eight-ranks : EightRanks
 unfolding isArrangement timesGiven everyBelow count
-ascending-arranged = arrangement-gives ascending refl
+eight-ranks = record {
+  once-each = λ ranks. (λ a. (a .for-each-class, λ k h. a .once-each k (omega arith)), λ p. record { for-each-class = p .0; once-each = λ k h. p .1 k (omega arith) });
+  ascending-is = λ class h. ascending-rank class (omega arith);
+  ascending-arranged = arrangement-gives ascending refl;
+}

@@ -1,69 +1,47 @@
 -- What a link repair and a prefix repair find, over any sound network.
 -- Assumes nothing.
-use Prim.Native.Nat.{ℕ, _+_, _≤_, _<_}
+use Prim.Native.Nat.{ℕ, _≤_, _<_}
 use mathlib.Core.Path.{_≡_, refl, sym, _∙_, subst}
 use mathlib.Core.Logic.{_⊎_, inl, inr, _↔_}
 use mathlib.Core.Bool.{Bool, true, false, true≢false}
 use mathlib.Core.Option.{Option, none, some}
 use mathlib.Core.List.{List}
 use native.Mathlib.Omega.{arith}
-use lib.Dec.{eqb, ltb}
-use borrow.Author.Tests.{ltb-true, ltb-false, lt-ltb, le-ltb, eqb-true, eqb-false, eq-eqb, ne-eqb}
+use lib.Dec.{ltb}
+use borrow.Author.Tests.{ltb-true, ltb-false}
 use Rattle.lfa.specs.Network.{Arc, arc, Target, router}
 use Rattle.lfa.specs.Distance.{unreachable, towards}
 use Rattle.lfa.specs.Walk.{Step, here, hop, isStep}
 use Rattle.lfa.specs.Space.{Protected}
-use Rattle.lfa.specs.Ranks.{classes}
-use Rattle.lfa.specs.Repair.{Pair, IsPair, Serves, MayCross, mayCross, HasClass, neighbour-downstream, neighbour-other, tunnel-downstream, tunnel-other, orElse, classOf, Told, Tells, toldOf, keysOf, First, firstPair, Outcome, prefixUnreachable, prefixUntouched, noneServes, serving, outcomeOf, linkOutcome, prefixOutcome}
+use Rattle.lfa.specs.Repair.{Pair, IsPair, Serves, MayCross, mayCross, HasClass, classOf, Told, Tells, toldOf, keysOf, First, firstPair, Outcome, prefixUnreachable, prefixUntouched, noneServes, serving, outcomeOf, linkOutcome, prefixOutcome}
 use Rattle.lfa.specs.Laws.Test.{same-test}
 use Rattle.lfa.specs.Laws.Target.{towards-most}
 use Rattle.lfa.specs.Laws.Arrive.{never-twice}
 use Rattle.lfa.specs.Laws.Bound.{Sound, falls}
 use Rattle.lfa.specs.Laws.Avoid.{step-gives, step-make, Named, crosses-gives, crosses-make}
+use Rattle.lfa.specs.Laws.Class.{class-has, class-once}
 use Rattle.lfa.specs.Laws.Pair.{Best, best}
 
--- the computed class is the pair's class
-pub class-has : (d : ℕ → ℕ → ℕ) (q : Protected) (to : Target) (p : Pair) → HasClass d q to (p .hop .router) (p .endpoint) (classOf d q to p)
-unfolding classOf orElse
-class-has d q to p = go (p .hop .router) (p .endpoint) (eqb (p .endpoint) (p .hop .router)) refl (ltb (towards d to (p .endpoint)) (towards d to (q .near))) refl
-  where
-    go : (n y : ℕ) (a : Bool) → eqb y n ≡ a → (b : Bool) → ltb (towards d to y) (towards d to (q .near)) ≡ b → HasClass d q to n y (orElse a 2 + orElse b 1)
-    go n y true e true f = neighbour-downstream (eqb-true y n e) (ltb-true _ _ f)
-    go n y true e false f = neighbour-other (eqb-true y n e) (ltb-false _ _ f)
-    go n y false e true f = tunnel-downstream (eqb-false y n e) (ltb-true _ _ f)
-    go n y false e false f = tunnel-other (eqb-false y n e) (ltb-false _ _ f)
-
--- and it is the only one
-pub class-once : {d : ℕ → ℕ → ℕ} {q : Protected} {to : Target} (p : Pair) {k : ℕ} → HasClass d q to (p .hop .router) (p .endpoint) k → k ≡ classOf d q to p
-unfolding classOf orElse
-class-once p (neighbour-downstream e h) = rw (eq-eqb _ _ e, lt-ltb _ _ h)
-class-once p (neighbour-other e h) = rw (eq-eqb _ _ e, le-ltb _ _ h)
-class-once p (tunnel-downstream e h) = rw (ne-eqb _ _ e, lt-ltb _ _ h)
-class-once p (tunnel-other e h) = rw (ne-eqb _ _ e, le-ltb _ _ h)
-
--- there are four classes
-pub class-few : {d : ℕ → ℕ → ℕ} {q : Protected} {to : Target} {n y k : ℕ} → HasClass d q to n y k → k < classes
-class-few (neighbour-downstream e h) = omega arith
-class-few (neighbour-other e h) = omega arith
-class-few (tunnel-downstream e h) = omega arith
-class-few (tunnel-other e h) = omega arith
-
 -- What is computed of a pair is what a repair tells of it, and nothing else is.
-module _ (d : ℕ → ℕ → ℕ) (q : Protected) (to : Target) (p : Pair) where
-  pub told-tells : Tells d q to p (toldOf d q to p)
-  unfolding toldOf
-  told-tells = record { first-is = refl; endpoint-is = refl; class-is = class-has d q to p; cost-is = refl }
-
+module _ (n : ℕ) (hops : List Arc) (d : ℕ → ℕ → ℕ) (q : Protected) (to : Target) (p : Pair) where
   -- what holds of the pair's routers holds of those that are told
-  pub told-routers : {t : Told} → t ≡ toldOf d q to p → (P : ℕ → ℕ → Type 0) → P (p .hop .router) (p .endpoint) → P (t .first) (t .endpoint)
+  pub told-routers : {t : Told} → t ≡ toldOf n hops d q to p → (P : ℕ → ℕ → Type 0) → P (p .hop .router) (p .endpoint) → P (t .first) (t .endpoint)
   unfolding toldOf
   told-routers e P h = subst (λ (s : Told). P (s .first) (s .endpoint)) (sym e) h
 
-  pub tells-told : {t : Told} → Tells d q to p t → t ≡ toldOf d q to p
-  unfolding toldOf
-  tells-told {t} s =
-      let e : record { first = t .first; endpoint = t .endpoint; class = t .class; cost = t .cost } ≡ toldOf d q to p = rw (s .first-is, s .endpoint-is, class-once p (s .class-is), s .cost-is) in
-      e
+  module _ (sound : Sound n hops) (is : IsPair n hops q p) where
+    own-class : HasClass hops d q to (p .hop .router) (p .endpoint) (classOf n hops d q to p)
+    own-class = class-has n hops d q to p sound (sound .within .to (is .first-hop .joined)) (is .end-in)
+
+    pub told-tells : Tells hops d q to p (toldOf n hops d q to p)
+    unfolding toldOf
+    told-tells = record { first-is = refl; endpoint-is = refl; class-is = own-class; cost-is = refl }
+
+    pub tells-told : {t : Told} → Tells hops d q to p t → t ≡ toldOf n hops d q to p
+    unfolding toldOf
+    tells-told {t} s =
+        let e : record { first = t .first; endpoint = t .endpoint; class = t .class; cost = t .cost } ≡ toldOf n hops d q to p = rw (s .first-is, s .endpoint-is, class-once (s .class-is) own-class, s .cost-is) in
+        e
 
 module _ (n : ℕ) (hops : List Arc) (d : ℕ → ℕ → ℕ) (q : Protected) where
   -- no pair serves
@@ -75,8 +53,8 @@ module _ (n : ℕ) (hops : List Arc) (d : ℕ → ℕ → ℕ) (q : Protected) w
     pub pair : Pair
     pub is-pair : IsPair n hops q pair
     pub serves : Serves hops d q to (pair .hop .router) (pair .endpoint)
-    pub earliest : (p : Pair) → IsPair n hops q p → Serves hops d q to (p .hop .router) (p .endpoint) → First (keysOf ranks d q t) (keysOf ranks d q (toldOf d q to p))
-    pub told-is : t ≡ toldOf d q to pair
+    pub earliest : (p : Pair) → IsPair n hops q p → Serves hops d q to (p .hop .router) (p .endpoint) → First (keysOf ranks d q t) (keysOf ranks d q (toldOf n hops d q to p))
+    pub told-is : t ≡ toldOf n hops d q to pair
 
   -- what a search for a pair means
   abbrev pub SearchMeans : (ranks : List ℕ) → Target → Outcome → Type 0
@@ -94,11 +72,11 @@ module _ (n : ℕ) (hops : List Arc) (d : ℕ → ℕ → ℕ) (q : Protected) w
 
 module _ (n : ℕ) (hops : List Arc) (d : ℕ → ℕ → ℕ) (q : Protected) (sound : Sound n hops) (named : Named hops q) where
   -- the outcome of the search is what was chosen
-  pub search-means : (ranks : List ℕ) (to : Target) → SearchMeans n hops d q ranks to (outcomeOf d q to (firstPair ranks n hops d q to))
+  pub search-means : (ranks : List ℕ) (to : Target) → SearchMeans n hops d q ranks to (outcomeOf n hops d q to (firstPair ranks n hops d q to))
   unfolding outcomeOf
   search-means ranks to = go (firstPair ranks n hops d q to) (best n hops d q to sound ranks)
     where
-      go : (o : Option Pair) → Best n hops d q to sound ranks o → SearchMeans n hops d q ranks to (outcomeOf d q to o)
+      go : (o : Option Pair) → Best n hops d q to sound ranks o → SearchMeans n hops d q ranks to (outcomeOf n hops d q to o)
       go none f = f
       go (some p) f = record { pair = p; is-pair = f .0; serves = f .1; earliest = f .2; told-is = refl }
 
@@ -139,7 +117,7 @@ module _ (n : ℕ) (hops : List Arc) (d : ℕ → ℕ → ℕ) (q : Protected) (
   prefix-means ranks to = reach (ltb (towards d to (q .near)) unreachable) refl
     where
       searched : Outcome
-      searched = outcomeOf d q to (firstPair ranks n hops d q to)
+      searched = outcomeOf n hops d q to (firstPair ranks n hops d q to)
 
       crossing : (b : Bool) → Outcome
       crossing b = elim b [ false ↦ prefixUntouched | true ↦ searched ]

@@ -161,7 +161,7 @@ module _ (q : Question) (p : Posed q) (c : q .call ≡ route) where
 
     -- its two legs avoid the link, and its routers are routers
     of-told : (P : ℕ → ℕ → Type 0) → P (searched-first .pair .hop .router) (searched-first .pair .endpoint) → P (t .first) (t .endpoint)
-    of-told = told-routers (D q) (linkAsked q) (prefixAsked q) (searched-first .pair) (searched-first .told-is)
+    of-told = told-routers (N q) (Hops q) (D q) (linkAsked q) (prefixAsked q) (searched-first .pair) (searched-first .told-is)
 
     pub told-first-in : t .first < N q
     told-first-in = of-told (λ n y. n < N q) (sound q p .within .to (searched-first .is-pair .first-hop .joined))

@@ -25,19 +25,19 @@ pub data SameFound : Outcome → Outcome → Type 0 where
   one-outcome : {a b : Outcome} → a ≡ b → SameFound a b
   two-pairs : {t u : Told} → SameFound (serving t) (serving u)
 
-module _ (d : ℕ → ℕ → ℕ) (q : Protected) (to : Target) where
+module _ (n : ℕ) (hops : List Arc) (d : ℕ → ℕ → ℕ) (q : Protected) (to : Target) where
   -- one of two pairs is chosen, whichever it is
-  either-serves : (p : Pair) (o : Option Pair) (k : Pair → List ℕ) → (t : Told) × (outcomeOf d q to (earlier k p o) ≡ serving t)
+  either-serves : (p : Pair) (o : Option Pair) (k : Pair → List ℕ) → (t : Told) × (outcomeOf n hops d q to (earlier k p o) ≡ serving t)
   unfolding earlier outcomeOf
   either-serves p none k = (_, refl)
   either-serves p (some r) k = go (noLater (k p) (k r))
     where
-      go : (b : Bool) → (t : Told) × (outcomeOf d q to (elim b as (λ _. Option Pair) [ true ↦ some p | false ↦ some r ]) ≡ serving t)
+      go : (b : Bool) → (t : Told) × (outcomeOf n hops d q to (elim b as (λ _. Option Pair) [ true ↦ some p | false ↦ some r ]) ≡ serving t)
       go true = (_, refl)
       go false = (_, refl)
 
   -- a pair is chosen from every list but the empty one, whatever the order
-  chosen-alike : (k m : Pair → List ℕ) (ps : List Pair) → SameFound (outcomeOf d q to (choose k ps)) (outcomeOf d q to (choose m ps))
+  chosen-alike : (k m : Pair → List ℕ) (ps : List Pair) → SameFound (outcomeOf n hops d q to (choose k ps)) (outcomeOf n hops d q to (choose m ps))
   unfolding choose
   chosen-alike k m [] = one-outcome refl
   chosen-alike k m (p ∷ ps) =
@@ -46,9 +46,9 @@ module _ (d : ℕ → ℕ → ℕ) (q : Protected) (to : Target) where
       rw (a .1, b .1) two-pairs
 
 module _ (ranks others : List ℕ) (n : ℕ) (hops : List Arc) (d : ℕ → ℕ → ℕ) (q : Protected) where
-  searched-alike : (to : Target) → SameFound (outcomeOf d q to (firstPair ranks n hops d q to)) (outcomeOf d q to (firstPair others n hops d q to))
+  searched-alike : (to : Target) → SameFound (outcomeOf n hops d q to (firstPair ranks n hops d q to)) (outcomeOf n hops d q to (firstPair others n hops d q to))
   unfolding firstPair
-  searched-alike to = chosen-alike d q to (pairKey ranks d q to) (pairKey others d q to) (select (serves n hops d q to) (pairs q n hops))
+  searched-alike to = chosen-alike n hops d q to (pairKey ranks n hops d q to) (pairKey others n hops d q to) (select (serves n hops d q to) (pairs q n hops))
 
   link-alike : SameFound (linkOutcome ranks n hops d q) (linkOutcome others n hops d q)
   unfolding linkOutcome
@@ -61,7 +61,7 @@ module _ (ranks others : List ℕ) (n : ℕ) (hops : List Arc) (d : ℕ → ℕ 
       outcome : Bool → Bool → Outcome → Outcome
       outcome a b o = elim a [ false ↦ prefixUnreachable | true ↦ elim b [ false ↦ prefixUntouched | true ↦ o ] ]
 
-      go : (a b : Bool) → SameFound (outcome a b (outcomeOf d q to (firstPair ranks n hops d q to))) (outcome a b (outcomeOf d q to (firstPair others n hops d q to)))
+      go : (a b : Bool) → SameFound (outcome a b (outcomeOf n hops d q to (firstPair ranks n hops d q to))) (outcome a b (outcomeOf n hops d q to (firstPair others n hops d q to)))
       go false b = one-outcome refl
       go true false = one-outcome refl
       go true true = searched-alike to

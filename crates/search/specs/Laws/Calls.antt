@@ -1,6 +1,6 @@
 -- The answers of the public functions, where the area holds the distances of the network: they are document 01's.
 -- Assumes nothing.
-use Prim.Native.Nat.{ℕ, _*_, _≤_, _<_}
+use Prim.Native.Nat.{ℕ, _*_, _<_}
 use mathlib.Core.Path.{_≡_, refl, sym, _∙_}
 use mathlib.Core.Bool.{true}
 use mathlib.Core.List.{List}
@@ -11,6 +11,7 @@ use Rattle.lfa.specs.Network.{router}
 use Rattle.lfa.specs.Space.{Space, spaceOf}
 use Rattle.lfa.specs.Repair.{linkOutcome, prefixOutcome}
 use Rattle.lfa.specs.Laws.Test.{and-make}
+use Rattle.lfa.specs.Laws.Bound.{falls}
 use Rattle.lfa.specs.Laws.Repair.{may-test}
 use Rattle.network_file.specs.declared.network.Network.{Network}
 use Rattle.metric.specs.Area.{held}
@@ -21,9 +22,9 @@ use Rattle.avoid.specs.Known.{Known}
 use Rattle.avoid.specs.Laws.Calls.{passes}
 use Rattle.avoid.specs.Laws.Known.{can-read}
 use Rattle.steps.specs.Laws.Next.{RightEnds}
-use Rattle.steps.specs.Laws.Crossing.{over-known, by-steps-known}
+use Rattle.steps.specs.Laws.Crossing as by-steps
 use Rattle.search.specs.Calls.{searchable, spaceIf, linkFor, linkIf, prefixIf, hopsOf, protectedOf, searches, endsTo, spaceBy, linkBy, prefixBy}
-use Rattle.search.specs.Laws.Known.{far-in, avoiding-known, space-known}
+use Rattle.search.specs.Laws.Known.{far-in, avoiding-known, space-known, none-misses, set-misses}
 use Rattle.search.specs.Laws.Pairs.{pair-known, prefix-known}
 
 -- the columns hold a network and the area its distances, and an end of one of its links is named
@@ -54,7 +55,8 @@ module _ {network : Network} {l e : ℕ} {area : List ℕ} (a : Asking network l
       let q = protectedOf network l e in
       let known = a .known in
       let to-far = column.router-known n area (known .sound .few) (known .long) (q .far) (far-in n (hopsOf network) q area known) refl in
-      rw (searched, linkIf) (pair-known ranks n (hopsOf network) q area known (router (q .far)) _ to-far _ (avoiding-known n (hopsOf network) q area known (q .far) _ to-far))
+      rw (searched, linkIf)
+      (pair-known ranks n (hopsOf network) q area known (router (q .far)) _ to-far _ (avoiding-known n (hopsOf network) q area known (q .far) _ to-far) (none-misses n (hopsOf network) q area known))
 
   pub prefix-found : (ranks : List ℕ) (x : ℕ) → x < 128 → SlotsWithin n (8 * x) (getD (network .attached) x 0) (network .at) →
       prefixBy network ranks l e x area ≡ prefixOutcome ranks n (hopsOf network) d (protectedOf network l e) (slotsIn (network .at) (network .own) (8 * x) (getD (network .attached) x 0))
@@ -65,6 +67,7 @@ module _ {network : Network} {l e : ℕ} {area : List ℕ} (a : Asking network l
       let target = slotsIn (network .at) (network .own) (8 * x) (getD (network .attached) x 0) in
       let to-prefix = column.prefix-known n area (known .sound .few) (known .long) (network .at) (network .own) (8 * x) (getD (network .attached) x 0) slots refl in
       let ends : RightEnds n target (endsTo network x) = record { at = λ y h. column.attached-known (network .own) (known .sound .few) slots h } in
-      let avoiding = by-steps-known (a .within) (network .out) (network .back) d target (endsTo network x) ends _ to-prefix q (known .named) in
-      let crosses = over-known (a .within) (network .out) (network .back) d target (endsTo network x) ends _ to-prefix q (known .named) ∙ sym (may-test n (hopsOf network) d q (known .sound) (known .named) target) in
-      rw (searched, lt-ltb x 128 x-in, prefixIf) (prefix-known ranks n (hopsOf network) q area known target _ to-prefix _ avoiding (endsTo network x) crosses)
+      let avoiding = by-steps.avoiding-known (a .within) (network .out) (network .back) d target (endsTo network x) ends _ to-prefix q (known .named) in
+      let missing = by-steps.missing-known (a .within) (network .out) (network .back) d target (endsTo network x) ends _ to-prefix q (known .named) (falls (known .sound) d target .1) in
+      let crosses = by-steps.over-known (a .within) (network .out) (network .back) d target (endsTo network x) ends _ to-prefix q (known .named) ∙ sym (may-test n (hopsOf network) d q (known .sound) (known .named) target) in
+      rw (searched, lt-ltb x 128 x-in, prefixIf) (prefix-known ranks n (hopsOf network) q area known target _ to-prefix _ avoiding (set-misses n (hopsOf network) d target (q .far) _ missing) (endsTo network x) crosses)

@@ -5,7 +5,7 @@ use mathlib.Core.Path.{_≡_, refl, sym, ap, _∙_}
 use mathlib.Core.Bool.{Bool, true, false, true≢false}
 use mathlib.Core.Option.{Option, none, some}
 use mathlib.Core.List.{List, [], _∷_, map}
-use Rattle.lfa.specs.Network.{Target}
+use Rattle.lfa.specs.Network.{Arc, Target}
 use Rattle.lfa.specs.Space.{Protected}
 use Rattle.lfa.specs.Ranks.{rankOf}
 use Rattle.lfa.specs.Repair.{Pair, classOf, toldOf, key, pairKey, noLater, earlier, choose, outcomeOf}
@@ -67,20 +67,20 @@ unfolding firstOf earlierOf firstFrom
 first-from [] = refl
 first-from (k ∷ l) = first-front k l
 
-module _ (ranks : List ℕ) (d : ℕ → ℕ → ℕ) (q : Protected) (target : Target) where
+module _ (ranks : List ℕ) (n : ℕ) (hops : List Arc) (d : ℕ → ℕ → ℕ) (q : Protected) (target : Target) where
   -- a pair of the definitions, as the code holds it
   unfoldable pub orderedFor : Pair → Ordered
   orderedFor p = record {
-    rank = rankOf ranks (classOf d q target p);
+    rank = rankOf ranks (classOf n hops d q target p);
     distance = d (q .near) (p .endpoint);
-    pair = record { first = p .hop .router; endpoint = p .endpoint; class = classOf d q target p; cost = p .hop .cost + d (p .hop .router) (p .endpoint) };
+    pair = record { first = p .hop .router; endpoint = p .endpoint; class = classOf n hops d q target p; cost = p .hop .cost + d (p .hop .router) (p .endpoint) };
   }
 
   found : Option Pair → Option Ordered
   found none = none
   found (some p) = some (orderedFor p)
 
-  earlier-found : (p : Pair) (o : Option Pair) → found (earlier (pairKey ranks d q target) p o) ≡ front (orderedFor p) (found o)
+  earlier-found : (p : Pair) (o : Option Pair) → found (earlier (pairKey ranks n hops d q target) p o) ≡ front (orderedFor p) (found o)
   unfolding found earlier front pairKey key toldOf orderedFor
   earlier-found p none = refl
   earlier-found p (some r) = go (noLater (keysIn (orderedFor p)) (keysIn (orderedFor r)))
@@ -89,17 +89,17 @@ module _ (ranks : List ℕ) (d : ℕ → ℕ → ℕ) (q : Protected) (target : 
       go true = refl
       go false = refl
 
-  choose-found : (ps : List Pair) → found (choose (pairKey ranks d q target) ps) ≡ firstFrom (map orderedFor ps)
+  choose-found : (ps : List Pair) → found (choose (pairKey ranks n hops d q target) ps) ≡ firstFrom (map orderedFor ps)
   unfolding choose firstFrom found
   choose-found [] = refl
-  choose-found (p ∷ ps) = earlier-found p (choose (pairKey ranks d q target) ps) ∙ ap (front (orderedFor p)) (choose-found ps)
+  choose-found (p ∷ ps) = earlier-found p (choose (pairKey ranks n hops d q target) ps) ∙ ap (front (orderedFor p)) (choose-found ps)
 
-  outcome-found : (o : Option Pair) → outcomeFor (found o) ≡ outcomeOf d q target o
+  outcome-found : (o : Option Pair) → outcomeFor (found o) ≡ outcomeOf n hops d q target o
   unfolding outcomeOf found orderedFor toldOf
   outcome-found none = refl
   outcome-found (some p) = refl
 
   -- The first of some pairs, tried one after the other, gives the outcome of the pair that is chosen from them: the keys are the same, and
   -- what is told of a pair is part of what is held.
-  pub first-chosen : (ps : List Pair) → outcomeFor (firstOf none (map orderedFor ps)) ≡ outcomeOf d q target (choose (pairKey ranks d q target) ps)
-  first-chosen ps = ap outcomeFor (first-from (map orderedFor ps) ∙ sym (choose-found ps)) ∙ outcome-found (choose (pairKey ranks d q target) ps)
+  pub first-chosen : (ps : List Pair) → outcomeFor (firstOf none (map orderedFor ps)) ≡ outcomeOf n hops d q target (choose (pairKey ranks n hops d q target) ps)
+  first-chosen ps = ap outcomeFor (first-from (map orderedFor ps) ∙ sym (choose-found ps)) ∙ outcome-found (choose (pairKey ranks n hops d q target) ps)

@@ -1,22 +1,24 @@
 -- What the numbers of an area say of spaces is what document 01 defines by walks, where the area holds the distances of the network.
 -- Assumes nothing.
 use Prim.Native.Nat.{ℕ, _<_}
-use mathlib.Core.Path.{_≡_, refl, ap, _∙_}
-use mathlib.Core.Bool.{Bool, true, false, _||_}
+use mathlib.Core.Path.{_≡_, refl, sym, ap, _∙_}
+use mathlib.Core.Bool.{Bool, true, false, not, _||_}
 use mathlib.Core.List.{List, [], _∷_, List·Memᴰ, List·Memᴰ·head, List·Memᴰ·tail}
 use lib.Bits.{bitOr}
 use lib.ListN.{getD}
 use Rattle.lfa.specs.Lists.{anyOf}
-use Rattle.lfa.specs.Network.{Arc, router}
-use Rattle.lfa.specs.Distance.{towards}
-use Rattle.lfa.specs.Walk.{avoids}
-use Rattle.lfa.specs.Space.{Protected, FirstHop, firstHops, Space, pSpace, extendedP, qSpace, inSpace, spaceOf, setOf}
-use Rattle.lfa.specs.Laws.Set.{setOf-same}
+use Rattle.lfa.specs.Network.{Arc, Target, router}
+use Rattle.lfa.specs.Distance.{unreachable, towards}
+use Rattle.lfa.specs.Walk.{avoids, visits}
+use Rattle.lfa.specs.Space.{Protected, FirstHop, firstHops, Space, pSpace, extendedP, qSpace, inSpace, spaceOf, setOf, has}
+use Rattle.lfa.specs.Laws.Set.{setOf-same, has-setOf}
+use Rattle.lfa.specs.Laws.Bound.{falls}
+use Rattle.lfa.specs.Laws.Visit.{visits-make, misses, misses-reached, arrival-visits}
 use Rattle.lfa.specs.Laws.Pair.{firsts-give}
 use Rattle.metric.specs.Area.{held}
 use Rattle.metric.specs.Column.{column}
 use Rattle.metric.specs.Laws.Column.{column-at}
-use Rattle.metric.specs.Laws.Set.{or-setOf, setOf-none}
+use Rattle.metric.specs.Laws.Set.{or-setOf, setOf-none, has-none}
 use Rattle.column.specs.Laws.Calls.{router-known}
 use Rattle.avoid.specs.Known.{Known}
 use Rattle.avoid.specs.Laws.Known.{can-read, avoiding-to, avoiding-from}
@@ -70,3 +72,14 @@ module _ (n : ℕ) (hops : List Arc) (q : Protected) (area : List ℕ) (known : 
   space-known extendedP =
       ap (λ (s : ℕ). gathered n q area s (firstHops q hops)) (setOf-none n) ∙ gathered-known (λ r. false) (firstHops q hops) hop-in
   space-known qSpace = avoiding-known (q .far) _ (router-known n area (known .sound .few) (known .long) (q .far) far-in refl)
+
+  -- From no router that reaches E does every walk towards E miss it: the empty set holds the routers from which walks do.
+  pub none-misses : (y : ℕ) → y < n → towards d (router (q .far)) y < unreachable → has 0 y ≡ not (visits n hops d (router (q .far)) (q .far) y)
+  none-misses y k f =
+      let e = visits-make n hops d (router (q .far)) (q .far) (known .sound .within) (falls (known .sound) d (router (q .far)) .1) y k (arrival-visits n hops d (known .sound) (known .costs) (q .far) y f) in
+      has-none y ∙ sym (ap not e)
+
+-- a set of the routers from which every walk misses v holds those, of all that reach the target
+pub set-misses : (n : ℕ) (hops : List Arc) (d : ℕ → ℕ → ℕ) (target : Target) (v set : ℕ) → set ≡ setOf n (misses n hops d target v) →
+    (y : ℕ) → y < n → towards d target y < unreachable → has set y ≡ not (visits n hops d target v y)
+set-misses n hops d target v set e y k f = ap (λ (s : ℕ). has s y) e ∙ has-setOf n (misses n hops d target v) y k ∙ misses-reached n hops d target v y f

@@ -1,55 +1,59 @@
--- The routers that avoid the link, found by following steps: return by return for any numbers, and what they are where the columns hold a
--- network and the distances to a target.
+-- The routers that avoid the link, and those that do not visit E, found by following steps: return by return for any numbers, and what they
+-- are where the columns hold a network and the distances to a target.
 -- Assumes nothing.
-use Prim.Native.Nat.{ℕ, _+_, _≤_, _<_}
+use Prim.Native.Nat.{ℕ, _<_}
 use mathlib.Core.Path.{_≡_, refl, sym, ap, ap₂, _∙_}
 use mathlib.Core.Logic.{_⊎_, inl, inr}
 use mathlib.Core.Bool.{Bool, true, false, not, _&&_, _||_}
 use mathlib.Core.List.{List, List·Memᴰ}
 use native.Mathlib.Omega.{arith}
-use lib.Dec.{eqb, ltb, leb}
+use lib.Dec.{eqb, ltb}
 use lib.ListN.{getD}
-use borrow.Author.Tests.{lt-ltb, le-ltb, le-leb, lt-leb, eqb-true, eq-eqb}
+use borrow.Author.Tests.{lt-ltb, le-leb, eqb-true, eq-eqb}
 use Rattle.lfa.specs.Lists.{anyOf, memberOf}
 use Rattle.lfa.specs.Network.{Arc, arc, Target}
 use Rattle.lfa.specs.Distance.{unreachable, towards}
-use Rattle.lfa.specs.Walk.{isStep, takers, over, avoids}
+use Rattle.lfa.specs.Walk.{isStep, takers, over, avoids, visits}
 use Rattle.lfa.specs.Space.{Protected, has, setOf}
-use Rattle.lfa.specs.Laws.Test.{and-left, and-right, and-make, or-cases, or-left, or-right, same-test, fails-left, fails-right}
+use Rattle.lfa.specs.Laws.Test.{and-left, and-right, and-make, or-cases, or-left, or-right, same-test}
 use Rattle.lfa.specs.Laws.List.{any-gives, any-make}
 use Rattle.lfa.specs.Laws.Set.{setOf-same, has-setOf}
+use Rattle.lfa.specs.Laws.Arrive.{Falls}
 use Rattle.lfa.specs.Laws.Avoid.{step-leaves, Named}
+use Rattle.lfa.specs.Laws.Visit.{misses}
 use Rattle.metric.specs.Fit.{ColumnsWithin}
 use Rattle.metric.specs.Columns.{arcsIn}
 use Rattle.metric.specs.Column.{column}
 use Rattle.metric.specs.Laws.Columns.{columns-within}
+use Rattle.steps.specs.declared.Onward.{Onward}
 use Rattle.steps.specs.Steps.{isTight, nextsBy, ledIn}
-use Rattle.steps.specs.Crossing.{stepsOver, overLink, reachesWithout, numbersFit, avoidingBySteps}
-use Rattle.steps.specs.Laws.Next.{RightEnds, at-router, tight-step}
+use Rattle.steps.specs.Crossing.{stepsOver, overLink, reachesWithout, keptFrom, numbersFit, onwardBySteps}
+use Rattle.steps.specs.Laws.Next.{RightNexts, RightEnds, at-router, tight-step}
 use Rattle.steps.specs.Laws.Led.{led-takers}
+use Rattle.steps.specs.Laws.Visiting.{led-visits}
 use Rattle.steps.specs.Laws.Calls.{nexts-known}
 
 -- ---- any numbers
 
 module _ (n links : ℕ) (from to out back : List ℕ) (q : Protected) (ends : ℕ) (target : List ℕ) where
-  pub none-avoid : (64 < n) ⊎ (64 ≤ q .near) ⊎ (64 ≤ q .far) → 0 ≡ avoidingBySteps n links from to out back q ends target
-  unfolding avoidingBySteps numbersFit
-  none-avoid o = rw (none-fit o, avoidingBySteps)
-    where
-      none-fit : (64 < n) ⊎ (64 ≤ q .near) ⊎ (64 ≤ q .far) → numbersFit n q ≡ false
-      none-fit (inl h) = fails-left _ _ (fails-left _ _ (lt-leb n 64 h))
-      none-fit (inr (inl h)) = fails-left _ _ (fails-right (leb n 64) _ (le-ltb (q .near) 64 h))
-      none-fit (inr (inr h)) = fails-right (leb n 64 && ltb (q .near) 64) _ (le-ltb (q .far) 64 h)
+  pub none-onward : numbersFit n q ≡ false → record { avoiding = 0; missing = 0 } ≡ onwardBySteps n links from to out back q ends target
+  unfolding onwardBySteps
+  none-onward e = rw (e, onwardBySteps)
 
-  all-avoid : n ≤ 64 → q .near < 64 → q .far < 64 →
-      avoidingBySteps n links from to out back q ends target ≡ setOf n (reachesWithout (λ y. getD target y 0) (ledIn (nextsBy links from to out back ends target) (overLink q ends (λ y. getD target y 0)) n))
-  unfolding avoidingBySteps numbersFit
-  all-avoid few near far = rw (le-leb n 64 few, lt-ltb (q .near) 64 near, lt-ltb (q .far) 64 far, numbersFit, avoidingBySteps)
+  abbrev kept : (start : ℕ) → ℕ
+  kept start = keptFrom n (nextsBy links from to out back ends target) (λ y. getD target y 0) start
 
-  pub found-avoid : {nexts : List ℕ} {start crossing set : ℕ} → n ≤ 64 → q .near < 64 → q .far < 64 → nexts ≡ nextsBy links from to out back ends target →
-      start ≡ overLink q ends (λ y. getD target y 0) → crossing ≡ ledIn nexts start n → set ≡ setOf n (reachesWithout (λ y. getD target y 0) crossing) → set ≡ avoidingBySteps n links from to out back q ends target
-  found-avoid few near far e s c r =
-      r ∙ ap (λ (k : ℕ). setOf n (reachesWithout (λ y. getD target y 0) k)) (c ∙ ap₂ (λ (l : List ℕ) (k : ℕ). ledIn l k n) e s) ∙ sym (all-avoid few near far)
+  pub some-onward : numbersFit n q ≡ true → onwardBySteps n links from to out back q ends target ≡ record { avoiding = kept (overLink q ends (λ y. getD target y 0)); missing = kept (setOf 64 (eqb (q .far))) }
+  unfolding onwardBySteps
+  some-onward e = rw (e, onwardBySteps)
+
+  pub found-onward : {nexts : List ℕ} {link alone crossing visiting avoiding missing : ℕ} → numbersFit n q ≡ true → nexts ≡ nextsBy links from to out back ends target →
+      link ≡ overLink q ends (λ y. getD target y 0) → crossing ≡ ledIn nexts link n → alone ≡ setOf 64 (eqb (q .far)) → visiting ≡ ledIn nexts alone n →
+      avoiding ≡ setOf n (reachesWithout (λ y. getD target y 0) crossing) → missing ≡ setOf n (reachesWithout (λ y. getD target y 0) visiting) →
+      record { avoiding = avoiding; missing = missing } ≡ onwardBySteps n links from to out back q ends target
+  unfolding keptFrom
+  found-onward fit nexts-are link-is crossing-is alone-is visiting-is avoiding-is missing-is =
+      rw (avoiding-is, missing-is, crossing-is, visiting-is, link-is, alone-is, nexts-are) (sym (some-onward fit))
 
 -- ---- by walks
 
@@ -112,15 +116,30 @@ module _ {n links : ℕ} {from to : List ℕ} (w : ColumnsWithin n links from to
           let s : isStep d at x (arc u v c (q .number)) ≡ true = rw (l-is) at (and-left (isStep d at x (arc u v c l)) (eqb l (q .number)) t) in
           at-end u v c s (named .only (rw (l-is) at m))
 
-  -- Where the columns hold a network and the distances to a target, these are the routers that avoid the link as document 01 says it.
-  pub by-steps-known : avoidingBySteps n links from to out back q ends target ≡ setOf n (avoids n hops d at (q .number))
-  unfolding reachesWithout avoids
-  by-steps-known =
-      all-avoid n links from to out back q ends target (w .few-routers) (omega (arith, near-in, w .few-routers)) (omega (arith, far-in, w .few-routers))
-      ∙ setOf-same n (reachesWithout h crossing) (avoids n hops d at (q .number)) (λ x i. ap₂ (λ (t : ℕ) (b : Bool). ltb t unreachable && not b) (at-router n d at ends right-ends target held x i) (led x i))
-    where
-      crossing : ℕ
-      crossing = ledIn (nextsBy links from to out back ends target) (overLink q ends h) n
+  fits : numbersFit n q ≡ true
+  unfolding numbersFit
+  fits = rw (le-leb n 64 (w .few-routers), lt-ltb (q .near) 64 (omega (arith, near-in, w .few-routers)), lt-ltb (q .far) 64 (omega (arith, far-in, w .few-routers)), numbersFit)
 
-      led : (x : ℕ) → x < n → has crossing x ≡ memberOf x (takers n hops d at (over (q .number)) n)
-      led = led-takers n (w .few-routers) hops (columns-within from to out back links n w) d at (over (q .number)) _ (nexts-known w out back d at target _ ends right-ends held refl) (overLink q ends h) start-is n
+  right-sets : RightNexts n hops d at (nextsBy links from to out back ends target)
+  right-sets = nexts-known w out back d at target _ ends right-ends held refl
+
+  -- the routers that are kept are those that reach the target and fail a test that the rounds decide
+  kept-known : (start : ℕ) (p : ℕ → Bool) → ((x : ℕ) → x < n → has (ledIn (nextsBy links from to out back ends target) start n) x ≡ p x) →
+      keptFrom n (nextsBy links from to out back ends target) h start ≡ setOf n (λ x. ltb (towards d at x) unreachable && not (p x))
+  unfolding keptFrom reachesWithout
+  kept-known start p led = setOf-same n _ _ (λ x i. ap₂ (λ (t : ℕ) (b : Bool). ltb t unreachable && not b) (at-router n d at ends right-ends target held x i) (led x i))
+
+  -- Where the columns hold a network and the distances to a target, these are the routers that avoid the link as document 01 says it, and
+  -- those from which no walk visits E.
+  pub avoiding-known : onwardBySteps n links from to out back q ends target .avoiding ≡ setOf n (avoids n hops d at (q .number))
+  unfolding avoids
+  avoiding-known =
+      ap (λ (o : Onward). o .avoiding) (some-onward n links from to out back q ends target fits)
+      ∙ kept-known (overLink q ends h) (λ x. memberOf x (takers n hops d at (over (q .number)) n))
+      (led-takers n (w .few-routers) hops (columns-within from to out back links n w) d at (over (q .number)) _ right-sets (overLink q ends h) start-is n)
+
+  pub missing-known : {m : ℕ → ℕ} → Falls hops d at m → onwardBySteps n links from to out back q ends target .missing ≡ setOf n (misses n hops d at (q .far))
+  unfolding misses
+  missing-known falls =
+      ap (λ (o : Onward). o .missing) (some-onward n links from to out back q ends target fits)
+      ∙ kept-known (setOf 64 (eqb (q .far))) (visits n hops d at (q .far)) (led-visits n (w .few-routers) hops (columns-within from to out back links n w) d at _ right-sets (q .far) falls)

@@ -44,6 +44,26 @@ meet-gives a b ha h = by (decide (anyOf (has (bitAnd a b)) (below 64)))
 meet-make : (a b z : ℕ) → has a z ≡ true → has b z ≡ true → bitAnd a b ≡ 0 → ⊥
 meet-make a b z ea eb e = false≢true (sym (has-none z) ∙ ap (λ (s : ℕ). has s z) (sym e) ∙ has-and a b z ∙ and-make (has a z) (has b z) ea eb)
 
+-- one round over the sets
+module _ (n : ℕ) (few : n ≤ 64) (hops : List Arc) (d : ℕ → ℕ → ℕ) (to : Target) (nexts : List ℕ) (right : RightNexts n hops d to nexts) (start : ℕ) where
+  -- the routers of a round: those of the start, and those that have a next router among what was found before
+  pub round-gives : (set x : ℕ) → x < n → has (bitOr start (ledTo nexts set)) x ≡ true → (has start x ≡ true) ⊎ ((z : ℕ) × (z < 64) × (has (getD nexts x 0) z ≡ true) × (has set z ≡ true))
+  unfolding ledTo
+  round-gives set x i e = by (or-cases (has start x) (has (ledTo nexts set) x) (sym (has-or start (ledTo nexts set) x) ∙ e))
+    where
+      by : (has start x ≡ true) ⊎ (has (ledTo nexts set) x ≡ true) → (has start x ≡ true) ⊎ ((z : ℕ) × (z < 64) × (has (getD nexts x 0) z ≡ true) × (has set z ≡ true))
+      by (inl t) = inl t
+      by (inr t) =
+          let some = sym (has-setOf 64 (λ x. not (eqb (bitAnd (getD nexts x 0) set) 0)) x (omega arith)) ∙ t in
+          inr (meet-gives (getD nexts x 0) set (right .is-set x i) (eqb-false _ _ (not-true _ some)))
+
+  pub round-make : (set x : ℕ) → x < n → (has start x ≡ true) ⊎ ((z : ℕ) × (has (getD nexts x 0) z ≡ true) × (has set z ≡ true)) → has (bitOr start (ledTo nexts set)) x ≡ true
+  unfolding ledTo
+  round-make set x i (inl t) = has-or start (ledTo nexts set) x ∙ or-left (has start x) _ t
+  round-make set x i (inr (z, e, q)) =
+      let some : eqb (bitAnd (getD nexts x 0) set) 0 ≡ false = ne-eqb _ _ (meet-make (getD nexts x 0) set z e q) in
+      has-or start (ledTo nexts set) x ∙ or-right (has start x) _ (has-setOf 64 (λ x. not (eqb (bitAnd (getD nexts x 0) set) 0)) x (omega arith) ∙ ap not some)
+
 -- Rounds over the sets find what the rounds of the definition find: a router has a next router among those that were found before exactly
 -- when one of its steps leads there. `start` has the routers whose own step is wanted.
 module _ (n : ℕ) (few : n ≤ 64) (hops : List Arc) (within : Within hops n) (d : ℕ → ℕ → ℕ) (to : Target) (wanted : Arc → Bool) (nexts : List ℕ) (right : RightNexts n hops d to nexts)
@@ -77,24 +97,6 @@ module _ (n : ℕ) (few : n ≤ 64) (hops : List Arc) (within : Within hops n) (
           let known : memberOf v (found k) ≡ true = rw (v-is) (sym (before z (rw (← v-is) (within .to m))) ∙ q) in
           leading k x i (arc u v c l) m (and-make _ _ s (or-right (wanted (arc u v c l)) _ known))
 
-  -- the routers of a round: those of the start, and those that have a next router among what was found before
-  round-gives : (set x : ℕ) → x < n → has (bitOr start (ledTo nexts set)) x ≡ true → (has start x ≡ true) ⊎ ((z : ℕ) × (z < 64) × (has (getD nexts x 0) z ≡ true) × (has set z ≡ true))
-  unfolding ledTo
-  round-gives set x i e = by (or-cases (has start x) (has (ledTo nexts set) x) (sym (has-or start (ledTo nexts set) x) ∙ e))
-    where
-      by : (has start x ≡ true) ⊎ (has (ledTo nexts set) x ≡ true) → (has start x ≡ true) ⊎ ((z : ℕ) × (z < 64) × (has (getD nexts x 0) z ≡ true) × (has set z ≡ true))
-      by (inl t) = inl t
-      by (inr t) =
-          let some = sym (has-setOf 64 (λ x. not (eqb (bitAnd (getD nexts x 0) set) 0)) x (omega arith)) ∙ t in
-          inr (meet-gives (getD nexts x 0) set (right .is-set x i) (eqb-false _ _ (not-true _ some)))
-
-  round-make : (set x : ℕ) → x < n → (has start x ≡ true) ⊎ ((z : ℕ) × (has (getD nexts x 0) z ≡ true) × (has set z ≡ true)) → has (bitOr start (ledTo nexts set)) x ≡ true
-  unfolding ledTo
-  round-make set x i (inl t) = has-or start (ledTo nexts set) x ∙ or-left (has start x) _ t
-  round-make set x i (inr (z, e, q)) =
-      let some : eqb (bitAnd (getD nexts x 0) set) 0 ≡ false = ne-eqb _ _ (meet-make (getD nexts x 0) set z e q) in
-      has-or start (ledTo nexts set) x ∙ or-right (has start x) _ (has-setOf 64 (λ x. not (eqb (bitAnd (getD nexts x 0) set) 0)) x (omega arith) ∙ ap not some)
-
   -- a step that leads on is wanted, or leads to a next router that was found
   back-from : (k x : ℕ) → x < n → ((z : ℕ) → z < n → has (ledIn nexts start k) z ≡ memberOf z (found k)) → memberOf x (takers n hops d to wanted (suc k)) ≡ true →
       (has start x ≡ true) ⊎ ((z : ℕ) × (has (getD nexts x 0) z ≡ true) × (has (ledIn nexts start k) z ≡ true))
@@ -118,7 +120,7 @@ module _ (n : ℕ) (few : n ≤ 64) (hops : List Arc) (within : Within hops n) (
   pub led-takers : (k x : ℕ) → x < n → has (ledIn nexts start k) x ≡ memberOf x (takers n hops d to wanted k)
   unfolding ledIn takers memberOf anyOf
   led-takers zero x i = has-none x
-  led-takers (suc k) x i = same-test _ _ (λ e. there (led-takers k) (round-gives (ledIn nexts start k) x i e)) (λ e. round-make (ledIn nexts start k) x i (back-from k x i (led-takers k) e))
+  led-takers (suc k) x i = same-test _ _ (λ e. there (led-takers k) (round-gives n few hops d to nexts right start (ledIn nexts start k) x i e)) (λ e. round-make n few hops d to nexts right start (ledIn nexts start k) x i (back-from k x i (led-takers k) e))
     where
       there : ((z : ℕ) → z < n → has (ledIn nexts start k) z ≡ memberOf z (found k)) → (has start x ≡ true) ⊎ ((z : ℕ) × (z < 64) × (has (getD nexts x 0) z ≡ true) × (has (ledIn nexts start k) z ≡ true)) →
           memberOf x (takers n hops d to wanted (suc k)) ≡ true

@@ -74,7 +74,7 @@ fn prefix(asked: &Asked) -> Result<String, Failure> {
     let repair = repair.map(|repair| match repair {
         Repair::Unreachable => UNREACHABLE.to_string(),
         Repair::Untouched => UNTOUCHED.to_string(),
-        Repair::Pair(pair) => line(pair),
+        Repair::Pair(pair) => format!("{pair}; {}\n", survived(&pair)),
     });
     or_no_pair(&file, (link, end), repair)
 }
@@ -190,6 +190,14 @@ fn left_out(file: &[u8], (link, end): (usize, usize)) -> String {
             format!("; under maintenance: {}", directions.join(", "))
         }
         _ => String::new(),
+    }
+}
+
+/// Which failures the repair of a prefix survives.
+fn survived(pair: &Pair) -> &'static str {
+    match pair.survives_far_router() {
+        true => "survives the failure of the far router too",
+        false => "survives the failure of the link only",
     }
 }
 

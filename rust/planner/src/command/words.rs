@@ -13,7 +13,8 @@ pub const HELP: &str = "\
 planner tells where packets go in the moment after a link drops.
 
   planner link FILE LINK END            the pair that repairs the link
-  planner prefix FILE LINK END PREFIX   what repairs the traffic to a prefix
+  planner prefix FILE LINK END PREFIX   what repairs the traffic to a prefix,
+                                        and whether it survives E's failure too
   planner route FILE LINK END PREFIX [CHOICE ...]
                                         the routers that a repaired packet takes
   planner spaces FILE LINK END          P-space, extended P-space and Q-space
@@ -33,15 +34,18 @@ and drill only the same drill. They replace no other file: remove that first.
 
 LINK and PREFIX count from 0 in the order of the file. END 0 asks for the link's
 first router, END 1 for its second: that router is S, which has to send packets
-elsewhere, and the other one is E. A CHOICE is a number from 0 to 255. Each
-router takes the next one modulo the number of equal hops that it has; after
-the last, 0.
+elsewhere, and the other one is E, the far router. A CHOICE is a number from 0
+to 255. Each router takes the next one modulo the number of equal hops that it
+has; after the last, 0.
 
-RANKS are the ranks of the classes 0, 1, 2 and 3, with commas between: 0, 1, 2
-and 3, each once, in any order. The pair whose class has the lowest rank comes
-first. A pair of class 0 or 1 needs no tunnel, one of class 2 or 3 does; with 0
-and 2 its endpoint is closer to the target than S. Without --ranks they are
-0,1,2,3; with 2,3,0,1 tunnels come first. They never change whether there is a
+RANKS are the ranks of the classes 0 to 7, with commas between: the numbers 0 to
+7, each once, in any order. The pair whose class has the lowest rank comes
+first. By a pair of class 0 to 3 no packet visits E, so that the repair survives
+the failure of E too; by one of class 4 to 7 a packet may, and a link's own
+repair, which leads to E, is always such. A pair of class 0, 1, 4 or 5 needs no
+tunnel, one of class 2, 3, 6 or 7 does; with an even class its endpoint is
+closer to the target than S. Without --ranks they are 0,1,2,3,4,5,6,7; with
+4,5,0,1,6,7,2,3 tunnels come first. They never change whether there is a
 repair.
 
 A drill is a network for training, the same for all who give its SEED and N: a
@@ -236,7 +240,7 @@ impl<'a> Asked<'a> {
         ranks.ok_or_else(|| {
             self.form.failure(&format!(
                 "RANKS is `{given}`, expected numbers from 0 to 255 with commas and no spaces \
-                 between, as in 2,3,0,1"
+                 between, as in 4,5,0,1,6,7,2,3"
             ))
         })
     }

@@ -1,7 +1,7 @@
 //! The command as a child process: what it prints, and its exit status.
 
 use crate::common::{
-    answers, fails, ring, ring_4_with_prefix, root, run, scratch, sound_texts, text_of, texts,
+    answers, fails, ring, ring_4_with_prefix, run, scratch, sound_texts, stored, text_of, texts,
     with_prefix_at, RING_4,
 };
 use planner::{text, Link, Network};
@@ -12,10 +12,10 @@ use std::process::{Command, Stdio};
 fn link() {
     let file = ring_4_with_prefix().to_bytes();
     let path = scratch("link.net", Some(&file));
-    let pair = "first hop 3, endpoint 2, class 3, tunnel cost 2\n";
+    let pair = "first hop 3, endpoint 2, class 7, tunnel cost 2\n";
     assert_eq!(answers(&["link", path.to_str().unwrap(), "0", "0"], &[]), pair);
     assert_eq!(answers(&["link", "-", "0", "0"], &file), pair);
-    let other = "first hop 2, endpoint 3, class 3, tunnel cost 2\n";
+    let other = "first hop 2, endpoint 3, class 7, tunnel cost 2\n";
     assert_eq!(answers(&["link", "-", "00", "1"], &file), other);
 }
 
@@ -53,12 +53,8 @@ fn no_repair_names_what_is_under_maintenance() {
 
 #[test]
 fn a_repair_that_maintenance_leaves_out() {
-    let file = |name: &str| {
-        let path = root().join(format!("tests/cases/{name}.txt"));
-        text::parse(&fs::read_to_string(path).unwrap()).unwrap().to_bytes()
-    };
     let left_out = no_repair("; under maintenance: 0 to 2, 0 to 3");
-    let first_hops = file("maintenance_first_hops");
+    let first_hops = stored("maintenance_first_hops");
     for words in [
         &["link", "-", "0", "0"][..],
         &["prefix", "-", "0", "0", "0"],
@@ -66,20 +62,21 @@ fn a_repair_that_maintenance_leaves_out() {
     ] {
         assert_eq!(answers(words, &first_hops), left_out);
     }
-    let other = "first hop 4, endpoint 2, class 3, tunnel cost 2\n";
+    let other = "first hop 4, endpoint 2, class 7, tunnel cost 2\n";
     assert_eq!(answers(&["link", "-", "0", "1"], &first_hops), other);
-    let tunnel = file("maintenance_tunnel");
+    let tunnel = stored("maintenance_tunnel");
     assert_eq!(answers(&["route", "-", "0", "0", "0"], &tunnel), "route 0 5 4 3 2 1\n");
     let extended_p = "P-space: size 2, routers 0 2\n\
                       extended P-space: size 3, routers 0 2 5\n\
                       Q-space: size 3, routers 1 4 5\n";
-    assert_eq!(answers(&["spaces", "-", "0", "0"], &file("maintenance_extended_p")), extended_p);
+    assert_eq!(answers(&["spaces", "-", "0", "0"], &stored("maintenance_extended_p")), extended_p);
 }
 
 #[test]
 fn prefix_and_route() {
     let file = ring_4_with_prefix().to_bytes();
-    let pair = "first hop 3, endpoint 3, class 1, tunnel cost 1\n";
+    let pair = "first hop 3, endpoint 3, class 1, tunnel cost 1; survives the failure of the far \
+                router too\n";
     assert_eq!(answers(&["prefix", "-", "0", "0", "0"], &file), pair);
     assert_eq!(answers(&["route", "-", "0", "0", "0"], &file), "route 0 3 2\n");
     assert_eq!(answers(&["route", "-", "0", "0", "0", "7", "255"], &file), "route 0 3 2\n");
@@ -92,6 +89,36 @@ fn prefix_and_route() {
     let unreachable = "unreachable: the prefix cannot be reached from S\n";
     assert_eq!(answers(&["prefix", "-", "0", "0", "0"], &apart), unreachable);
     assert_eq!(answers(&["route", "-", "0", "0", "0"], &apart), unreachable);
+}
+
+#[test]
+fn prefix_tells_which_failures_a_repair_survives() {
+    let file = stored("node_ring_4");
+    let [both, link] = ["far router too", "link only"];
+    for (prefix, pair, survived) in [
+        ("0", "first hop 3, endpoint 2, class 7, tunnel cost 2", link),
+        ("1", "first hop 3, endpoint 3, class 1, tunnel cost 1", both),
+        ("2", "first hop 3, endpoint 2, class 3, tunnel cost 2", both),
+        ("3", "first hop 3, endpoint 3, class 1, tunnel cost 1", both),
+    ] {
+        let words = ["prefix", "-", "0", "0", prefix];
+        assert_eq!(
+            answers(&words, &file),
+            format!("{pair}; survives the failure of the {survived}\n")
+        );
+    }
+    // Who prefers the nearer neighbour is told what it does not survive.
+    let file = stored("node_farther_neighbour");
+    for (ranks, pair, survived) in [
+        ("0,1,2,3,4,5,6,7", "first hop 3, endpoint 3, class 1, tunnel cost 2", both),
+        ("0,2,3,4,1,5,6,7", "first hop 2, endpoint 2, class 4, tunnel cost 2", link),
+    ] {
+        let words = ["prefix", "-", "0", "0", "0", "--ranks", ranks];
+        assert_eq!(
+            answers(&words, &file),
+            format!("{pair}; survives the failure of the {survived}\n")
+        );
+    }
 }
 
 #[test]
@@ -277,7 +304,7 @@ fn wrong_words() {
         (&["drill", "8", "5", ""], "FILE is empty", drill),
         (&["drill", "8", "5", "-", "-"], "`-` is one word too many", drill),
         (
-            &["drill", "8", "5", "-", "--ranks", "0,1,2,3"],
+            &["drill", "8", "5", "-", "--ranks", "0,1,2,3,4,5,6,7"],
             "--ranks is for link, prefix and route; leave it out",
             drill,
         ),

@@ -1,6 +1,6 @@
 //! What several modules of the suite share.
 
-use planner::{Attachment, Link, Network, DRILL_BYTES};
+use planner::{text, Attachment, Link, Network, DRILL_BYTES};
 use std::fs;
 use std::io::Write;
 use std::path::{Path, PathBuf};
@@ -38,6 +38,12 @@ pub fn drill(seed: u32, routers: usize) -> Vec<u8> {
     let mut file = vec![0; DRILL_BYTES];
     assert_eq!(planner::drill(seed, routers, &mut file), DRILL_BYTES);
     file
+}
+
+/// The network file of a stored case, which holds a sound network.
+pub fn stored(name: &str) -> Vec<u8> {
+    let path = root().join(format!("tests/cases/{name}.txt"));
+    text::parse(&fs::read_to_string(path).unwrap()).unwrap().to_bytes()
 }
 
 /// The network file that the oracle makes of a text.

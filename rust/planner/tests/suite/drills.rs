@@ -72,7 +72,7 @@ fn the_command_makes_the_file_of_a_drill() {
     assert_eq!(answers(&["text", name], &[]), drawn(8, 5));
     let made = run(&["drill", "8", "5", "-"], &[]);
     assert_eq!((made.stdout, made.stderr, made.status.code()), (drill(8, 5), vec![], Some(0)));
-    let pair = "first hop 4, endpoint 2, class 3, tunnel cost 86\n";
+    let pair = "first hop 4, endpoint 2, class 7, tunnel cost 86\n";
     assert_eq!(answers(&["link", "-", "0", "0"], &drill(8, 5)), pair);
 }
 

@@ -30,7 +30,7 @@ fn ask_compiles_and_answers() {
         Command::new(&program).args(words).current_dir(root()).output().expect("it starts")
     };
     let answered = run(&["examples/ring4.net"]);
-    assert_eq!(text(&answered.stdout), "first hop 3, endpoint 2, class 3, tunnel cost 2\n");
+    assert_eq!(text(&answered.stdout), "first hop 3, endpoint 2, class 7, tunnel cost 2\n");
     assert_eq!(answered.status.code(), Some(0));
     let refused = run(&["examples/ring4.txt"]);
     assert_eq!(text(&refused.stdout), "refused 1 0\n");
@@ -45,6 +45,6 @@ fn ask_compiles_and_answers() {
 #[test]
 fn drill_compiles_and_answers() {
     let output = Command::new(compiled("drill")).output().expect("it starts");
-    let lines = "first hop 4, endpoint 2, class 3, tunnel cost 86\nrefused 14 0\n";
+    let lines = "first hop 4, endpoint 2, class 7, tunnel cost 86\nrefused 14 0\n";
     assert_eq!((text(&output.stdout), output.status.code()), (lines.to_string(), Some(0)));
 }

@@ -129,7 +129,7 @@ fn an_answer_is_not_added_to_the_file_that_is_read() {
     }
     assert_eq!(folder.prints("planner link a.net 0 0 >>a.txt"), b"");
     assert!(text_of(folder.get("a.txt"))
-        .ends_with("\nfirst hop 2, endpoint 2, class 1, tunnel cost 1\n"));
+        .ends_with("\nfirst hop 2, endpoint 2, class 5, tunnel cost 1\n"));
 }
 
 #[test]

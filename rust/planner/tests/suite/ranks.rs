@@ -1,25 +1,29 @@
 //! Ranks: in the calls, which take them from any place, and on the command line.
 
-use crate::common::{answers, fails, ring_4_with_prefix, root};
-use planner::{
-    text, Network, Pair, Played, Refusal, Repair, ASCENDING_RANKS, ROUTE_BYTES, WORK_CELLS,
-};
-use std::fs;
-
-/// The stored network in which each class has a serving pair for link 0, end 0.
-fn four_classes() -> Network {
-    let path = root().join("tests/cases/four_classes.txt");
-    text::parse(&fs::read_to_string(path).unwrap()).unwrap()
-}
+use crate::common::{answers, fails, ring_4_with_prefix, stored};
+use planner::{Pair, Played, Refusal, Repair, ASCENDING_RANKS, ROUTE_BYTES, WORK_CELLS};
 
 const WRONG: Refusal = Refusal { number: 15, value: 0 };
 
-/// The first pair of each class, and the route by it.
-const BEST: [(Pair, &[u8]); 4] = [
-    (Pair { first: 2, endpoint: 2, class: 0, cost: 3 }, &[0, 2, 1]),
-    (Pair { first: 3, endpoint: 3, class: 1, cost: 3 }, &[0, 3, 1]),
-    (Pair { first: 3, endpoint: 2, class: 2, cost: 9 }, &[0, 3, 0, 2, 1]),
-    (Pair { first: 2, endpoint: 3, class: 3, cost: 9 }, &[0, 2, 0, 3, 1]),
+/// The first pair of each class for link 0, end 0 and the prefix of the stored network in which each
+/// class has one, and the route by it.
+const BEST: [(Pair, &[u8]); 8] = [
+    (Pair { first: 2, endpoint: 2, class: 0, cost: 3 }, &[0, 2, 6]),
+    (Pair { first: 3, endpoint: 3, class: 1, cost: 3 }, &[0, 3, 6]),
+    (Pair { first: 3, endpoint: 2, class: 2, cost: 9 }, &[0, 3, 0, 2, 6]),
+    (Pair { first: 2, endpoint: 3, class: 3, cost: 9 }, &[0, 2, 0, 3, 6]),
+    (Pair { first: 4, endpoint: 4, class: 4, cost: 3 }, &[0, 4, 1, 6]),
+    (Pair { first: 5, endpoint: 5, class: 5, cost: 3 }, &[0, 5, 1, 6]),
+    (Pair { first: 2, endpoint: 4, class: 6, cost: 9 }, &[0, 2, 0, 4, 1, 6]),
+    (Pair { first: 2, endpoint: 5, class: 7, cost: 9 }, &[0, 2, 0, 5, 1, 6]),
+];
+
+/// The first pair of each class for link 0, end 0 of the stored network of four classes.
+const BEST_OF_LINK: [Pair; 4] = [
+    Pair { first: 2, endpoint: 2, class: 4, cost: 3 },
+    Pair { first: 3, endpoint: 3, class: 5, cost: 3 },
+    Pair { first: 3, endpoint: 2, class: 6, cost: 9 },
+    Pair { first: 2, endpoint: 3, class: 7, cost: 9 },
 ];
 
 /// The three calls about link 0, end 0 and prefix 0.
@@ -35,20 +39,35 @@ fn asked(file: &[u8], ranks: &[u8], choices: &[u8]) -> Result<(Pair, Repair, Vec
     Ok((link?, prefix?, route[..count].to_vec()))
 }
 
+/// Ascending ranks, each class in turn preferred, and 1,000 at random.
+fn some_ranks() -> Vec<[u8; 8]> {
+    let turned = |turn: u8| ASCENDING_RANKS.map(|class| (class + 8 - turn) % 8);
+    (0..8).map(turned).chain(oracle::ranks::random_tables(1000, 1)).collect()
+}
+
 #[test]
 fn the_lowest_rank_decides() {
-    let file = four_classes().to_bytes();
-    for ranks in oracle::ranks::arrangements() {
+    let file = stored("node_eight_classes");
+    for ranks in some_ranks() {
         let class = ranks.iter().position(|rank| *rank == 0).unwrap();
         let (pair, route) = BEST[class];
-        assert_eq!(asked(&file, &ranks, &[]), Ok((pair, Repair::Pair(pair), route.to_vec())));
+        let (_, repair, played) = asked(&file, &ranks, &[]).unwrap();
+        assert_eq!((repair, played), (Repair::Pair(pair), route.to_vec()), "{ranks:?}");
+        assert_eq!(pair.survives_far_router(), class < 4);
     }
-    assert_eq!(asked(&file, &ASCENDING_RANKS, &[]).unwrap().0, BEST[0].0);
+    let file = stored("four_classes");
+    for ranks in some_ranks() {
+        let class = (4..8).min_by_key(|class| ranks[*class]).unwrap();
+        let pair = BEST_OF_LINK[class - 4];
+        let (link, repair, _) = asked(&file, &ranks, &[]).unwrap();
+        assert_eq!((link, repair), (pair, Repair::Pair(pair)), "{ranks:?}");
+        assert!(!link.survives_far_router());
+    }
 }
 
 #[test]
 fn wrong_tables() {
-    let file = four_classes().to_bytes();
+    let file = stored("four_classes");
     for ranks in oracle::ranks::wrong_tables() {
         assert_eq!(asked(&file, &ranks, &[]), Err(WRONG), "{ranks:?}");
     }
@@ -56,51 +75,68 @@ fn wrong_tables() {
 
 #[test]
 fn ranks_that_are_a_part_of_another_buffer() {
-    // Link 2 of ring 4 joins 2 and 3 at cost 1, and its first four bytes are an arrangement.
-    let file = ring_4_with_prefix().to_bytes();
-    let at = file.windows(4).position(|bytes| bytes == [2, 3, 1, 0]).expect("link 2");
-    let (_, repair, route) = asked(&file, &file[at..at + 4], &file).unwrap();
-    assert_eq!(repair, Repair::Pair(Pair { first: 3, endpoint: 2, class: 2, cost: 2 }));
-    assert_eq!(route, [0, 3, 2]);
+    // Link 0 joins 5 and 4 at the costs 7 and 1,538, so that its entry and the two routers of link 1
+    // are an arrangement, by which class 7 comes before class 5.
+    let text = "routers 8\nlink 5 4 7 1538\nlink 1 3 1 1\nlink 5 1 9 9\nlink 3 4 9 9\nprefix 4:0\n";
+    let file = planner::text::parse(text).unwrap().to_bytes();
+    let ranks = [5, 4, 7, 0, 2, 6, 1, 3];
+    let at = file.windows(8).position(|bytes| bytes == ranks).expect("links 0 and 1");
+    let (link, repair, route) = asked(&file, &file[at..at + 8], &file).unwrap();
+    let tunnel = Pair { first: 1, endpoint: 3, class: 7, cost: 10 };
+    assert_eq!((link, repair), (tunnel, Repair::Pair(tunnel)));
+    assert_eq!(route, [5, 1, 3, 4]);
+    assert_eq!(asked(&file, &ASCENDING_RANKS, &[]).unwrap().0.class, 5);
     assert_eq!(asked(&file, &file[at..], &[]), Err(WRONG));
     assert_eq!(asked(&file, &file, &file), Err(WRONG));
     // The same bytes as ranks and as choices, and as a file that is none.
-    let both = [2, 3, 1, 0];
-    assert_eq!(asked(&file, &both, &both), asked(&file, &both, &[2, 3, 1, 0]));
-    assert_eq!(asked(&both, &both, &both), Err(Refusal { number: 1, value: 0 }));
+    assert_eq!(asked(&file, &ranks, &ranks), asked(&file, &ranks, &[5, 4, 7, 0, 2, 6, 1, 3]));
+    assert_eq!(asked(&ranks, &ranks, &ranks), Err(Refusal { number: 1, value: 0 }));
 }
 
 #[test]
 fn the_command_takes_ranks_anywhere_after_its_name() {
     let file = ring_4_with_prefix().to_bytes();
-    let neighbour = "first hop 3, endpoint 3, class 1, tunnel cost 1\n";
-    let tunnel = "first hop 3, endpoint 2, class 2, tunnel cost 2\n";
+    let survives = "survives the failure of the far router too\n";
+    let neighbour = format!("first hop 3, endpoint 3, class 1, tunnel cost 1; {survives}");
+    let tunnel = format!("first hop 3, endpoint 2, class 2, tunnel cost 2; {survives}");
     for (words, expected) in [
-        (&["prefix", "-", "0", "0", "0"][..], neighbour),
-        (&["prefix", "-", "0", "0", "0", "--ranks", "0,1,2,3"], neighbour),
-        (&["prefix", "-", "0", "0", "0", "--ranks", "2,3,0,1"], tunnel),
-        (&["prefix", "--ranks", "2,3,0,1", "-", "0", "0", "0"], tunnel),
-        (&["prefix", "-", "0", "--ranks", "02,3,0,001", "0", "0"], tunnel),
+        (&["prefix", "-", "0", "0", "0"][..], &neighbour),
+        (&["prefix", "-", "0", "0", "0", "--ranks", "0,1,2,3,4,5,6,7"], &neighbour),
+        (&["prefix", "-", "0", "0", "0", "--ranks", "4,5,0,1,6,7,2,3"], &tunnel),
+        (&["prefix", "--ranks", "4,5,0,1,6,7,2,3", "-", "0", "0", "0"], &tunnel),
+        (&["prefix", "-", "0", "--ranks", "04,5,0,001,6,7,2,3", "0", "0"], &tunnel),
     ] {
-        assert_eq!(answers(words, &file), expected);
+        assert_eq!(&answers(words, &file), expected);
     }
-    let file = four_classes().to_bytes();
-    for (ranks, class) in [("0,1,2,3", 0), ("3,0,2,1", 1), ("1,2,0,3", 2), ("2,3,1,0", 3)] {
-        let (pair, route) = BEST[class];
-        let link = answers(&["link", "-", "0", "0", "--ranks", ranks], &file);
-        assert_eq!(link, format!("{pair}\n"));
-        let route = route.iter().map(u8::to_string).collect::<Vec<String>>().join(" ");
+    let file = stored("node_eight_classes");
+    for (ranks, class) in [
+        ("0,1,2,3,4,5,6,7", 0),
+        ("3,0,2,1,4,5,6,7", 1),
+        ("4,1,2,3,0,5,6,7", 4),
+        ("7,6,5,4,3,2,1,0", 7),
+    ] {
+        let route = BEST[class].1.iter().map(u8::to_string).collect::<Vec<String>>().join(" ");
         let played = answers(&["route", "-", "0", "0", "0", "--ranks", ranks, "7", "9"], &file);
         assert_eq!(played, format!("route {route}\n"));
     }
+    let link = ["link", "-", "0", "0", "--ranks", "7,6,5,4,3,2,1,0"];
+    assert_eq!(answers(&link, &stored("four_classes")), format!("{}\n", BEST_OF_LINK[3]));
 }
 
 #[test]
 fn ranks_that_are_no_arrangement_are_refused_in_words() {
     let file = ring_4_with_prefix().to_bytes();
-    let wrong = "planner: refused 15 0: the ranks are no arrangement: the four classes have the \
-                 ranks 0, 1, 2 and 3, each once, in any order\n";
-    for ranks in ["0,1,2", "0,1,2,3,3", "0,1,2,2", "1,2,3,4", "0,1,2,255", "7"] {
+    let wrong = "planner: refused 15 0: the ranks are no arrangement: the eight classes have the \
+                 ranks 0 to 7, each once, in any order\n";
+    for ranks in [
+        "0,1,2,3",
+        "0,1,2,3,4,5,6",
+        "0,1,2,3,4,5,6,7,7",
+        "0,1,2,3,4,5,6,6",
+        "1,2,3,4,5,6,7,8",
+        "0,1,2,3,4,5,6,255",
+        "7",
+    ] {
         for words in [&["link", "-", "4", "0"][..], &["prefix", "-", "0", "0", "9"]] {
             assert_eq!(fails(&[words, &["--ranks", ranks]].concat(), &file, 1), wrong);
         }
@@ -114,26 +150,29 @@ fn ranks_that_are_no_arrangement_are_refused_in_words() {
 #[test]
 fn ranks_that_are_no_numbers_are_wrong_words() {
     let usage = "usage: planner link FILE LINK END [--ranks RANKS]\n";
-    for ranks in ["", "x", "0,1,2,", "0,1,,3", "0 1 2 3", "0, 1, 2, 3", "0,1,2,256", "+0,1,2,3"] {
+    let ascending = "0,1,2,3,4,5,6,7";
+    let spaced = [ascending.replace(',', " "), ascending.replace(',', ", ")];
+    let others = ["", "x", "0,1,2,3,4,5,6,", "0,1,,3,4,5,6,7", "0,1,2,3,4,5,6,256", "+0,1"];
+    for ranks in others.into_iter().chain(spaced.iter().map(String::as_str)) {
         let wrong = format!(
             "planner: RANKS is `{ranks}`, expected numbers from 0 to 255 with commas and no spaces \
-             between, as in 2,3,0,1\n{usage}"
+             between, as in 4,5,0,1,6,7,2,3\n{usage}"
         );
         assert_eq!(fails(&["link", "-", "0", "0", "--ranks", ranks], &[], 2), wrong);
     }
     for (words, wrong) in [
         (&["link", "-", "0", "0", "--ranks"][..], "RANKS is missing after --ranks"),
-        (&["link", "--ranks", "0,1,2,3", "-", "0"], "END is missing"),
+        (&["link", "--ranks", ascending, "-", "0"], "END is missing"),
         (
-            &["link", "--ranks", "0,1,2,3", "-", "0", "0", "--ranks", "0,1,2,3"],
+            &["link", "--ranks", ascending, "-", "0", "0", "--ranks", ascending],
             "--ranks is given twice; give it once",
         ),
         (&["link", "--ranks", "--ranks", "-", "0", "0"], "--ranks is given twice; give it once"),
-        (&["link", "-", "0", "0", "--ranks=0,1,2,3"], "`--ranks=0,1,2,3` is one word too many"),
+        (&["link", "-", "0", "0", "--ranks=7"], "`--ranks=7` is one word too many"),
     ] {
         assert_eq!(fails(words, &[], 2), format!("planner: {wrong}\n{usage}"));
     }
     let wrong = "planner: --ranks is for link, prefix and route; leave it out\n\
                  usage: planner spaces FILE LINK END\n";
-    assert_eq!(fails(&["spaces", "-", "0", "0", "--ranks", "0,1,2,3"], &[], 2), wrong);
+    assert_eq!(fails(&["spaces", "-", "0", "0", "--ranks", ascending], &[], 2), wrong);
 }

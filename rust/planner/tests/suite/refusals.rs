@@ -50,16 +50,15 @@ fn rows_of_the_question() {
     let mut route = [7; ROUTE_BYTES];
     assert_eq!(planner::distances(&file, &mut work[..15]), Err(refused(10, 16)));
     assert_eq!(planner::distances(&file, &mut []), Err(refused(10, 16)));
-    let (ranks, wrong) = (&ASCENDING_RANKS, &[0, 1, 2, 2]);
+    let (ranks, wrong) = (&ASCENDING_RANKS, &[0, 1, 2, 3, 4, 5, 6, 6]);
     let short = planner::route(&file, &mut work, wrong, 9, 9, 9, &[], &mut route[..7]);
     assert_eq!(short, Err(refused(11, 8)));
     let no_ranks = planner::route(&file, &mut work, wrong, 9, 9, 9, &[], &mut route[..8]);
     assert_eq!(no_ranks, Err(refused(15, 0)));
     assert_eq!(planner::link_repair(&file, &mut work, &[], 4, 0), Err(refused(15, 0)));
-    assert_eq!(
-        planner::prefix_repair(&file, &mut work, &[4, 1, 2, 3], 0, 0, 1),
-        Err(refused(15, 0))
-    );
+    // Four ranks were enough before version 4 of the interface.
+    let four = planner::prefix_repair(&file, &mut work, &[0, 1, 2, 3], 0, 0, 1);
+    assert_eq!(four, Err(refused(15, 0)));
     assert_eq!(planner::link_repair(&file, &mut work, ranks, 4, 0), Err(refused(12, 4)));
     assert_eq!(planner::p_space(&file, &mut work, 0, 2), Err(refused(12, 4)));
     assert_eq!(planner::prefix_repair(&file, &mut work, ranks, 0, 0, 1), Err(refused(13, 1)));
@@ -102,7 +101,7 @@ fn words_of_every_row() {
         "there is no such link or end: the number of links is 37",
         "there is no such prefix: the number of prefixes is 37",
         "there is no repair: no pair of first hop and endpoint serves",
-        "the ranks are no arrangement: the four classes have the ranks 0, 1, 2 and 3, each once",
+        "the ranks are no arrangement: the eight classes have the ranks 0 to 7, each once",
         "the table of refusals has no such row",
     ];
     for (number, part) in (1..).zip(parts) {

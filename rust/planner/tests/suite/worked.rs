@@ -47,7 +47,7 @@ fn ring_4() {
     assert_eq!((routers(p), p.size()), (vec![0, 3], 2));
     assert_eq!((routers(extended_p), extended_p.size()), (vec![0, 2, 3], 3));
     assert_eq!((routers(q), q.size()), (vec![1, 2], 2));
-    let pair = Pair { first: 3, endpoint: 2, class: 3, cost: 2 };
+    let pair = Pair { first: 3, endpoint: 2, class: 7, cost: 2 };
     assert_eq!(link_repair(&ring(4)), Ok(pair));
 }
 
@@ -75,14 +75,14 @@ fn ring_4_with_its_prefix() {
 
 #[test]
 fn ring_5() {
-    let pair = Pair { first: 4, endpoint: 2, class: 3, cost: 3 };
+    let pair = Pair { first: 4, endpoint: 2, class: 7, cost: 3 };
     assert_eq!(link_repair(&ring(5)), Ok(pair));
     assert_eq!(route(&with_prefix_at(ring(5), &[1])), [0, 4, 3, 2, 1]);
 }
 
 #[test]
 fn ring_3() {
-    let pair = Pair { first: 2, endpoint: 2, class: 1, cost: 1 };
+    let pair = Pair { first: 2, endpoint: 2, class: 5, cost: 1 };
     assert_eq!(link_repair(&ring(3)), Ok(pair));
     let dear_back = Link { a: 1, b: 2, out: 1, back: 2 };
     assert_eq!(link_repair(&with_link(&ring(3), 1, dear_back)), Err(NO_PAIR));

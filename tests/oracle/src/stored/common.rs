@@ -13,11 +13,12 @@ const SOME_LINKS: [u64; 4] = [0, 1, 64, 127];
 /// And the step from one prefix of a route to the next.
 const SOME_PREFIXES: usize = 16;
 
-/// Ranks by which class 3 comes first, then 2, 0 and 1. Read the other way, as a
-/// map from ranks to classes, both tables are other tables.
-pub const TUNNELS_FIRST: Arrangement = [2, 3, 1, 0];
-/// Ranks by which class 1 comes first, then 3, 2 and 0.
-pub const FARTHER_FIRST: Arrangement = [3, 0, 2, 1];
+/// Ranks by which the classes come in the order 7, 6, 0, 4, 2, 5, 1, 3: for a link,
+/// tunnels first. Read the other way, as a map from ranks to classes, both tables are
+/// other tables, and their two halves put the classes in different orders.
+pub const TUNNELS_FIRST: Arrangement = [2, 6, 4, 7, 3, 5, 1, 0];
+/// Ranks by which the classes come in the order 1, 7, 3, 4, 2, 5, 0, 6.
+pub const FARTHER_FIRST: Arrangement = [6, 0, 4, 2, 3, 5, 7, 1];
 
 /// The network of a file. A refused file counts as one of no router.
 pub fn network(opened: &Opened) -> Network {

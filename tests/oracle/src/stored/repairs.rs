@@ -22,9 +22,9 @@
 //! refusal, 1 for unreachable, 2 for untouched, and 3 + 2^8 * HOP +
 //! 2^16 * ENDPOINT + 2^24 * CLASS + 2^32 * COST for a pair.
 //!
-//! All of these have the ranks 0, 1, 2, 3. After those of a link and an end come
-//! the link repair with the ranks 2, 3, 1, 0 and, if there is a prefix, the sum
-//! of the prefix repairs with the ranks 3, 0, 2, 1:
+//! All of these have the ranks 0, 1, 2, 3, 4, 5, 6, 7. After those of a link and an
+//! end come the link repair with the ranks 2, 6, 4, 7, 3, 5, 1, 0 and, if there is a
+//! prefix, the sum of the prefix repairs with the ranks 6, 0, 4, 2, 3, 5, 7, 1:
 //!
 //! ```text
 //! ranked-link-repair LINK END ANSWER

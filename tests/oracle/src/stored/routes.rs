@@ -10,15 +10,15 @@
 //! Every link and every prefix is asked about if L times the number of prefixes
 //! is at most 2,000, otherwise the links 0, 1, 64 and 127, be they in range or
 //! not, and every 16th prefix from 0 on. The choice strings are those of the
-//! batch, by their numbers 0 to 4. These have the ranks 0, 1, 2, 3. After them
-//! string 3 is asked once more with the ranks 2, 3, 1, 0:
+//! batch, by their numbers 0 to 4. These have the ranks 0, 1, 2, 3, 4, 5, 6, 7. After
+//! them string 3 is asked once more with the ranks 2, 6, 4, 7, 3, 5, 1, 0:
 //!
 //! ```text
 //! ranked-route LINK END PREFIX 3 ANSWER LATER
 //! ```
 //!
 //! At the end come two questions with a route buffer of 2 x N - 1 bytes, the
-//! second with the ranks 0, 1, 2, which are too few, and a question with these
+//! second with the ranks 0, 1, 2, 3, which are too few, and a question with these
 //! ranks and link L, with a line after it that tells of the work area as LATER
 //! does of the route buffer:
 //!

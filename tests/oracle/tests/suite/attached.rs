@@ -3,10 +3,14 @@
 //! noticed on networks made by hand.
 
 use crate::brute::{Brute, own_cost};
-use crate::common::{ask_network, pair, prefix_repair, random_networks, refused, route};
+use crate::common::{
+    ask_network, dearly_attached, link_ends, noticed_by, pair, prefix_repair, refused, route,
+    wrongly,
+};
 use oracle::answer::{Answer, Buffers, Opened, Outcome, Question, ask};
 use oracle::batch::enough;
-use oracle::corpus::{Case, valid_questions};
+use oracle::class::NOT_PROTECTING;
+use oracle::corpus::valid_questions;
 use oracle::fault::{Context, Fault};
 use oracle::file::write;
 use oracle::generate::{self, Family};
@@ -21,11 +25,6 @@ use std::collections::BTreeSet;
 
 /// As it was before attached routers delivered.
 const BEFORE: Fault = Fault::AttachedPassed;
-
-/// The answer of a planner with a fault.
-fn wrongly(fault: Fault, network: &Network, question: &Question) -> Answer {
-    ask(&Context::with(&[fault]), &write(network), question, &enough()).answer
-}
 
 /// The answer for link 0, end 0 and a prefix, and the one of before.
 fn now_and_before(network: &Network, prefix: u64) -> (Answer, Answer) {
@@ -48,7 +47,7 @@ fn ring_4_with_a_dear_attachment() {
     let network = attached_ring_4();
     // Router 3 delivers: it is its own endpoint. Before, a walk from it went on over
     // link 0, and router 2 was the endpoint.
-    assert_eq!(now_and_before(&network, 0), (pair(3, 3, 1, 1), pair(3, 2, 3, 2)));
+    assert_eq!(now_and_before(&network, 0), (pair(3, 3, 1, 1), pair(3, 2, 7, 2)));
     assert_eq!(route(&network, 0, 0, 0, &[]), [0, 3]);
     assert_eq!(wrong_route(BEFORE, &network, &ASCENDING), [0, 3, 2, 1]);
     // As S router 3 is untouched on both sides.
@@ -74,7 +73,7 @@ fn sums_do_not_decide() {
     assert!(walks.avoids(&ctx, 3, &link_end) && !walks.avoids(&ctx, 0, &link_end));
     let question = Question::prefix_repair(0, 0, 0);
     let by_sums = wrongly(Fault::PrefixAvoidedBySums, &network, &question);
-    assert_eq!(by_sums, pair(3, 2, 3, 2));
+    assert_eq!(by_sums, pair(3, 2, 7, 2));
 }
 
 #[test]
@@ -85,10 +84,10 @@ fn an_attached_first_hop_is_its_own_endpoint() {
     let question = Question::prefix_repair(0, 0, 0);
     assert_eq!(wrongly(Fault::DearestDeliversNot, &network, &question), refused(14, 0));
     assert_eq!(wrongly(Fault::DeliveredWhereTight, &network, &question), refused(14, 0));
-    // A tunnel to 3 would go back over 0 and the link.
-    let tunnels = question.with_ranks(&[2, 3, 0, 1]);
+    // A tunnel to 3 would go back over 0 and the link. Tunnels over E come first.
+    let tunnels = question.with_ranks(&[4, 5, 2, 3, 6, 7, 0, 1]);
     assert_eq!(ask_network(&network, &tunnels).answer, pair(2, 2, 1, 1));
-    assert_eq!(wrongly(Fault::TunnelJudgedToAttached, &network, &tunnels), pair(2, 3, 3, 4));
+    assert_eq!(wrongly(Fault::TunnelJudgedToAttached, &network, &tunnels), pair(2, 3, 7, 4));
     // Prefix 1 is attached to S, at the highest cost.
     assert_eq!(now_and_before(&network, 1), (Answer::Untouched, refused(14, 0)));
 }
@@ -96,7 +95,8 @@ fn an_attached_first_hop_is_its_own_endpoint() {
 #[test]
 fn the_far_router_delivers_what_reaches_it_by_another_link() {
     let network = attached_far_end();
-    let same = pair(3, 2, 3, 2);
+    // Delivered at E, or behind it: 4 more than class 3.
+    let same = pair(3, 2, 7, 2);
     for (prefix, now, before) in [
         (0, vec![0, 3, 2, 1], vec![0, 3, 2, 1, 4]),
         (1, vec![0, 3, 2, 1], vec![0, 3, 2, 1]),
@@ -113,8 +113,8 @@ fn the_far_router_delivers_what_reaches_it_by_another_link() {
 #[test]
 fn a_tunnel_passes_an_attached_router() {
     let network = attached_tunnel();
-    assert_eq!(now_and_before(&network, 0), (pair(2, 4, 3, 12), pair(2, 4, 3, 12)));
-    assert_eq!(route(&network, 0, 0, 0, &[]), [0, 2, 3, 4, 1]);
+    assert_eq!(now_and_before(&network, 0), (pair(2, 4, 2, 12), pair(2, 4, 2, 12)));
+    assert_eq!(route(&network, 0, 0, 0, &[]), [0, 2, 3, 4, 5]);
     assert_eq!(wrong_route(Fault::TunnelPlayedToAttached, &network, &ASCENDING), [0, 2, 3]);
 }
 
@@ -122,7 +122,7 @@ fn a_tunnel_passes_an_attached_router() {
 fn an_attached_s_is_untouched() {
     let network = attached_s();
     // At the cost of the way over E, above it, and below it.
-    let repaired = pair(3, 2, 3, 2);
+    let repaired = pair(3, 2, 7, 2);
     assert_eq!(now_and_before(&network, 0), (Answer::Untouched, repaired.clone()));
     assert_eq!(now_and_before(&network, 1), (Answer::Untouched, repaired));
     assert_eq!(now_and_before(&network, 2), (Answer::Untouched, Answer::Untouched));
@@ -134,7 +134,8 @@ fn an_attached_s_is_untouched() {
 #[test]
 fn the_distance_is_not_the_own_cost() {
     let network = attached_class();
-    assert_eq!(now_and_before(&network, 0), (pair(3, 3, 0, 1), pair(3, 3, 0, 1)));
+    // When walks went on from 3 they came to E.
+    assert_eq!(now_and_before(&network, 0), (pair(3, 3, 0, 1), pair(3, 3, 4, 1)));
     assert_eq!(route(&network, 0, 0, 0, &[]), [0, 3]);
     assert_eq!(wrong_route(BEFORE, &network, &ASCENDING), [0, 3, 2, 1]);
     assert_eq!(wrong_route(Fault::AttachedPlayedOn, &network, &ASCENDING), [0, 3, 2, 1]);
@@ -163,31 +164,18 @@ fn crossing_is_looked_for_to_the_end() {
     let network = line_of_4();
     let question = Question::prefix_repair(0, 0, 0);
     assert_eq!(ask_network(&network, &question).answer, refused(14, 0));
-    assert_eq!(wrongly(Fault::CrossingOneHop, &network, &question), pair(2, 2, 1, 1));
-    assert_eq!(wrongly(Fault::CrossingTwoHops, &network, &question), pair(2, 3, 3, 2));
+    assert_eq!(wrongly(Fault::CrossingOneHop, &network, &question), pair(2, 2, 5, 1));
+    assert_eq!(wrongly(Fault::CrossingTwoHops, &network, &question), pair(2, 3, 7, 2));
 }
 
 /// All questions about each network made by hand: each wrong planner answers one
 /// of them otherwise, and no other call than prefix repair and route shows it.
 #[test]
 fn every_wrong_planner_is_noticed_by_hand() {
+    let networks = [attached(), vec![("line", line_of_4())]].concat();
     for fault in Fault::OF_ATTACHED {
-        let ctx = Context::with(&[fault]);
-        let mut by = Vec::new();
-        for (name, network) in attached().into_iter().chain([("line", line_of_4())]) {
-            let case = Case::new(name.to_string(), write(&network), &mut Random::new(1));
-            let sound = case.outcomes(&Context::sound());
-            let asked = case.questions.iter().zip(sound).zip(case.outcomes(&ctx));
-            for (((question, _), sound), wrong) in asked {
-                if sound != wrong {
-                    assert!(about_prefix(question), "{name}: {}: {question:?}", fault.name());
-                    by.push(name);
-                }
-            }
-        }
+        let by = noticed_by(fault, &networks, &about_prefix);
         assert!(!by.is_empty(), "{} is not noticed", fault.name());
-        by.dedup();
-        println!("{} is noticed by {by:?}", fault.name());
     }
 }
 
@@ -200,23 +188,12 @@ fn about_prefix(question: &Question) -> bool {
     matches!(question, Question::PrefixRepair { .. } | Question::Route { .. })
 }
 
-/// Networks with dear attachments, and of every family.
-fn networks(rounds: usize, most_routers: usize, seed: u64) -> Vec<Network> {
-    let mut random = Random::new(seed);
-    let mut networks = random_networks(rounds, most_routers, seed);
-    for _ in 0..4 * rounds {
-        let attached = Family::ATTACHED.iter();
-        networks.extend(attached.map(|f| generate::network(*f, most_routers, &mut random)));
-    }
-    networks
-}
-
 /// The walks of before, by which answers are compared, are those that the lists
 /// of walks have with the meaning of before.
 #[test]
 fn the_walks_of_before_are_listed_too() {
     let ctx = Context::with(&[BEFORE]);
-    for network in networks(4, 6, 101) {
+    for network in dearly_attached(4, 6, 101) {
         let brute = Brute::new(&network);
         let workings = Workings::of(&ctx, network.clone());
         for (link, end) in link_ends(&network) {
@@ -234,16 +211,12 @@ fn the_walks_of_before_are_listed_too() {
     }
 }
 
-fn link_ends(network: &Network) -> impl Iterator<Item = (u64, u64)> {
-    (0..network.links.len() as u64).flat_map(|link| [(link, 0), (link, 1)])
-}
-
 /// Walks only became shorter: each is the beginning of one of before, and where
 /// one of before ended it ends or has ended.
 #[test]
 fn every_walk_is_the_beginning_of_one_of_before() {
     let mut shorter = 0;
-    for network in networks(8, 6, 102) {
+    for network in dearly_attached(8, 6, 102) {
         let brute = Brute::new(&network);
         for prefix in &network.prefixes {
             for x in 0..brute.routers {
@@ -275,13 +248,14 @@ struct Changed {
 }
 
 /// What the new meaning changes: the answers to prefix repairs and routes alone. A
-/// serving pair serves still. S is untouched if it is attached, 14 makes room for a
-/// pair, and a pair for one of the same or a lower rank. The work area is the same.
+/// serving pair serves still, and is node-protecting if it was. S is untouched if it is
+/// attached, 14 makes room for a pair, and a pair, while the ranks ascend, for one of
+/// the same or a lower class. The work area is the same.
 #[test]
 fn what_attached_routers_change() {
     let (sound, base) = (Context::sound(), Context::with(&[BEFORE]));
     let mut changed = Changed::default();
-    for network in networks(16, 8, 103) {
+    for network in dearly_attached(16, 8, 103) {
         let file = write(&network);
         let (now, before) = (Opened::new(&sound, &file), Opened::new(&base, &file));
         let lent = enough();
@@ -329,8 +303,7 @@ impl Changed {
             (Answer::Pair(_), Answer::Refused { number: 14, .. }) => self.repaired += 1,
             (Answer::Count(_), Answer::Refused { number: 14, .. }) => {}
             (Answer::Pair(new), Answer::Pair(old)) if new != old => {
-                let rank = |pair: &Pair| ranks[pair.class as usize];
-                assert!(rank(new) <= rank(old));
+                assert!(ranks != ASCENDING || new.class <= old.class);
                 self.other_pair += 1;
                 self.other_class += usize::from(new.class != old.class);
             }
@@ -358,8 +331,8 @@ fn asked_about(opened: &Opened, question: &Question) -> Option<(LinkEnd, u64)> {
     }
 }
 
-/// A pair that served serves, with the same class and keys; and a first hop that is
-/// attached serves as its own endpoint.
+/// A pair that served serves, with the same class or, where its walks no longer come to
+/// E, with 4 less; and a first hop that is attached serves as its own endpoint.
 fn serving_before_is_serving_now(
     now: &Opened,
     before: &Opened,
@@ -372,12 +345,21 @@ fn serving_before_is_serving_now(
         serving(workings, link_end, workings.to_prefix(prefix), ranks)
     };
     let (now_serving, before_serving) = (all(now), all(before));
-    assert!(before_serving.iter().all(|pair| now_serving.contains(pair)));
+    for before in before_serving {
+        let same = |now: &&Candidate| without_four(&now.pair) == without_four(&before.pair);
+        let now = now_serving.iter().find(same).expect("it serves still");
+        assert!(now.pair.class <= before.pair.class);
+    }
     let walks: &Walks = now.workings().to_prefix(prefix);
     for n in oracle::space::first_hops(now.workings(), link_end) {
         let own = now_serving.iter().any(|c| (c.pair.first_hop, c.pair.endpoint) == (n, n));
         assert!(own || !walks.delivers(n));
     }
+}
+
+/// The pair with its class of before there was node protection.
+fn without_four(pair: &Pair) -> Pair {
+    Pair { class: pair.class % NOT_PROTECTING, ..*pair }
 }
 
 /// Where no tight step leaves an attached router every answer stays.

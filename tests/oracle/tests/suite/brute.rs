@@ -136,6 +136,11 @@ impl Brute {
         walks.iter().any(|walk| walk.windows(2).any(|hop| hop == [s, e]))
     }
 
+    /// Whether one of these walks visits a router; its start and its end count.
+    pub fn visit(walks: &[Walk], router: usize) -> bool {
+        walks.iter().any(|walk| walk.contains(&router))
+    }
+
     /// S's neighbours other than E to which the cost from S is below 65,535.
     pub fn first_hops(&self, s: usize, e: usize) -> Vec<usize> {
         let in_use = |n: &usize| self.cost[s][*n].is_some_and(|cost| cost < 65_535);

@@ -93,6 +93,18 @@ fn the_networks_worked_by_hand_are_stored() {
         ("attached_s", attached_s()),
         ("attached_class", attached_class()),
         ("attached_everywhere", attached_everywhere()),
+        ("node_eight_classes", node_eight_classes()),
+        ("node_farther_neighbour", node_farther_neighbour()),
+        ("node_ring_4", node_ring_4()),
+        ("node_tunnel", node_tunnel()),
+        ("node_second_leg", node_second_leg()),
+        ("node_attached", node_attached()),
+        ("node_neighbours", node_neighbours(1)),
+        ("node_neighbours_far", node_neighbours(3)),
+        ("node_tunnel_or_neighbour", node_tunnel_or_neighbour()),
+        ("node_not_touched", node_not_touched()),
+        ("node_ring_6_cost_3", node_ring_6(3)),
+        ("node_ring_6_cost_5", node_ring_6(5)),
     ];
     let cases = stored_cases();
     for (name, network) in stored {

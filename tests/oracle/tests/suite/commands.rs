@@ -72,7 +72,7 @@ fn questions() {
     assert_eq!(asks(&["extended-p", "0", "0"]), "set 13 size 3 routers 0 2 3\n");
     assert_eq!(asks(&["q", "0", "0"]), "set 6 size 2 routers 1 2\n");
     assert_eq!(asks(&["size", "13"]), "size 3\n");
-    assert_eq!(asks(&["link-repair", "0", "0"]), "hop 3 endpoint 2 class 3 cost 2\n");
+    assert_eq!(asks(&["link-repair", "0", "0"]), "hop 3 endpoint 2 class 7 cost 2\n");
     assert_eq!(asks(&["prefix-repair", "0", "0", "0"]), "hop 3 endpoint 3 class 1 cost 1\n");
     assert_eq!(asks(&["prefix-repair", "1", "1", "0"]), "untouched\n");
     assert_eq!(asks(&["route", "0", "0", "0", "7", "255"]), "count 3 route 0 3 2\n");
@@ -84,16 +84,18 @@ fn ranks() {
     let file = write(&ring_4_with_prefix());
     let asks = |ranks, words: &[&str]| prints(&[&["--ranks", ranks, "ask"], words].concat(), &file);
     let prefix = ["prefix-repair", "0", "0", "0"];
-    assert_eq!(asks("0,1,2,3", &prefix), "hop 3 endpoint 3 class 1 cost 1\n");
-    assert_eq!(asks("2,3,0,1", &prefix), "hop 3 endpoint 2 class 2 cost 2\n");
-    assert_eq!(asks("0,1,2,2", &prefix), "refused 15 0\n");
-    assert_eq!(asks("0,1,2,3,255", &["link-repair", "9", "9"]), "refused 15 0\n");
+    assert_eq!(asks("0,1,2,3,4,5,6,7", &prefix), "hop 3 endpoint 3 class 1 cost 1\n");
+    assert_eq!(asks("2,3,0,1,4,5,6,7", &prefix), "hop 3 endpoint 2 class 2 cost 2\n");
+    assert_eq!(asks("0,1,2,3,4,5,6,6", &prefix), "refused 15 0\n");
+    // Four ranks were enough before there was node protection.
+    assert_eq!(asks("0,1,2,3", &prefix), "refused 15 0\n");
+    assert_eq!(asks("0,1,2,3,4,5,6,7,255", &["link-repair", "9", "9"]), "refused 15 0\n");
     assert_eq!(asks("0", &["route", "0", "0", "0"]), "refused 15 0\n");
     // Spaces take no ranks.
     assert_eq!(asks("0", &["p", "0", "0"]), "set 9 size 2 routers 0 3\n");
-    let batch = prints(&["--ranks", "2,3,0,1", "batch", "prefixes"], &file);
+    let batch = prints(&["--ranks", "2,3,0,1,4,5,6,7", "batch", "prefixes"], &file);
     assert!(batch.starts_with("prefix-repair 0 0 0 pair 3 2 2 2\n"));
-    for wrong in ["0,1,2,256", "0,1,,3", "0 1 2 3", ""] {
+    for wrong in ["0,1,2,3,4,5,6,256", "0,1,2,3,4,5,,7", "0 1 2 3 4 5 6 7", ""] {
         let said = fails(&["--ranks", wrong, "ask", "load"], &file);
         assert!(said.contains("is no number from 0 to 255"), "{said}");
     }
@@ -121,7 +123,7 @@ fn batches() {
         "link-entry 4 empty",
         "row 3 1 2 1 0",
         "extended-p 0 0 set 13",
-        "link-repair 0 0 pair 3 2 3 2",
+        "link-repair 0 0 pair 3 2 7 2",
         "link-repair 0 2 refused 12 4",
         "prefix-repair 0 0 0 pair 3 3 1 1",
         "prefix-repair 0 0 1 refused 13 1",

@@ -1,8 +1,9 @@
 //! What several tests share.
 
 use oracle::answer::{Answer, Outcome, Question, ask};
-use oracle::corpus::marked;
-use oracle::fault::Context;
+use oracle::batch::enough;
+use oracle::corpus::{Case, marked};
+use oracle::fault::{Context, Fault};
 use oracle::file::write;
 use oracle::generate::{Family, network};
 use oracle::network::Network;
@@ -17,6 +18,34 @@ pub fn ask_network(network: &Network, question: &Question) -> Outcome {
     let routers = usize::from(network.routers);
     let lent = marked(routers * routers, 2 * routers);
     ask(&Context::sound(), &write(network), question, &lent)
+}
+
+/// The answer of a planner with a fault, with buffers that are enough.
+pub fn wrongly(fault: Fault, network: &Network, question: &Question) -> Answer {
+    ask(&Context::with(&[fault]), &write(network), question, &enough()).answer
+}
+
+/// The networks, by name, about which a planner with a fault answers some question
+/// otherwise. No other question shows the fault than those that may.
+pub fn noticed_by(
+    fault: Fault,
+    networks: &[(&'static str, Network)],
+    may_show: &dyn Fn(&Question) -> bool,
+) -> Vec<&'static str> {
+    let ctx = Context::with(&[fault]);
+    let shows = |(name, network): &&(&'static str, Network)| {
+        let case = Case::new(name.to_string(), write(network), &mut Random::new(1));
+        let sound = case.outcomes(&Context::sound());
+        let asked = case.questions.iter().zip(sound).zip(case.outcomes(&ctx));
+        let differing = asked.filter(|((_, sound), wrong)| sound != wrong);
+        let questions: Vec<&Question> = differing.map(|(((question, _), _), _)| question).collect();
+        let other = questions.iter().find(|question| !may_show(question));
+        assert!(other.is_none(), "{name}: {}: {other:?}", fault.name());
+        !questions.is_empty()
+    };
+    let by: Vec<&str> = networks.iter().filter(shows).map(|(name, _)| *name).collect();
+    println!("{} is noticed by {by:?}", fault.name());
+    by
 }
 
 /// The answer of the load call.
@@ -67,6 +96,22 @@ pub fn random_networks(rounds: usize, most_routers: usize, seed: u64) -> Vec<Net
     let mut random = Random::new(seed);
     let families = (0..rounds).flat_map(|_| Family::ALL);
     families.map(|family| network(*family, most_routers, &mut random)).collect()
+}
+
+/// Random networks of every family, and four times as many with dear attachments.
+pub fn dearly_attached(rounds: usize, most_routers: usize, seed: u64) -> Vec<Network> {
+    let mut random = Random::new(seed);
+    let mut networks = random_networks(rounds, most_routers, seed);
+    for _ in 0..4 * rounds {
+        let attached = Family::ATTACHED.iter();
+        networks.extend(attached.map(|family| network(*family, most_routers, &mut random)));
+    }
+    networks
+}
+
+/// Every link and end of a network.
+pub fn link_ends(network: &Network) -> impl Iterator<Item = (u64, u64)> {
+    (0..network.links.len() as u64).flat_map(|link| [(link, 0), (link, 1)])
 }
 
 /// The stored texts of the repository.

@@ -3,8 +3,8 @@
 use oracle::answer::{Answer, Opened, Question, inputs};
 use oracle::corpus;
 use oracle::fault::{Context, Fault};
-use oracle::ranks::{Arrangement, arrangement_of, deciding, decisions};
-use oracle::repair::{deciding_key, serving};
+use oracle::ranks::{Decision, deciding, decisions};
+use oracle::repair::{asked_about, deciding_key, serving};
 use oracle::row::{Cause, Inputs};
 use oracle::space::Space;
 use oracle::walk::Move;
@@ -30,25 +30,26 @@ fn the_corpus_meets_everything() {
                 met.insert("a router decided by E to S alone".to_string());
             }
             if let Answer::Pair(pair) = outcome.answer {
-                met.insert(format!("class {}", pair.class));
+                met.insert(class(question, pair.class));
                 met.extend(key_of(&opened, question));
-                let rank = deciding(&opened, question, lent, &pair);
-                met.extend(arrangement_of(question).zip(rank).map(decision));
+                let decided = deciding(&opened, question, lent, &pair);
+                met.extend(decided.into_iter().flat_map(|decided| decision(question, decided)));
             }
         }
         if opened.refusal(&Inputs::default()).is_none() {
             met.extend(delivered(&opened));
         }
     }
-    for expected in everything() {
-        assert!(met.contains(&expected), "the corpus does not meet: {expected}");
-    }
+    let missing: Vec<String> = everything().into_iter().filter(|it| !met.contains(it)).collect();
+    assert!(missing.is_empty(), "the corpus does not meet: {missing:#?}");
 }
 
 /// All that the corpus has to meet.
 fn everything() -> Vec<String> {
     let causes = Cause::ALL.iter().map(|cause| format!("{cause:?}"));
-    let classes = (0..4).map(|class| format!("class {class}"));
+    let (link, prefix) = (Question::link_repair(0, 0), Question::prefix_repair(0, 0, 0));
+    let classes = (4..8).map(|number| class(&link, number));
+    let classes = classes.chain((0..8).map(|number| class(&prefix, number)));
     let keys = (1..=5).map(|key| format!("key {key}"));
     let kinds = [
         "accepted",
@@ -70,7 +71,9 @@ fn everything() -> Vec<String> {
     ];
     let kinds = kinds.into_iter().map(str::to_string);
     let kinds = kinds.chain(Cause::OF_NETWORKS.map(outside_by));
-    let decisions = decisions().map(decision);
+    let of_link = decisions(4..8).into_iter().flat_map(|decided| decision(&link, decided));
+    let of_prefix = decisions(0..8).into_iter().flat_map(|decided| decision(&prefix, decided));
+    let decisions = of_link.chain(of_prefix);
     causes.chain(classes).chain(keys).chain(kinds).chain(decisions).collect()
 }
 
@@ -107,26 +110,28 @@ fn outside_by(cause: Cause) -> String {
     format!("a network outside the limits by {cause:?}")
 }
 
-fn decision((ranks, rank): (Arrangement, u8)) -> String {
-    format!("ranks {ranks:?} decide between {rank} and {}", rank + 1)
+fn call(question: &Question) -> &'static str {
+    if matches!(question, Question::LinkRepair { .. }) { "link repair" } else { "prefix repair" }
+}
+
+fn class(question: &Question, class: u32) -> String {
+    format!("{}: class {class}", call(question))
+}
+
+/// What is met of a decision: its two classes, and its first class with its rank.
+fn decision(question: &Question, Decision { first, next, rank }: Decision) -> [String; 2] {
+    let call = call(question);
+    [
+        format!("{call}: class {first} comes before class {next}"),
+        format!("{call}: class {first} comes first by rank {rank}"),
+    ]
 }
 
 /// The key that decided between the first two serving pairs.
 fn key_of(opened: &Opened, question: &Question) -> Option<String> {
     let workings = opened.workings();
-    let ends = |link, end| workings.network.link_end(&workings.ctx, link, end);
-    let ranks = question.ranks()?;
-    let (link_end, target) = match question {
-        Question::LinkRepair { link, end, .. } => {
-            let link_end = ends(*link, *end)?;
-            (link_end, workings.to_router(link_end.e))
-        }
-        Question::PrefixRepair { link, end, prefix, .. } => {
-            (ends(*link, *end)?, workings.to_prefix(*prefix))
-        }
-        _ => return None,
-    };
-    let key = deciding_key(&serving(workings, &link_end, target, ranks))?;
+    let (link_end, target) = asked_about(workings, question)?;
+    let key = deciding_key(&serving(workings, &link_end, target, question.ranks()?))?;
     Some(format!("key {key}"))
 }
 

@@ -173,6 +173,9 @@ wrong-link-ranks 5 refused 15 0
 wrong-link-ranks 6 refused 15 0
 wrong-link-ranks 7 refused 15 0
 wrong-link-ranks 8 refused 15 0
+wrong-link-ranks 9 refused 15 0
+wrong-link-ranks 10 refused 15 0
+wrong-link-ranks 11 refused 15 0
 wrong-prefix-ranks 1 refused 15 0
 ";
     assert_eq!(prints("repairs", &write(&network)), expected);
@@ -181,7 +184,7 @@ wrong-prefix-ranks 1 refused 15 0
 #[test]
 fn the_section_of_repairs_for_one_router_and_for_a_refused_file() {
     for (file, answer, ranked, of_ranks) in [
-        (write(&lone_router()), " refused 12 0", 10, " refused 15 0"),
+        (write(&lone_router()), " refused 12 0", 13, " refused 15 0"),
         (vec![], " refused 1 0", 1, " refused 1 0"),
     ] {
         let text = prints("repairs", &file);
@@ -251,11 +254,11 @@ fn the_number_of_lines_of_each_network() {
         let network = load(&Context::sound(), &case.file).expect("accepted");
         let (links, prefixes) = (network.links.len(), network.prefixes.len());
         let (repairs, routes) = match case.name.as_str() {
-            "largest" => (128 * 2 * 7 + 21, 4 * 2 * 8 * 6 + 4),
-            "ring_64" | "line_64_costs_65535" => (links * 2 * 7 + 21, 4 * 2 * 2 * 6 + 4),
+            "largest" => (128 * 2 * 7 + 24, 4 * 2 * 8 * 6 + 4),
+            "ring_64" | "line_64_costs_65535" => (links * 2 * 7 + 24, 4 * 2 * 2 * 6 + 4),
             _ => {
                 let sum = usize::from(prefixes > 0);
-                (links * 2 * (5 + prefixes + sum) + 21, links * 2 * prefixes * 6 + 4)
+                (links * 2 * (5 + prefixes + sum) + 24, links * 2 * prefixes * 6 + 4)
             }
         };
         assert_eq!(prints("repairs", &case.file).lines().count(), repairs, "{}", case.name);
@@ -276,13 +279,13 @@ fn lines_known_by_hand() {
         ("ring_4", "repairs", "p 0 0 set 9"),
         ("ring_4", "repairs", "extended-p 0 0 set 13"),
         ("ring_4", "repairs", "q 0 0 set 6"),
-        ("ring_4", "repairs", "link-repair 0 0 pair 3 2 3 2"),
+        ("ring_4", "repairs", "link-repair 0 0 pair 3 2 7 2"),
         ("ring_4_prefix", "repairs", "prefix-repair 0 0 0 pair 3 3 1 1"),
         ("ring_4_prefix", "repairs", "prefix-repair 1 1 0 untouched"),
         ("ring_4_prefix", "routes", "route 0 0 0 0 count 3 route 0 3 2 kept"),
-        ("ring_5", "repairs", "link-repair 0 0 pair 4 2 3 3"),
+        ("ring_5", "repairs", "link-repair 0 0 pair 4 2 7 3"),
         ("ring_5_prefix", "routes", "route 0 0 0 0 count 5 route 0 4 3 2 1 kept"),
-        ("ring_3", "repairs", "link-repair 0 0 pair 2 2 1 1"),
+        ("ring_3", "repairs", "link-repair 0 0 pair 2 2 5 1"),
         ("ring_3_dear_back", "repairs", "link-repair 0 0 refused 14 0"),
         ("ring_4_dear_link", "repairs", "link-repair 0 0 refused 14 0"),
         ("two_routers", "repairs", "link-repair 0 0 refused 14 0"),
@@ -290,22 +293,22 @@ fn lines_known_by_hand() {
         ("source_000_figure_1", "repairs", "p 0 0 set 7"),
         ("source_000_figure_1", "repairs", "extended-p 0 0 set 15"),
         ("source_000_figure_1", "repairs", "q 0 0 set 56"),
-        ("source_000_figure_1", "repairs", "link-repair 0 0 pair 1 3 3 3"),
+        ("source_000_figure_1", "repairs", "link-repair 0 0 pair 1 3 7 3"),
         ("source_000_figure_1_dear", "repairs", "link-repair 0 0 refused 14 0"),
         // PE1 chooses P1 through PE2, and PE2 chooses P2 through PE1.
-        ("source_000_figure_3", "repairs", "link-repair 0 0 pair 1 2 2 1005"),
-        ("source_000_figure_3", "repairs", "link-repair 1 0 pair 0 3 2 1005"),
+        ("source_000_figure_3", "repairs", "link-repair 0 0 pair 1 2 6 1005"),
+        ("source_000_figure_3", "repairs", "link-repair 1 0 pair 0 3 6 1005"),
         // R2 is the only endpoint; with the link N-E the neighbour N repairs.
-        ("source_001_figure_1", "repairs", "link-repair 0 0 pair 1 3 3 3"),
+        ("source_001_figure_1", "repairs", "link-repair 0 0 pair 1 3 7 3"),
         ("source_001_figure_1", "routes", "route 0 0 2 0 count 7 route 0 1 2 3 4 5 6 kept"),
         ("source_001_figure_1", "routes", "route 0 0 3 0 count 6 route 0 1 2 3 4 7 kept"),
-        ("source_001_figure_2", "repairs", "link-repair 0 0 pair 1 1 1 1"),
+        ("source_001_figure_2", "repairs", "link-repair 0 0 pair 1 1 5 1"),
         // C protects the link S-E, and A is the better one for the prefix.
-        ("source_002_figure_3", "repairs", "link-repair 0 0 pair 4 4 1 5"),
+        ("source_002_figure_3", "repairs", "link-repair 0 0 pair 4 4 5 5"),
         ("source_002_figure_3", "repairs", "prefix-repair 0 0 0 pair 3 3 0 8"),
         // N1 protects S-E and N2 protects S-F; for the prefix F and E do better.
-        ("source_002_figure_4", "repairs", "link-repair 0 0 pair 3 3 1 10"),
-        ("source_002_figure_4", "repairs", "link-repair 1 0 pair 4 4 1 10"),
+        ("source_002_figure_4", "repairs", "link-repair 0 0 pair 3 3 5 10"),
+        ("source_002_figure_4", "repairs", "link-repair 1 0 pair 4 4 5 10"),
         ("source_002_figure_4", "repairs", "prefix-repair 0 0 0 pair 2 2 0 10"),
         ("source_002_figure_4", "repairs", "prefix-repair 1 0 0 pair 1 1 0 10"),
         // N2 is loop-free for D1.
@@ -317,11 +320,11 @@ fn lines_known_by_hand() {
         ("line_64_costs_65535", "repairs", "prefix-repairs 0 1 15085114137083345984"),
         ("line_64_costs_65535", "repairs", "prefix-repair 63 0 0 refused 12 63"),
         // Q holds the routers from 1 to 32, extended P those from 32 on and 0.
-        ("ring_64", "repairs", "link-repair 0 0 pair 63 32 3 32"),
+        ("ring_64", "repairs", "link-repair 0 0 pair 63 32 7 32"),
         ("there_and_back", "repairs", "prefix-repair 0 0 0 pair 2 4 3 15"),
         ("there_and_back", "routes", "route 0 0 0 4 count 5 route 0 2 3 4 3 kept"),
         // Three hops away from S along the ring, two from E.
-        ("ring_6_costs_65534", "repairs", "link-repair 0 0 pair 5 3 3 196602"),
+        ("ring_6_costs_65534", "repairs", "link-repair 0 0 pair 5 3 7 196602"),
         // Every link is under maintenance: no first hop. P and Q are the same.
         ("ring_6_costs_65535", "repairs", "p 0 0 set 49"),
         ("ring_6_costs_65535", "repairs", "extended-p 0 0 set 0"),
@@ -334,33 +337,64 @@ fn lines_known_by_hand() {
         ("maintenance_first_hops", "repairs", "extended-p 0 0 set 0"),
         ("maintenance_first_hops", "repairs", "link-repair 0 0 refused 14 0"),
         ("maintenance_first_hops", "repairs", "prefix-repair 0 0 0 refused 14 0"),
-        ("maintenance_first_hops", "repairs", "link-repair 0 1 pair 4 2 3 2"),
+        ("maintenance_first_hops", "repairs", "link-repair 0 1 pair 4 2 7 2"),
         // The tunnel goes over link 3.
-        ("maintenance_tunnel", "repairs", "link-repair 0 0 pair 5 3 2 65537"),
+        ("maintenance_tunnel", "repairs", "link-repair 0 0 pair 5 3 6 65537"),
         ("maintenance_tunnel", "repairs", "link-repair 4 0 refused 14 0"),
         ("maintenance_tunnel", "routes", "route 0 0 0 0 count 6 route 0 5 4 3 2 1 kept"),
         // Link 0 is repaired, but starts no repair.
-        ("maintenance_protected_link", "repairs", "link-repair 0 0 pair 3 3 0 30000"),
-        ("maintenance_protected_link", "repairs", "prefix-repair 0 0 0 pair 3 3 0 30000"),
-        ("maintenance_protected_link", "repairs", "link-repair 3 0 pair 2 1 3 60000"),
+        ("maintenance_protected_link", "repairs", "link-repair 0 0 pair 3 3 4 30000"),
+        ("maintenance_protected_link", "repairs", "prefix-repair 0 0 0 pair 3 3 4 30000"),
+        ("maintenance_protected_link", "repairs", "link-repair 3 0 pair 2 1 7 60000"),
         ("maintenance_protected_link", "repairs", "link-repair 3 1 refused 14 0"),
         // P {0, 2}, extended P {0, 2, 5}, Q {1, 4, 5}.
         ("maintenance_extended_p", "repairs", "p 0 0 set 5"),
         ("maintenance_extended_p", "repairs", "extended-p 0 0 set 37"),
         ("maintenance_extended_p", "repairs", "q 0 0 set 50"),
-        ("maintenance_extended_p", "repairs", "link-repair 0 0 pair 2 5 3 3"),
-        ("maintenance_extended_p", "repairs", "prefix-repair 0 0 0 pair 2 5 3 3"),
-        // Class 0 first, then with other ranks class 3, and for the prefix class 1:
-        // 3 + 2^8 * 3 + 2^16 * 3 + 2^24 + 2^32 * 3.
-        ("four_classes", "repairs", "link-repair 0 0 pair 2 2 0 3"),
-        ("four_classes", "repairs", "ranked-link-repair 0 0 pair 2 3 3 9"),
-        ("four_classes", "repairs", "prefix-repair 0 0 0 pair 2 2 0 3"),
-        ("four_classes", "repairs", "ranked-prefix-repairs 0 0 12901876483"),
+        ("maintenance_extended_p", "repairs", "link-repair 0 0 pair 2 5 7 3"),
+        ("maintenance_extended_p", "repairs", "prefix-repair 0 0 0 pair 2 5 7 3"),
+        // Class 4 first, then with other ranks class 7, and for the prefix, which is at
+        // E, too: 3 + 2^8 * 2 + 2^16 * 3 + 2^24 * 7 + 2^32 * 9.
+        ("four_classes", "repairs", "link-repair 0 0 pair 2 2 4 3"),
+        ("four_classes", "repairs", "ranked-link-repair 0 0 pair 2 3 7 9"),
+        ("four_classes", "repairs", "prefix-repair 0 0 0 pair 2 2 4 3"),
+        ("four_classes", "repairs", "ranked-prefix-repairs 0 0 38772343299"),
         ("four_classes", "routes", "route 0 0 0 3 count 3 route 0 2 1 kept"),
         ("four_classes", "routes", "ranked-route 0 0 0 3 count 5 route 0 2 0 3 1 kept"),
-        // The ranks prefer class 3, but there is none: then 2, and then 0.
-        ("neighbours_only", "repairs", "ranked-link-repair 0 0 pair 2 2 0 1"),
-        ("ring_3_dear_link", "repairs", "ranked-link-repair 0 0 pair 2 2 0 1"),
+        // The ranks prefer class 7, but there is none: then 6, and then 4.
+        ("neighbours_only", "repairs", "ranked-link-repair 0 0 pair 2 2 4 1"),
+        ("ring_3_dear_link", "repairs", "ranked-link-repair 0 0 pair 2 2 4 1"),
+        // Each of the eight classes has a pair. Ascending, then class 1 first:
+        // 3 + 2^8 * 3 + 2^16 * 3 + 2^24 + 2^32 * 3. The route has class 7 first.
+        ("node_eight_classes", "repairs", "prefix-repair 0 0 0 pair 2 2 0 3"),
+        ("node_eight_classes", "repairs", "ranked-prefix-repairs 0 0 12901876483"),
+        ("node_eight_classes", "routes", "route 0 0 0 0 count 3 route 0 2 6 kept"),
+        ("node_eight_classes", "routes", "ranked-route 0 0 0 3 count 6 route 0 2 0 5 1 6 kept"),
+        // The farther neighbour does without E.
+        ("node_farther_neighbour", "repairs", "prefix-repair 0 0 0 pair 3 3 1 2"),
+        ("node_farther_neighbour", "routes", "route 0 0 0 0 count 3 route 0 3 4 kept"),
+        // Delivered at E, at 2, at 2 though it is dear, and at 3.
+        ("node_ring_4", "repairs", "prefix-repair 0 0 0 pair 3 2 7 2"),
+        ("node_ring_4", "repairs", "prefix-repair 0 0 1 pair 3 3 1 1"),
+        ("node_ring_4", "repairs", "prefix-repair 0 0 2 pair 3 2 3 2"),
+        ("node_ring_4", "repairs", "prefix-repair 0 0 3 pair 3 3 1 1"),
+        // One of two equal ways passes E: of the tunnel, of the second leg.
+        ("node_tunnel", "repairs", "prefix-repair 0 0 0 pair 1 2 3 3"),
+        ("node_second_leg", "repairs", "prefix-repair 0 0 0 pair 1 2 2 2"),
+        ("node_second_leg", "repairs", "prefix-repair 0 0 1 pair 1 1 5 1"),
+        // Router 3 delivers before E.
+        ("node_attached", "repairs", "prefix-repair 0 0 0 pair 2 2 0 5"),
+        ("node_attached", "routes", "route 0 0 0 0 count 3 route 0 2 3 kept"),
+        ("node_ring_6_cost_5", "repairs", "prefix-repair 0 0 0 pair 5 5 4 1"),
+        ("node_ring_6_cost_5", "repairs", "prefix-repair 0 0 1 pair 5 5 0 1"),
+        ("node_ring_6_cost_3", "repairs", "prefix-repair 0 0 0 pair 5 3 6 3"),
+        ("node_ring_6_cost_3", "repairs", "prefix-repair 0 0 1 pair 5 4 3 2"),
+        // A neighbour that delivers itself, and a tunnel to a router that does.
+        ("node_neighbours", "repairs", "prefix-repair 0 0 1 pair 3 3 1 1"),
+        ("node_neighbours_far", "repairs", "prefix-repair 0 0 0 pair 2 2 1 1"),
+        ("node_tunnel_or_neighbour", "repairs", "prefix-repair 0 0 0 pair 2 3 3 7"),
+        // The packet visits E over another link.
+        ("node_not_touched", "repairs", "prefix-repair 0 0 0 untouched"),
         // From 4 on every step leads right or down, the lower number first.
         ("grid", "routes", "route 0 0 0 0 count 7 route 0 4 5 6 7 11 15 kept"),
         ("grid", "routes", "route 0 0 0 1 count 7 route 0 4 8 9 10 11 15 kept"),
@@ -387,7 +421,7 @@ fn what_plan_prints() {
     let plan = program("plan");
     let chosen = plan.chosen(&cases).expect("an example");
     assert_eq!(plan.input(&chosen), Ok(write(&ring_4_with_prefix())));
-    assert!(plan.output(&Context::sound(), &chosen).starts_with("plan 4 4 1\n0 0 0 1 3 2 3 2\n"));
+    assert!(plan.output(&Context::sound(), &chosen).starts_with("plan 4 4 1\n0 0 0 1 3 2 7 2\n"));
 }
 
 /// Two lines of the drills by hand, and the requests as they are read.
@@ -419,7 +453,7 @@ fn what_stored_drills_prints() {
 
 /// Faults that no section and no stored plan shows: none asks for what they
 /// change.
-const NOT_SHOWN: [Fault; 7] = [
+const NOT_SHOWN: [Fault; 8] = [
     // No section prints the work area after a repair call that is not refused.
     Fault::UntouchedLeavesWorkArea,
     Fault::FourteenLeavesWorkArea,
@@ -431,6 +465,8 @@ const NOT_SHOWN: [Fault; 7] = [
     Fault::PlanDescending,
     // None lends a work area and a route buffer that are both too short.
     Fault::RowsSwapped(10),
+    // No call shows it.
+    Fault::StartNotVisited,
 ];
 
 #[test]

@@ -24,7 +24,7 @@ fn figure_1_of_remote_lfa() {
     let q = set(&[C, D, E]);
     assert_eq!(spaces(&network, 0, 0), [p, extended_p, q]);
     // The single router in both is C, reached through A.
-    assert_eq!(link_repair(&network, 0, 0), pair(A as usize, C as usize, 3, 3));
+    assert_eq!(link_repair(&network, 0, 0), pair(A as usize, C as usize, 7, 3));
 }
 
 #[test]
@@ -36,11 +36,11 @@ fn figure_1_with_b_to_c_at_4_has_no_repair() {
 fn figure_1_to_destinations() {
     // "C is an ECMP from S, and so can be protected": A is a loop-free
     // alternate for C. D and E need the tunnel to C; C is nearer to D than S
-    // is, and farther from E.
+    // is, and farther from E. Only what goes to E itself needs E.
     let network = figure_1(1).prefix(&[(3, 0)]).prefix(&[(4, 0)]).prefix(&[(5, 0)]);
     assert_eq!(prefix_repair(&network, 0, 0, 0), pair(1, 1, 0, 1));
     assert_eq!(prefix_repair(&network, 0, 0, 1), pair(1, 3, 2, 3));
-    assert_eq!(prefix_repair(&network, 0, 0, 2), pair(1, 3, 3, 3));
+    assert_eq!(prefix_repair(&network, 0, 0, 2), pair(1, 3, 7, 3));
 }
 
 // Routers of the topologies of node protection.
@@ -58,13 +58,13 @@ fn topology_1_of_node_protection() {
     let [_, extended_p, q] = spaces(&network, 0, 0);
     assert_eq!(extended_p, set(&[0, 1, 2, 3]));
     assert_eq!(q, set(&[3, 4, 5, 6, 7]));
-    assert_eq!(link_repair(&network, 0, 0), pair(N, R2, 3, 3));
+    assert_eq!(link_repair(&network, 0, 0), pair(N, R2, 7, 3));
     // Table 1: the remote repair paths through R2. R2 is nearer than S to R3
-    // and D2, and farther from E and D1.
+    // and D2, and farther from E and D1, to which every path visits E.
     let table = [
         (PREFIX_R3, 2, vec![0, 1, 2, 3, 4]),
-        (PREFIX_E, 3, vec![0, 1, 2, 3, 4, 5]),
-        (PREFIX_D1, 3, vec![0, 1, 2, 3, 4, 5, 6]),
+        (PREFIX_E, 7, vec![0, 1, 2, 3, 4, 5]),
+        (PREFIX_D1, 7, vec![0, 1, 2, 3, 4, 5, 6]),
         (PREFIX_D2, 2, vec![0, 1, 2, 3, 4, 7]),
     ];
     for (prefix, class, path) in table {
@@ -83,5 +83,15 @@ fn topology_2_of_node_protection() {
     };
     assert_eq!(extended_p & q & (1 << 4), 1 << 4);
     // N itself is now as near to E as S, so it is the repair.
-    assert_eq!(link_repair(&network, 0, 0), pair(N, N, 1, 1));
+    assert_eq!(link_repair(&network, 0, 0), pair(N, N, 5, 1));
+    // From N the paths to R3 and D2 visit E; those through R2 do not, and R2 is nearer
+    // than S. To E and D1 no path does without E.
+    for (prefix, repair) in [
+        (PREFIX_R3, pair(N, R2, 2, 3)),
+        (PREFIX_E, pair(N, N, 5, 1)),
+        (PREFIX_D1, pair(N, N, 5, 1)),
+        (PREFIX_D2, pair(N, R2, 2, 3)),
+    ] {
+        assert_eq!(prefix_repair(&network, 0, 0, prefix), repair);
+    }
 }

@@ -13,14 +13,14 @@ fn plan(file: &[u8]) -> String {
 fn ring_4_with_its_prefix_whole() {
     let expected = "\
 plan 4 4 1
-0 0 0 1 3 2 3 2
-0 1 1 0 2 3 3 2
-1 0 1 2 0 3 3 2
-1 1 2 1 3 0 3 2
-2 0 2 3 1 0 3 2
-2 1 3 2 0 1 3 2
-3 0 3 0 2 1 3 2
-3 1 0 3 1 2 3 2
+0 0 0 1 3 2 7 2
+0 1 1 0 2 3 7 2
+1 0 1 2 0 3 7 2
+1 1 2 1 3 0 7 2
+2 0 2 3 1 0 7 2
+2 1 3 2 0 1 7 2
+3 0 3 0 2 1 7 2
+3 1 0 3 1 2 7 2
 ";
     assert_eq!(plan(&write(&ring_4_with_prefix())), expected);
 }

@@ -1,57 +1,33 @@
-//! Ranks: the rank of a pair's class is the first key, and a table that is no
-//! arrangement of 0, 1, 2 and 3 is refused as 15.
+//! Ranks: the rank of a pair's class is the first key.
 
-use crate::common::{ask_network, pair, random_networks, refused, route};
-use oracle::answer::{Answer, Opened, Question, ask};
+use crate::common::{ask_network, noticed_by, pair, random_networks, route, wrongly};
+use oracle::answer::{Answer, Opened, Question};
 use oracle::batch::enough;
-use oracle::corpus::{Case, marked};
-use oracle::fault::{Context, Fault, Limit};
+use oracle::fault::{Context, Fault};
 use oracle::file::write;
 use oracle::network::Network;
 use oracle::random::Random;
-use oracle::ranks::{ASCENDING, Arrangement, WRONG, arrangements, exchanged, wrong_tables};
-use oracle::row::Cause;
+use oracle::ranks::{ASCENDING, Arrangement, arrangements, random_tables};
 use oracle::worked::*;
-use std::collections::BTreeSet;
-
-#[test]
-fn there_are_24_arrangements() {
-    let all = arrangements();
-    assert_eq!((all.len(), all[0], all[23]), (24, ASCENDING, [3, 2, 1, 0]));
-    let different: BTreeSet<Arrangement> = all.iter().copied().collect();
-    assert_eq!(different.len(), 24);
-    assert_eq!(exchanged(&[2, 3, 1, 0], 0), [2, 3, 0, 1]);
-    assert_eq!(exchanged(&[2, 3, 1, 0], 2), [3, 2, 1, 0]);
-}
-
-#[test]
-fn wrong_tables_are_all_others() {
-    let tables: BTreeSet<Vec<u8>> = wrong_tables().into_iter().collect();
-    // 1 + 5 + 25 + 125 + 625 + 3125 tables but the 24, and four places of each of
-    // the 24 with three other ranks. With a rank replaced some of these are alike.
-    assert_eq!(wrong_tables().len(), 3906 - 24 + 24 * 4 * 3);
-    assert!(arrangements().iter().all(|ranks| !tables.contains(&ranks[..])));
-    assert!(WRONG.iter().all(|table| tables.contains(*table)));
-}
 
 /// The three calls that take ranks, about link 0, end 0 and prefix 0.
-fn calls() -> [Question; 3] {
+pub fn calls() -> [Question; 3] {
     [Question::link_repair(0, 0), Question::prefix_repair(0, 0, 0), Question::route(0, 0, 0, &[1])]
 }
 
-#[test]
-fn every_wrong_table_is_15_and_writes_nothing() {
-    for network in [four_classes(), ring_4_with_prefix(), two_routers().prefix(&[(1, 0)])] {
-        let (ctx, file, lent) = (Context::sound(), write(&network), marked(20, 12));
-        let opened = Opened::new(&ctx, &file);
-        for question in calls() {
-            for table in wrong_tables() {
-                let outcome = opened.ask(&question.clone().with_ranks(&table), &lent);
-                assert_eq!(outcome.answer, refused(15, 0), "{table:?}");
-                assert_eq!(outcome.left, lent, "{table:?}");
-            }
-        }
-    }
+/// The best pair of each class for the prefix of the network with all eight, and its
+/// route.
+fn best_of_eight() -> [(Answer, &'static [u8]); 8] {
+    [
+        (pair(2, 2, 0, 3), &[0, 2, 6]),
+        (pair(3, 3, 1, 3), &[0, 3, 6]),
+        (pair(3, 2, 2, 9), &[0, 3, 0, 2, 6]),
+        (pair(2, 3, 3, 9), &[0, 2, 0, 3, 6]),
+        (pair(4, 4, 4, 3), &[0, 4, 1, 6]),
+        (pair(5, 5, 5, 3), &[0, 5, 1, 6]),
+        (pair(2, 4, 6, 9), &[0, 2, 0, 4, 1, 6]),
+        (pair(2, 5, 7, 9), &[0, 2, 0, 5, 1, 6]),
+    ]
 }
 
 /// The class that has rank 0.
@@ -60,17 +36,38 @@ fn preferred(ranks: &Arrangement) -> usize {
 }
 
 #[test]
-fn a_network_with_a_pair_of_every_class() {
-    let network = four_classes();
-    let best = [pair(2, 2, 0, 3), pair(3, 3, 1, 3), pair(3, 2, 2, 9), pair(2, 3, 3, 9)];
-    let routes: [&[u8]; 4] = [&[0, 2, 1], &[0, 3, 1], &[0, 3, 0, 2, 1], &[0, 2, 0, 3, 1]];
+fn every_arrangement_where_every_class_has_a_pair() {
+    let (ctx, file, lent) = (Context::sound(), write(&node_eight_classes()), enough());
+    let opened = Opened::new(&ctx, &file);
+    let best = best_of_eight();
+    let [_, prefix, played] = calls();
     for ranks in arrangements() {
-        let [link, prefix, played] =
-            calls().map(|call| ask_network(&network, &call.with_ranks(&ranks)));
-        let class = preferred(&ranks);
-        assert_eq!((&link.answer, &prefix.answer), (&best[class], &best[class]));
-        assert_eq!(played.answer, Answer::Count(routes[class].len()));
-        assert_eq!(&played.left.route[..routes[class].len()], routes[class]);
+        let (pair, route) = &best[preferred(&ranks)];
+        assert_eq!(opened.ask(&prefix.clone().with_ranks(&ranks), &lent).answer, *pair);
+        let outcome = opened.ask(&played.clone().with_ranks(&ranks), &lent);
+        assert_eq!(outcome.answer, Answer::Count(route.len()));
+        assert_eq!(&outcome.left.route[..route.len()], *route);
+    }
+}
+
+/// The best pair of each class for link 0, end 0 of the network of four classes.
+fn best_of_four() -> [Answer; 4] {
+    [pair(2, 2, 4, 3), pair(3, 3, 5, 3), pair(3, 2, 6, 9), pair(2, 3, 7, 9)]
+}
+
+/// Of a link the ranks of the classes 4 to 7 decide, in whatever order the others are.
+#[test]
+fn every_arrangement_for_a_link_with_a_pair_of_each_of_its_classes() {
+    let (ctx, file, lent) = (Context::sound(), write(&four_classes()), enough());
+    let opened = Opened::new(&ctx, &file);
+    let best = best_of_four();
+    let [link, prefix, _] = calls();
+    for ranks in arrangements() {
+        let lowest = (4..8).min_by_key(|class| ranks[*class]).expect("a class");
+        for question in [&link, &prefix] {
+            let answer = opened.ask(&question.clone().with_ranks(&ranks), &lent).answer;
+            assert_eq!(answer, best[lowest - 4], "{ranks:?}");
+        }
     }
 }
 
@@ -79,34 +76,42 @@ fn tunnels_first_on_ring_4() {
     // Router 2 is attached and reached over 3; without a tunnel 3 repairs.
     let network = ring_4_with_prefix();
     let question = Question::prefix_repair(0, 0, 0);
-    let tunnel = question.clone().with_ranks(&[2, 3, 0, 1]);
+    let tunnel = question.clone().with_ranks(&[4, 5, 0, 1, 6, 7, 2, 3]);
     assert_eq!(ask_network(&network, &question).answer, pair(3, 3, 1, 1));
     assert_eq!(ask_network(&network, &tunnel).answer, pair(3, 2, 2, 2));
     assert_eq!(route(&network, 0, 0, 0, &[]), [0, 3, 2]);
 }
 
-/// The answer of a planner with a fault, with some ranks.
-fn wrongly(fault: Fault, network: &Network, question: &Question) -> Answer {
-    ask(&Context::with(&[fault]), &write(network), question, &enough()).answer
-}
-
 #[test]
 fn ranks_read_wrongly() {
-    let network = four_classes();
-    // Class 3 comes first, then 2, 0 and 1.
-    let question = Question::link_repair(0, 0).with_ranks(&[2, 3, 1, 0]);
-    let best = [pair(2, 2, 0, 3), pair(3, 3, 1, 3), pair(3, 2, 2, 9), pair(2, 3, 3, 9)];
-    assert_eq!(ask_network(&network, &question).answer, best[3]);
-    // By the other reading rank 0 has class 2.
-    assert_eq!(wrongly(Fault::ClassOfRank, &network, &question), best[2]);
-    assert_eq!(wrongly(Fault::RankOfNextClass, &network, &question), best[2]);
-    assert_eq!(wrongly(Fault::RankOfTurnedClass, &network, &question), best[3]);
-    let turned = Question::link_repair(0, 0).with_ranks(&[2, 0, 1, 3]);
-    assert_eq!(ask_network(&network, &turned).answer, best[1]);
-    assert_eq!(wrongly(Fault::RankOfTurnedClass, &network, &turned), best[2]);
-    assert_eq!(wrongly(Fault::HighestRankFirst, &network, &question), best[1]);
-    assert_eq!(wrongly(Fault::ClassBeforeRank, &network, &question), best[0]);
-    assert_eq!(wrongly(Fault::RankToldAsClass, &network, &question), pair(2, 3, 0, 9));
+    let network = node_eight_classes();
+    let of_class = |class: usize| best_of_eight()[class].0.clone();
+    let ask = |ranks: &Arrangement| Question::prefix_repair(0, 0, 0).with_ranks(ranks);
+    // Class 3 comes first, then 6; class 2 has rank 5, and rank 0 stands at place 3.
+    let question = ask(&[2, 4, 5, 0, 7, 3, 1, 6]);
+    assert_eq!(ask_network(&network, &question).answer, of_class(3));
+    for (fault, class) in [
+        // Read as a map from ranks to classes, 2 comes first.
+        (Fault::ClassOfRank, 2),
+        (Fault::RankOfNextClass, 2),
+        (Fault::RankOfTurnedClass, 3),
+        (Fault::RankOfOtherHalf, 7),
+        (Fault::HighestRankFirst, 4),
+        (Fault::ClassBeforeRank, 0),
+    ] {
+        assert_eq!(wrongly(fault, &network, &question), of_class(class), "{}", fault.name());
+    }
+    // Rank 0 stands at place 6, and class 0 has rank 4.
+    let other = ask(&[4, 5, 6, 7, 1, 2, 0, 3]);
+    assert_eq!(ask_network(&network, &other).answer, of_class(6));
+    assert_eq!(wrongly(Fault::ClassOfRank, &network, &other), of_class(4));
+    assert_eq!(wrongly(Fault::RankOfTurnedClass, &network, &other), of_class(5));
+    assert_eq!(wrongly(Fault::RankToldAsClass, &network, &other), pair(2, 4, 0, 9));
+    // By the first four ranks class 0 comes first, and class 4 with it.
+    assert_eq!(wrongly(Fault::RankOfClassModulo4, &network, &other), of_class(0));
+    let played = Question::route(0, 0, 0, &[]).with_ranks(&[4, 5, 6, 7, 1, 2, 0, 3]);
+    assert_eq!(wrongly(Fault::RouteRankOfClassModulo4, &network, &played), Answer::Count(3));
+    assert_eq!(ask_network(&network, &played).answer, Answer::Count(6));
 }
 
 /// A pair that is none: with the ranks ascending it stands behind another one.
@@ -117,60 +122,37 @@ fn what_other_classes_hide() {
         (ask_network(network, &question).answer, wrongly(fault, network, &question))
     };
     let link = || Question::link_repair(0, 0);
+    let tunnels_first = [4, 5, 0, 1, 6, 7, 2, 3];
     for (fault, network, wrong) in [
         // The tunnel from 3 to 2 goes over E and then over the link to S.
-        (Fault::OnlySToETested, neighbours_only(), pair(3, 2, 2, 5)),
-        (Fault::EndpointMayBeE, neighbours_only(), pair(2, 1, 2, 2)),
-        (Fault::EndpointMayBeS, ring_3_dear_link(), pair(2, 0, 3, 2)),
+        (Fault::OnlySToETested, neighbours_only(), pair(3, 2, 6, 5)),
+        (Fault::EndpointMayBeE, neighbours_only(), pair(2, 1, 6, 2)),
+        (Fault::EndpointMayBeS, ring_3_dear_link(), pair(2, 0, 7, 2)),
     ] {
-        let sound = pair(2, 2, 0, 1);
+        let sound = pair(2, 2, 4, 1);
         assert_eq!(answers(fault, &network, link(), &ASCENDING), (sound.clone(), sound.clone()));
-        assert_eq!(answers(fault, &network, link(), &[2, 3, 0, 1]), (sound.clone(), wrong.clone()));
+        let expected = (sound, wrong);
+        assert_eq!(answers(fault, &network, link(), &tunnels_first), expected);
         if fault != Fault::EndpointMayBeS {
             let prefix = Question::prefix_repair(0, 0, 0);
-            assert_eq!(answers(fault, &network, prefix, &[2, 3, 0, 1]), (sound, wrong));
+            assert_eq!(answers(fault, &network, prefix, &tunnels_first), expected);
         }
     }
-}
-
-#[test]
-fn wrong_tables_that_are_taken() {
-    let network = four_classes();
-    let taken = |fault, table: &[u8]| {
-        let question = Question::link_repair(0, 0).with_ranks(table);
-        assert_eq!(ask_network(&network, &question).answer, refused(15, 0));
-        wrongly(fault, &network, &question) != refused(15, 0)
-    };
-    let ignored = [Cause::RanksShort, Cause::RanksLong, Cause::RankOver, Cause::RankTwice];
-    let [short, long, over, twice] = ignored.map(Fault::CauseIgnored);
-    assert!(taken(short, &[]) && taken(short, &[0, 1, 2]) && !taken(short, &[0, 1, 1]));
-    assert!(taken(long, &[0, 1, 2, 3, 0]) && !taken(long, &[0, 1, 2, 2, 3]));
-    assert!(taken(over, &[0, 1, 2, 4]) && taken(over, &[255, 1, 2, 3]));
-    assert!(taken(twice, &[0, 1, 2, 2]) && taken(twice, &[1, 1, 1, 1]));
-    let loose = |limit| Fault::LimitLoose(limit);
-    assert!(taken(loose(Limit::LeastRanks), &[0, 1, 2]) && !taken(loose(Limit::LeastRanks), &[0]));
-    assert!(taken(loose(Limit::MostRanks), &[0, 1, 2, 3, 4]));
-    assert!(taken(loose(Limit::Rank), &[4, 1, 2, 3]) && !taken(loose(Limit::Rank), &[5, 1, 2, 3]));
-    assert!(taken(Fault::RanksInSetOf32, &[32, 1, 2, 3]));
-    assert!(taken(Fault::RanksInSetOf64, &[64, 1, 2, 3]));
-    assert!(!taken(Fault::RanksInSetOf64, &[32, 1, 2, 3]));
-    assert!(taken(Fault::RanksJudgedBySum, &[3, 0, 3, 0]));
-    assert!(taken(Fault::RowDropped(15), &[9, 9]));
 }
 
 /// All questions about hand-worked networks: each wrong planner answers one of
 /// them otherwise.
 #[test]
 fn every_wrong_planner_is_noticed_by_hand() {
+    let networks = [
+        ("four classes", four_classes()),
+        ("eight classes", node_eight_classes()),
+        ("ring 4 with prefix", ring_4_with_prefix()),
+        ("two routers with prefix", two_routers().prefix(&[(1, 0)])),
+    ];
     for fault in Fault::OF_RANKS {
-        let ctx = Context::with(&[fault]);
-        let networks = [four_classes(), ring_4_with_prefix(), two_routers().prefix(&[(1, 0)])];
-        let noticed = networks.iter().any(|network| {
-            let case = Case::new(String::new(), write(network), &mut Random::new(1));
-            let sound = case.outcomes(&Context::sound());
-            case.first_difference(&ctx, &sound).is_some()
-        });
-        assert!(noticed, "{} is not noticed", fault.name());
+        let by = noticed_by(fault, &networks, &|_| true);
+        assert!(!by.is_empty(), "{} is not noticed", fault.name());
     }
 }
 
@@ -202,10 +184,16 @@ fn what_the_arrangement_changes() {
     assert!(changed.link > 1000 && changed.prefix > 1000 && changed.route > 1000);
 }
 
+/// For each class a table that prefers it, and some at random.
+fn some_tables() -> Vec<Arrangement> {
+    let turned = |turn: u8| ASCENDING.map(|class| (class + 8 - turn) % 8);
+    (0..8).map(turned).chain(random_tables(16, 96)).collect()
+}
+
 fn look_at_arrangements(opened: &Opened, question: &Question, changed: &mut Changed) {
     let lent = enough();
     let told = |ranks: &Arrangement| opened.ask(&question.clone().with_ranks(ranks), &lent);
-    let all: Vec<(Arrangement, _)> = arrangements().into_iter().map(|r| (r, told(&r))).collect();
+    let all: Vec<(Arrangement, _)> = some_tables().into_iter().map(|r| (r, told(&r))).collect();
     let ascending = &all[0].1;
     // The best pair of each class that has one: it comes first by some ranks.
     let best = |class: usize| {
@@ -216,7 +204,7 @@ fn look_at_arrangements(opened: &Opened, question: &Question, changed: &mut Chan
         assert_eq!(outcome.left.work, ascending.left.work);
         let count = match (&outcome.answer, &ascending.answer) {
             (Answer::Pair(_), Answer::Pair(_)) => {
-                let mut classes = [0, 1, 2, 3];
+                let mut classes = [0, 1, 2, 3, 4, 5, 6, 7];
                 classes.sort_by_key(|class| ranks[*class]);
                 assert_eq!(classes.into_iter().find_map(best), Some(&outcome.answer));
                 let link = matches!(question, Question::LinkRepair { .. });
@@ -235,7 +223,7 @@ fn look_at_arrangements(opened: &Opened, question: &Question, changed: &mut Chan
 /// A planner that compares the class first answers as before there were ranks,
 /// whatever is lent; with the ranks ascending that is the sound answer.
 #[test]
-fn ascending_ranks_are_as_it_was_before() {
+fn ascending_ranks_are_as_without_any() {
     let (sound, before) = (Context::sound(), Context::with(&[Fault::ClassBeforeRank]));
     for network in random_networks(6, 8, 93) {
         let file = write(&network);

@@ -2,14 +2,16 @@
 //! networks.
 
 use crate::brute::{Brute, FAR, Walk};
-use crate::common::{ask_network, link_repair, prefix_repair, random_networks, refused, spaces};
+use crate::common::{ask_network, link_repair, prefix_repair, random_networks, spaces};
+use crate::pairs::{Serving, Target, all_serving, far_routers, first_pair};
 use oracle::answer::{Answer, Question};
 use oracle::fault::Context;
-use oracle::network::{Hop, Network};
-use oracle::ranks::{Arrangement, arrangements};
-use oracle::repair::Pair;
+use oracle::network::Hop;
+use oracle::random::Random;
+use oracle::ranks::{ASCENDING, Arrangement, DESCENDING, deciding_tables, random_table};
 use oracle::walk::Walks;
 use oracle::workings::Workings;
+use std::collections::BTreeSet;
 
 fn routers_of(start: usize, hops: &[Hop]) -> Walk {
     [start].into_iter().chain(hops.iter().map(|hop| hop.to)).collect()
@@ -25,16 +27,6 @@ fn listed(workings: &Workings, walks: &Walks, x: usize) -> Vec<Walk> {
     let mut listed: Vec<Walk> = listed.iter().map(|hops| routers_of(x, hops)).collect();
     listed.sort();
     listed
-}
-
-/// Every link and end with its S and E.
-fn link_ends(network: &Network) -> Vec<(u64, u64, usize, usize)> {
-    let links = network.links.iter().zip(0..);
-    let ends = links.flat_map(|(link, number)| {
-        let (a, b) = (usize::from(link.a), usize::from(link.b));
-        [(number, 0, a, b), (number, 1, b, a)]
-    });
-    ends.collect()
 }
 
 #[test]
@@ -63,7 +55,7 @@ fn avoiding_is_what_the_list_of_walks_says() {
     for network in random_networks(12, 6, 22) {
         let brute = Brute::new(&network);
         let workings = Workings::of(&ctx, network.clone());
-        for (link, end, s, e) in link_ends(&network) {
+        for (link, end, s, e) in far_routers(&network) {
             let link_end = network.link_end(&ctx, link, end).expect("a link");
             assert_eq!((link_end.s, link_end.e), (s, e));
             for x in 0..brute.routers {
@@ -88,7 +80,7 @@ fn avoiding_is_what_the_list_of_walks_says() {
 fn spaces_are_what_the_lists_of_walks_say() {
     for network in random_networks(12, 6, 23) {
         let brute = Brute::new(&network);
-        for (link, end, s, e) in link_ends(&network) {
+        for (link, end, s, e) in far_routers(&network) {
             let avoids = |x, t| Brute::avoid(&brute.walks_to_router(x, t), s, e);
             let set = |member: &dyn Fn(usize) -> bool| {
                 let weights = (0..brute.routers).filter(|r| member(*r)).map(|r| 1u64 << r);
@@ -102,69 +94,33 @@ fn spaces_are_what_the_lists_of_walks_say() {
     }
 }
 
-/// A target by its walks and its distances.
-struct BruteTarget<'a> {
-    walks: Box<dyn Fn(usize) -> Vec<Walk> + 'a>,
-    distance: Box<dyn Fn(usize) -> u64 + 'a>,
-}
-
-/// A serving pair: its class, then the other keys in their order.
-type Serving = (u32, u64, usize, u64, usize);
-
-/// All pairs that serve.
-fn all_serving(brute: &Brute, s: usize, e: usize, target: &BruteTarget) -> Vec<Serving> {
-    let mut serving = Vec::new();
-    for n in brute.first_hops(s, e) {
-        for y in (0..brute.routers).filter(|y| *y != s && *y != e) {
-            let first_leg = Brute::avoid(&brute.walks_to_router(n, y), s, e);
-            let second_leg = Brute::avoid(&(target.walks)(y), s, e);
-            if first_leg && second_leg {
-                let nearer = (target.distance)(y) < (target.distance)(s);
-                let class = if y == n { 0 } else { 2 } + if nearer { 0 } else { 1 };
-                let cost = brute.cost[s][n].expect("a neighbour") + brute.distance[n][y];
-                serving.push((class, brute.distance[s][y], y, cost, n));
-            }
-        }
-    }
-    serving
-}
-
-/// The pair that the ranks put first, by sorting all that serve, or 14.
-fn first_pair(mut serving: Vec<Serving>, ranks: &Arrangement) -> Answer {
-    serving.sort_by_key(|(class, from_s, y, cost, n)| {
-        (ranks[*class as usize], *from_s, *y, *cost, *n)
-    });
-    let Some((class, _, endpoint, cost, first_hop)) = serving.first().copied() else {
-        return refused(14, 0);
-    };
-    let tunnel_cost = u32::try_from(cost).expect("a cost fits");
-    Answer::Pair(Pair { first_hop, endpoint, class, tunnel_cost })
+/// The ranks ascending, some at random, and those that decide between the classes of
+/// these pairs.
+fn some_tables(serving: &[Serving], random: &mut Random) -> Vec<Arrangement> {
+    let classes: BTreeSet<u32> = serving.iter().map(|(class, ..)| *class).collect();
+    let mut tables = vec![ASCENDING, DESCENDING];
+    tables.extend((0..4).map(|_| random_table(random)));
+    tables.extend(deciding_tables(&classes));
+    tables
 }
 
 #[test]
-fn repairs_are_the_first_pairs_by_every_arrangement_of_ranks() {
+fn repairs_are_the_first_pairs_by_many_arrangements_of_ranks() {
+    let mut random = Random::new(26);
     for network in random_networks(14, 6, 24) {
         let brute = Brute::new(&network);
-        for (link, end, s, e) in link_ends(&network) {
-            let far_end = BruteTarget {
-                walks: Box::new(|x| brute.walks_to_router(x, e)),
-                distance: Box::new(|x| brute.distance[x][e]),
-            };
-            let serving = all_serving(&brute, s, e, &far_end);
-            for ranks in arrangements() {
+        for (link, end, s, e) in far_routers(&network) {
+            let serving = all_serving(&brute, s, e, &Target::router(&brute, e));
+            for ranks in some_tables(&serving, &mut random) {
                 let question = Question::link_repair(link, end).with_ranks(&ranks);
                 let expected = first_pair(serving.clone(), &ranks);
                 assert_eq!(ask_network(&network, &question).answer, expected);
             }
             for (prefix, number) in network.prefixes.iter().zip(0..) {
-                let to_prefix = BruteTarget {
-                    walks: Box::new(|x| brute.walks_to_prefix(x, prefix)),
-                    distance: Box::new(|x| brute.to_prefix(x, prefix)),
-                };
                 let unreachable = brute.to_prefix(s, prefix) == FAR;
                 let touched = Brute::touch(&brute.walks_to_prefix(s, prefix), s, e);
-                let serving = all_serving(&brute, s, e, &to_prefix);
-                for ranks in arrangements() {
+                let serving = all_serving(&brute, s, e, &Target::prefix(&brute, prefix));
+                for ranks in some_tables(&serving, &mut random) {
                     let question = Question::prefix_repair(link, end, number).with_ranks(&ranks);
                     let expected = match (unreachable, touched) {
                         (true, _) => Answer::Unreachable,
@@ -185,7 +141,7 @@ fn a_links_own_repair_serves_every_prefix_that_may_cross_it() {
     let mut served = 0;
     for network in random_networks(20, 6, 25) {
         let brute = Brute::new(&network);
-        for (link, end, s, e) in link_ends(&network) {
+        for (link, end, s, e) in far_routers(&network) {
             let Answer::Pair(pair) = link_repair(&network, link, end) else {
                 continue;
             };

@@ -14,7 +14,7 @@ use oracle::worked::*;
 fn ring_4() {
     let network = ring(4);
     assert_eq!(spaces(&network, 0, 0), [set(&[0, 3]), set(&[0, 2, 3]), set(&[1, 2])]);
-    assert_eq!(link_repair(&network, 0, 0), pair(3, 2, 3, 2));
+    assert_eq!(link_repair(&network, 0, 0), pair(3, 2, 7, 2));
 }
 
 #[test]
@@ -27,13 +27,13 @@ fn ring_4_with_prefix_at_1_and_2() {
 
 #[test]
 fn ring_5_repairs() {
-    assert_eq!(link_repair(&ring(5), 0, 0), pair(4, 2, 3, 3));
+    assert_eq!(link_repair(&ring(5), 0, 0), pair(4, 2, 7, 3));
     assert_eq!(route(&ring_5_with_prefix(), 0, 0, 0, &[]), [0, 4, 3, 2, 1]);
 }
 
 #[test]
 fn ring_3_repairs() {
-    assert_eq!(link_repair(&ring(3), 0, 0), pair(2, 2, 1, 1));
+    assert_eq!(link_repair(&ring(3), 0, 0), pair(2, 2, 5, 1));
     assert_eq!(link_repair(&ring_3_dear_back(), 0, 0), refused(14, 0));
 }
 

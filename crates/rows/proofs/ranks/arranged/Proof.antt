@@ -12,10 +12,10 @@ use Rattle.rows.proofs.ranks.arranged.Statement.{statement}
 use Rattle.rows.proofs.ranks.arranged.Tie as tie
 
 abbrev Inv-loop : tie.InvT-loop
-Inv-loop ranks rank₀ rank = (rank ≤ 4) × ((k : ℕ) → k < rank → once ranks k ≡ true)
+Inv-loop ranks rank₀ rank = (rank ≤ 8) × ((k : ℕ) → k < rank → once ranks k ≡ true)
 
 abbrev μ-loop : tie.MeasureT-loop
-μ-loop ranks rank₀ rank = 4 - rank
+μ-loop ranks rank₀ rank = 8 - rank
 
 returns : tie.Need-returns Inv-loop μ-loop
 returns c = wrong-length _ (λ e. absurd (omega (arith, e)))

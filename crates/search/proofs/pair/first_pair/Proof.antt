@@ -14,14 +14,14 @@ extended-p-requires : tie.Need-extended-p-requires
 extended-p-requires c κs = c .first-hops .ensures .few
 
 search-requires : tie.Need-search-requires
-search-requires c κs = let p = c .before .before .before .before .pre in (p .0, p .1, c .before .first-hops .ensures .few)
+search-requires c κs = let p = c .before .before .before .before .before .pre in (p .0, p .1, c .before .before .first-hops .ensures .few)
 
 returns : tie.Need-returns
 unfolding firstServing spaceFor
 returns c =
-    let a = c .before .before .before .before .before .args in
-    let firsts = listed-hops _ _ _ _ _ _ _ _ (c .before .before .first-hops .ensures) in
-    let extended = rw firsts at (c .before .extended-p .ensures (a .out .now) (a .back .now)) in
+    let a = c .before .before .before .before .before .before .args in
+    let firsts = listed-hops _ _ _ _ _ _ _ _ (c .before .before .before .first-hops .ensures) in
+    let extended = rw firsts at (c .before .before .extended-p .ensures (a .out .now) (a .back .now)) in
     rw (extended, firsts) at (c .search .ensures)
 
 pub first-pair-spec : {M : Type 1} → statement M

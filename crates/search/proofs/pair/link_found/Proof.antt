@@ -1,7 +1,6 @@
 -- `search::pair::link_found` meets its contract. The distances to E are read first.
 -- Assumes nothing.
 use mathlib.Core.Path.{sym, ap, _∙_}
-use mathlib.Core.List.{List}
 use Prim.Native.Nat.{ℕ}
 use borrow.Author.Tests.{not-true, not-false}
 use Rattle.metric.specs.Columns.{arcsIn}
@@ -34,12 +33,13 @@ pair-found-requires c κs =
 returns-2 : tie.Need-returns-2
 unfolding linkIf linkFor
 returns-2 c =
-    let e = c .before .before .before .before .before .before in
+    let towards = c .before .before .before .before .before in
+    let e = towards .before in
     let a = e .before .before .before .before .args in
     let passes = sym (e .before .can-search .ensures) ∙ not-false _ (e .if1 .left) in
     let found = c .pair-found .ensures
-    ∙ ap (pairFor (a .ranks .now) (a .n) (arcsIn (a .from .now) (a .to .now) (a .out .now) (a .back .now) (a .links)) (asked (a .protected)) (a .dist .now) _) (c .before .before .avoiding-to .ensures)
-    ∙ ap (linkFor (a .ranks .now) (a .n) (arcsIn (a .from .now) (a .to .now) (a .out .now) (a .back .now) (a .links)) (asked (a .protected)) (a .dist .now)) (c .before .before .before .before .before .towards-router .ensures) in
+    ∙ ap (λ (s : ℕ). pairFor (a .ranks .now) (a .n) (arcsIn (a .from .now) (a .to .now) (a .out .now) (a .back .now) (a .links)) (asked (a .protected)) (a .dist .now) (towards .towards-router .result) (record { avoiding = s; missing = 0 })) (c .before .before .avoiding-to .ensures)
+    ∙ ap (linkFor (a .ranks .now) (a .n) (arcsIn (a .from .now) (a .to .now) (a .out .now) (a .back .now) (a .links)) (asked (a .protected)) (a .dist .now)) (towards .towards-router .ensures) in
     rw passes found
 
 pub link-found-spec : {M : Type 1} → statement M

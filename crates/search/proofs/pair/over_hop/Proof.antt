@@ -14,10 +14,10 @@ use Rattle.search.proofs.pair.over_hop.Statement.{statement}
 use Rattle.search.proofs.pair.over_hop.Tie as tie
 
 abbrev Inv-loop : tie.InvT-loop
-Inv-loop ranks dist n near far target hop ends best₀ y₀ best y = (y ≤ n) × (earliestIn best ≡ firstOf (earliestIn best₀) (hopPairs ranks n dist near far target (hopIn hop) ends y))
+Inv-loop ranks dist n near far target hop protecting endpoints best₀ y₀ best y = (y ≤ n) × (earliestIn best ≡ firstOf (earliestIn best₀) (hopPairs ranks n dist near far target (hopIn hop) protecting endpoints y))
 
 abbrev μ-loop : tie.MeasureT-loop
-μ-loop ranks dist n near far target hop ends best₀ y₀ best y = n - y
+μ-loop ranks dist n near far target hop protecting endpoints best₀ y₀ best y = n - y
 
 loop-holds : tie.Need-loop-holds Inv-loop μ-loop
 unfolding firstOf hopPairs below countUp select
@@ -44,17 +44,17 @@ loop-again c =
     let a = at-loop .before .before .before .args in
     let i = at-loop .loop .y in
     let o = earliestIn (a .before) in
-    let e : c .before .may-end .result ≡ mayEnd (a .ends) (a .near) (a .far) i = c .before .may-end .ensures in (
+    let e : c .before .may-end .result ≡ mayEnd (a .endpoints) (a .near) (a .far) i = c .before .may-end .ensures in (
       omega arith,
-      ⊎-elim (λ w. ap earliestIn (w .3) ∙ end-more (a .ranks .now) (a .n) (a .dist .now) (a .near) (a .far) (a .target .now) (hopIn (a .hop)) (a .ends) i o (sym e ∙ w .0 .taken) (at-loop .loop .inv .1) (w .1 .ensures) (w .2 .ensures))
-          (λ w. ap earliestIn (w .1) ∙ end-same (a .ranks .now) (a .n) (a .dist .now) (a .near) (a .far) (a .target .now) (hopIn (a .hop)) (a .ends) i o (sym e ∙ w .0 .left) (at-loop .loop .inv .1)) (c .if1 .came),
+      ⊎-elim (λ w. ap earliestIn (w .3) ∙ end-more (a .ranks .now) (a .n) (a .dist .now) (a .near) (a .far) (a .target .now) (hopIn (a .hop)) (a .protecting) (a .endpoints) i o (sym e ∙ w .0 .taken) (at-loop .loop .inv .1) (w .1 .ensures) (w .2 .ensures))
+          (λ w. ap earliestIn (w .1) ∙ end-same (a .ranks .now) (a .n) (a .dist .now) (a .near) (a .far) (a .target .now) (hopIn (a .hop)) (a .protecting) (a .endpoints) i o (sym e ∙ w .0 .left) (at-loop .loop .inv .1)) (c .if1 .came),
     )
 
 returns : tie.Need-returns Inv-loop μ-loop
 returns c =
     let a = c .before .before .before .before .args in
     let e : c .before .loop .y ≡ a .n = omega arith in
-    c .before .loop .inv .1 ∙ ap (λ (k : ℕ). firstOf (earliestIn (a .before)) (hopPairs (a .ranks .now) (a .n) (a .dist .now) (a .near) (a .far) (a .target .now) (hopIn (a .hop)) (a .ends) k)) e
+    c .before .loop .inv .1 ∙ ap (λ (k : ℕ). firstOf (earliestIn (a .before)) (hopPairs (a .ranks .now) (a .n) (a .dist .now) (a .near) (a .far) (a .target .now) (hopIn (a .hop)) (a .protecting) (a .endpoints) k)) e
 
 pub over-hop-spec : {M : Type 1} → statement M
 over-hop-spec =

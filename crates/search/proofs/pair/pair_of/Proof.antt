@@ -1,9 +1,13 @@
--- `search::pair::pair_of` meets its contract. Each part is read from the table or the column.
+-- `search::pair::pair_of` meets its contract. Each part is read from the table, the column or the set.
 -- Assumes nothing.
 use Rattle.search.specs.Choice.{orderedAt}
 use borrow.Author.Needs.{needs}
+use Rattle.search.proofs.ChoiceLaws.{bit-read}
 use Rattle.search.proofs.pair.pair_of.Statement.{statement}
 use Rattle.search.proofs.pair.pair_of.Tie as tie
+
+shr-protects : tie.Need-shr-protects
+shr-protects c = search needs
 
 mul-class-of : tie.Need-mul-class-of
 mul-class-of c = search needs
@@ -34,12 +38,16 @@ add-requires c κs = search needs
 
 returns : tie.Need-returns
 unfolding orderedAt
-returns c = rw (c .add .ensures, c .before .cell2 .ensures, c .before .before .cell .ensures, c .before .before .before .rank-of .ensures, c .before .before .before .before .class-of .ensures)
+returns c =
+    let class = c .before .before .before .before in
+    let a = class .before .before .before .before .before .args in
+    rw (c .add .ensures, c .before .cell2 .ensures, c .before .before .cell .ensures, c .before .before .before .rank-of .ensures, class .class-of .ensures, bit-read (a .protecting) (a .endpoint))
 
 pub pair-of-spec : {M : Type 1} → statement M
 pair-of-spec =
     tie.close
     (tie.spec
+    shr-protects
     mul-class-of
     element-copy-out-class-of
     mul-class-of-2

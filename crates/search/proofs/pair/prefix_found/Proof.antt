@@ -43,8 +43,8 @@ returns-3 c =
     let e = c .before .before in
     rw (passes (e .before .before), prefixIf, lt-ltb _ _ (e .if2 .left), prefixFor, sym (c .before .steps-over .ensures) ∙ not-true _ (c .if3 .taken))
 
-avoiding-by-steps-requires : tie.Need-avoiding-by-steps-requires
-avoiding-by-steps-requires c κs = search needs
+onward-by-steps-requires : tie.Need-onward-by-steps-requires
+onward-by-steps-requires c κs = search needs
 
 pair-found-requires : tie.Need-pair-found-requires
 pair-found-requires c κs = let s = can-search _ _ _ _ (passes (c .before .before .before .before .before)) in (s .0, s .1, s .3)
@@ -56,7 +56,7 @@ returns-4 c =
     let e = m .before in
     let a = e .before .before .before .before .before .before .args in
     rw (passes (e .before .before), prefixIf, lt-ltb _ _ (e .if2 .left), prefixFor, sym (m .steps-over .ensures) ∙ not-false _ (c .before .before .if3 .left))
-    (c .pair-found .ensures ∙ ap (pairFor (a .ranks .now) (a .n) (arcsIn (a .from .now) (a .to .now) (a .out .now) (a .back .now) (a .links)) (asked (a .protected)) (a .dist .now) (a .target .now)) (c .before .avoiding-by-steps .ensures))
+    (c .pair-found .ensures ∙ ap (pairFor (a .ranks .now) (a .n) (arcsIn (a .from .now) (a .to .now) (a .out .now) (a .back .now) (a .links)) (asked (a .protected)) (a .dist .now) (a .target .now)) (c .before .onward-by-steps .ensures))
 
 pub prefix-found-spec : {M : Type 1} → statement M
 prefix-found-spec =
@@ -69,6 +69,6 @@ prefix-found-spec =
     returns-2
     steps-over-requires
     returns-3
-    avoiding-by-steps-requires
+    onward-by-steps-requires
     pair-found-requires
     returns-4)

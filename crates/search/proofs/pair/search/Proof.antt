@@ -14,10 +14,10 @@ use Rattle.search.proofs.pair.search.Statement.{statement}
 use Rattle.search.proofs.pair.search.Tie as tie
 
 abbrev Inv-loop : tie.InvT-loop
-Inv-loop ranks dist n from to out back protected target mask hops near far best₀ i₀ best i = (i ≤ hops .count) × (earliestIn best ≡ firstOf none (pairsTried ranks n (asked protected) dist target mask (hopsIn from to out back i (hops .arcs))))
+Inv-loop ranks dist n from to out back protected target kept hops far best₀ i₀ best i = (i ≤ hops .count) × (earliestIn best ≡ firstOf none (pairsTried ranks n (asked protected) dist target kept (hopsIn from to out back i (hops .arcs))))
 
 abbrev μ-loop : tie.MeasureT-loop
-μ-loop ranks dist n from to out back protected target mask hops near far best₀ i₀ best i = hops .count - i
+μ-loop ranks dist n from to out back protected target kept hops far best₀ i₀ best i = hops .count - i
 
 loop-holds : tie.Need-loop-holds Inv-loop μ-loop
 loop-holds c = (omega arith, none-tried _ _ _ _ _ _ _ _ _ _ _)
@@ -31,6 +31,9 @@ hop-of-requires c κs = search needs
 avoiding-from-requires : tie.Need-avoiding-from-requires Inv-loop μ-loop
 avoiding-from-requires c κs = search needs
 
+protecting-from-requires : tie.Need-protecting-from-requires Inv-loop μ-loop
+protecting-from-requires c κs = search needs
+
 over-hop-requires : tie.Need-over-hop-requires Inv-loop μ-loop
 over-hop-requires c κs = search needs
 
@@ -42,11 +45,11 @@ loop-less c = search needs
 
 loop-again : tie.Need-loop-again Inv-loop μ-loop
 loop-again c =
-    let at-loop = c .before .before .before .before .before in
+    let at-loop = c .before .before .before .before .before .before .before in
     let a = at-loop .before .before .before .args in (
       omega arith,
-      hop-tried (a .ranks .now) (a .n) (asked (a .protected)) (a .dist .now) (a .target .now) (a .mask) (a .from .now) (a .to .now) (a .out .now) (a .back .now) (a .t10 .arcs) (at-loop .loop .i)
-          (at-loop .loop .inv .1) (c .before .before .hop-of .ensures) (c .before .avoiding-from .ensures) (c .over-hop .ensures),
+      hop-tried (a .ranks .now) (a .n) (asked (a .protected)) (a .dist .now) (a .target .now) (a .kept) (a .from .now) (a .to .now) (a .out .now) (a .back .now) (a .t10 .arcs) (at-loop .loop .i)
+          (at-loop .loop .inv .1) (c .before .before .before .before .hop-of .ensures) (c .before .before .before .avoiding-from .ensures) (c .before .protecting-from .ensures) (c .over-hop .ensures),
     )
 
 returns : tie.Need-returns Inv-loop μ-loop
@@ -54,7 +57,7 @@ returns c =
     let a = c .before .before .before .before .args in
     let e : c .before .loop .i ≡ a .t10 .count = omega arith in
     c .before .loop .inv .1
-    ∙ ap (λ (k : ℕ). firstOf none (pairsTried (a .ranks .now) (a .n) (asked (a .protected)) (a .dist .now) (a .target .now) (a .mask) (hopsIn (a .from .now) (a .to .now) (a .out .now) (a .back .now) k (a .t10 .arcs)))) e
+    ∙ ap (λ (k : ℕ). firstOf none (pairsTried (a .ranks .now) (a .n) (asked (a .protected)) (a .dist .now) (a .target .now) (a .kept) (hopsIn (a .from .now) (a .to .now) (a .out .now) (a .back .now) k (a .t10 .arcs)))) e
 
 pub search-spec : {M : Type 1} → statement M
 search-spec =
@@ -66,6 +69,7 @@ search-spec =
     element-copy-out-hop-of
     hop-of-requires
     avoiding-from-requires
+    protecting-from-requires
     over-hop-requires
     add-i
     loop-less

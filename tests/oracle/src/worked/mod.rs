@@ -1,6 +1,11 @@
 //! The hand-worked networks of document 01, networks of the source documents
 //! that their text determines, networks in which ranks matter, networks with
-//! links under maintenance, and networks with dear attachments.
+//! links under maintenance, networks with dear attachments, and networks for node
+//! protection.
+
+mod node;
+
+pub use node::*;
 
 use crate::network::Network;
 
@@ -216,13 +221,15 @@ pub fn attached_far_end() -> Network {
 
 /// For link 0, end 0, the tunnel from 2 to 4 passes router 3, which is attached.
 pub fn attached_tunnel() -> Network {
-    Network::of_routers(5)
+    Network::of_routers(6)
         .link(0, 1, 1, 1)
         .link(0, 2, 10, 1)
         .link(2, 3, 1, 1)
         .link(3, 4, 1, 1)
         .link(4, 1, 1, 1)
-        .prefix(&[(1, 0), (3, 50)])
+        .link(4, 5, 1, 1)
+        .link(1, 5, 1, 1)
+        .prefix(&[(5, 0), (3, 50)])
 }
 
 /// Ring 4 with prefixes at 1 and at 0, which is S for link 0, end 0: its own cost
@@ -260,8 +267,9 @@ pub fn attached() -> Vec<(&'static str, Network)> {
     ]
 }
 
-/// For link 0, end 0, each class has a serving pair: 0 by router 2, 1 by router
-/// 3, and 2 and 3 by a tunnel from each of these two to the other.
+/// For link 0, end 0, each of the classes 4 to 7 has a serving pair: 4 by router 2, 5
+/// by router 3, and 6 and 7 by a tunnel from each of these two to the other. The
+/// prefix is at E.
 pub fn four_classes() -> Network {
     Network::of_routers(4)
         .link(0, 1, 4, 4)
@@ -272,8 +280,8 @@ pub fn four_classes() -> Network {
         .prefix(&[(1, 0)])
 }
 
-/// For link 0, end 0, only neighbours serve: router 2 in class 0 and router 3 in
-/// class 1. A tunnel from one to the other crosses the link from E to S.
+/// For link 0, end 0, only neighbours serve: router 2 in class 4 and router 3 in
+/// class 5. A tunnel from one to the other crosses the link from E to S.
 pub fn neighbours_only() -> Network {
     Network::of_routers(4)
         .link(0, 1, 2, 1)
@@ -314,5 +322,6 @@ pub fn all() -> Vec<(&'static str, Network)> {
     ];
     all.extend(maintenance());
     all.extend(attached());
+    all.extend(nodes());
     all
 }

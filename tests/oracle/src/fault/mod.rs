@@ -4,6 +4,8 @@
 //! the answers differ. So the test shows that it would notice such a planner.
 //! With no fault turned on the program follows document 01.
 
+mod lists;
+
 use crate::row::{self, Cause};
 
 listed! {
@@ -27,9 +29,9 @@ listed! {
         LinkEntry: "the number of a link entry is below L",
         PrefixEntry: "the number of a prefix entry is below the count of prefixes",
         FirstHopCost: "the cost from S to a first hop is below 65,535",
-        LeastRanks: "there are at least four ranks",
-        MostRanks: "there are at most four ranks",
-        Rank: "a rank is at most 3",
+        LeastRanks: "there are at least eight ranks",
+        MostRanks: "there are at most eight ranks",
+        Rank: "a rank is at most 7",
         LeastDrillRouters: "a drill has at least 3 routers",
         MostDrillRouters: "a drill has at most 64 routers",
         FileBuffer: "the buffer has at least the bytes of the file written into it",
@@ -176,11 +178,40 @@ faults! {
     EndpointMayBeS: "S is allowed as endpoint",
     EndpointMayBeE: "E is allowed as endpoint",
 
+    // Node protection. The first is how it was before: no pair has 4 added.
+    NodeNotLookedAt: "no pair has 4 added to its class",
+    FourForProtecting: "node-protecting pairs have 4 added, and the others have not",
+    LinkClassesBelowFour: "a link repair's pairs have no 4 added",
+    PlanClassesBelowFour: "the plan prints the classes without the 4",
+    ClassToldModulo4: "the answer tells the class modulo 4",
+    NodeBeforeRank: "node-protecting pairs come first, whatever the ranks",
+    OnlyNodeProtectingServe: "a pair serves a prefix only if it is node-protecting",
+    TouchedByVisit: "a prefix is repaired where a walk from S visits E, over whatever link",
+    SpacesMissE: "P and extended P hold only routers that are reached without a visit to E",
+    RouteMissesE: "a played route does not step to E where it has another option",
+    OnlyFirstLegVisits: "visits of the first leg alone are looked at",
+    OnlySecondLegVisits: "visits of the second leg alone are looked at",
+    VisitToS: "visits to S are looked for, not those to E",
+    VisitTowardsE: "the second leg's visits are those of walks towards E, also for a prefix",
+    VisitBySums: "sums of distances over E decide whether a walk towards a prefix visits it",
+    VisitTunnelToAttached: "a tunnel's visits are looked at as far as the first router attached to the prefix",
+    DeliveryNotVisited: "the router that delivers to a prefix is not visited",
+    EndNotVisited: "the router that a walk ends at is not visited",
+    OnlyEndVisited: "of a walk's routers only the one that it ends at is visited",
+    StartNotVisited: "the router that a walk starts at is not visited",
+    VisitOneShortestPath: "visits of one of the equal shortest walks alone are looked at",
+    VisitOnEveryWalk: "a router counts as visited only where every walk visits it",
+    VisitOneHop: "visits are looked for up to the first hop of a walk",
+    VisitTwoHops: "visits are looked for up to the second hop of a walk",
+
     // Ranks: the table's use. That row 15 takes a wrong table, or comes at another
     // place, is said by rows, causes and limits too.
     ClassOfRank: "the table is read the other way: it maps a rank to its class",
     RankOfNextClass: "a class has the rank of the class after it, the last that of the first",
-    RankOfTurnedClass: "class 1 has the rank of class 2, and the reverse",
+    RankOfTurnedClass: "class 1 has the rank of class 2, class 5 that of class 6, and the reverse",
+    RankOfOtherHalf: "a class has the rank of the class 4 above or below it",
+    RankOfClassModulo4: "a class from 4 on has the rank of the class 4 below it",
+    RouteRankOfClassModulo4: "in a route a class from 4 on has the rank of the class 4 below it",
     HighestRankFirst: "the highest rank is preferred",
     ClassBeforeRank: "the class is compared before the rank",
     RankToldAsClass: "the answer tells the rank for the class",
@@ -189,15 +220,19 @@ faults! {
     RouteAscending: "a route has the ranks ascending, whatever is lent",
     PlanDescending: "the plan has the ranks descending",
 
-    // Ranks: row 15.
+    // Ranks: row 15. Before there was node protection there were four ranks.
+    FourRanksTaken: "row 15 takes four ranks, 0 to 3 once each, as well as eight",
+    FourRanksOnly: "row 15 takes four ranks, 0 to 3 once each, and refuses eight",
+    RanksJudgedToFour: "row 15 looks at the first four of eight ranks only",
+    RanksInSetOf8: "row 15 looks a rank up in 8 bits, which 8 and 16 go round",
     RanksInSetOf32: "row 15 looks a rank up in 32 bits, which 32 and 64 go round",
     RanksInSetOf64: "row 15 looks a rank up in 64 bits, which 64 goes round",
-    RanksJudgedBySum: "row 15 takes four ranks whose sum is 6 modulo 256",
+    RanksJudgedBySum: "row 15 takes eight ranks whose sum is 28 modulo 256",
     RanksTriedFirst: "row 15 is tried before all other rows",
     RanksTriedLast: "row 15 is tried after row 13",
     RanksTriedForPair: "row 15 is tried only where there is a pair to tell",
     FifteenFills: "15 leaves the distances in the work area",
-    FifteenReturnsFour: "15 returns 4, the ranks needed",
+    FifteenReturnsEight: "15 returns 8, the ranks needed",
 
     // Played routes.
     OptionsDescending: "next routers stand in descending order",
@@ -248,130 +283,6 @@ faults! {
 }
 
 impl Fault {
-    /// No first hop is left out, as it was before there was maintenance.
-    pub const NOTHING_LEFT_OUT: Fault = Fault::LimitLoose(Limit::FirstHopCost);
-
-    /// The ways to take links under maintenance wrongly.
-    pub const OF_MAINTENANCE: [Fault; 7] = [
-        Fault::NOTHING_LEFT_OUT,
-        Fault::LimitTight(Limit::FirstHopCost),
-        Fault::MaintenanceTowardsS,
-        Fault::MaintenanceNotWalked,
-        Fault::MaintenanceNotThere,
-        Fault::ExtendedPOfEveryNeighbour,
-        Fault::PairsOfEveryNeighbour,
-    ];
-
-    /// The ways to take routers attached to a prefix wrongly.
-    pub const OF_ATTACHED: [Fault; 14] = [
-        Fault::AttachedPassed,
-        Fault::AttachedMayStepOn,
-        Fault::DeliveredWhereTight,
-        Fault::TunnelJudgedToAttached,
-        Fault::TunnelPlayedToAttached,
-        Fault::AttachedSRepaired,
-        Fault::PrefixAvoidedBySums,
-        Fault::CrossingOneHop,
-        Fault::CrossingTwoHops,
-        Fault::AttachedPlayedOn,
-        Fault::AttachedAtOwnCost,
-        Fault::OnlyFirstSlotDelivers,
-        Fault::UnusedSlotsDeliver,
-        Fault::DearestDeliversNot,
-    ];
-
-    /// The ways to add the check up wrongly.
-    pub const OF_CHECK: [Fault; 7] = [
-        Fault::CheckOver254Words,
-        Fault::CheckOver62Numbers,
-        Fault::CheckWithoutLeftOver,
-        Fault::CheckOfTwoLanes,
-        Fault::CheckMostByteFirst,
-        Fault::CheckCarriesOver,
-        Fault::CheckCarryAddedBack,
-    ];
-
-    /// The ways to take ranks wrongly.
-    pub const OF_RANKS: [Fault; 31] = [
-        Fault::ClassOfRank,
-        Fault::RankOfNextClass,
-        Fault::RankOfTurnedClass,
-        Fault::HighestRankFirst,
-        Fault::ClassBeforeRank,
-        Fault::RankToldAsClass,
-        Fault::LinkRepairAscending,
-        Fault::PrefixRepairAscending,
-        Fault::RouteAscending,
-        Fault::PlanDescending,
-        Fault::RanksInSetOf32,
-        Fault::RanksInSetOf64,
-        Fault::RanksJudgedBySum,
-        Fault::RanksTriedFirst,
-        Fault::RanksTriedLast,
-        Fault::RanksTriedForPair,
-        Fault::FifteenFills,
-        Fault::FifteenReturnsFour,
-        Fault::RowDropped(15),
-        Fault::RowsSwapped(11),
-        Fault::RowsSwapped(15),
-        Fault::CauseIgnored(Cause::RanksShort),
-        Fault::CauseIgnored(Cause::RanksLong),
-        Fault::CauseIgnored(Cause::RankOver),
-        Fault::CauseIgnored(Cause::RankTwice),
-        Fault::LimitLoose(Limit::LeastRanks),
-        Fault::LimitLoose(Limit::MostRanks),
-        Fault::LimitLoose(Limit::Rank),
-        Fault::LimitTight(Limit::LeastRanks),
-        Fault::LimitTight(Limit::MostRanks),
-        Fault::LimitTight(Limit::Rank),
-    ];
-
-    /// The ways to make a drill wrongly.
-    pub const OF_DRILLS: [Fault; 18] = [
-        Fault::DrawOfLowerBits,
-        Fault::DrawOfOldValue,
-        Fault::DrawOf15Bits,
-        Fault::DrawNotReduced,
-        Fault::DrawWithoutSum,
-        Fault::DrillModulo99,
-        Fault::DrillCostFromZero,
-        Fault::DrillBackFirst,
-        Fault::DrillAllForthFirst,
-        Fault::DrillLastLinkFirst,
-        Fault::DrillOneDrawForLink,
-        Fault::DrillLastLinkForgotten,
-        Fault::DrillLastLinkTurned,
-        Fault::DrillWithPrefix,
-        Fault::LimitLoose(Limit::LeastDrillRouters),
-        Fault::LimitLoose(Limit::MostDrillRouters),
-        Fault::LimitTight(Limit::LeastDrillRouters),
-        Fault::LimitTight(Limit::MostDrillRouters),
-    ];
-
-    /// The ways to write a file wrongly, a drill or a network.
-    pub const OF_FILES: [Fault; 7] = [
-        Fault::FilePartWritten,
-        Fault::FileByteBeyond,
-        Fault::FileNotWrittenClears,
-        Fault::FileCountOfBlocks,
-        Fault::FileCheckForgotten,
-        Fault::LimitLoose(Limit::FileBuffer),
-        Fault::LimitTight(Limit::FileBuffer),
-    ];
-
-    /// The ways to take a network wrongly that is to be written.
-    pub fn of_writing() -> Vec<Fault> {
-        let mut faults = Cause::OF_NETWORKS.map(Fault::WrittenThough).to_vec();
-        faults.extend([Fault::WriteCostsTurned, Fault::WriteUnusedSlots, Fault::WriteUnusedJudged]);
-        faults
-    }
-
-    /// The faults that no link repair, prefix repair or route shows while the
-    /// ranks ascend: a pair whose endpoint is S or E, or whose tunnel crosses the
-    /// link from E to S, then stands behind a serving pair of a lower class.
-    pub const BEHIND_OTHERS: [Fault; 3] =
-        [Fault::EndpointMayBeS, Fault::EndpointMayBeE, Fault::OnlySToETested];
-
     /// Every fault.
     pub fn all() -> Vec<Fault> {
         let mut all = Fault::PLAIN.to_vec();
