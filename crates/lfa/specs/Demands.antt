@@ -22,6 +22,7 @@ use Rattle.lfa.specs.Route.{deliver, AreOptionsBy, AreOptions, options, 
 use Rattle.lfa.specs.Question.{Question, Call, load, fill, linkRepair, prefixRepair, route, space, loading, filling, askSpace, askLink, askPrefix, askRoute, toPrefixRepair, withoutMaintenance, withRanks, LooksAtFirstHops, Buffer, workArea, routeBuffer, aRankTable, aLink, aPrefix, lent, HasInput, networkAsked, linkAsked, prefixAsked}
 use Rattle.lfa.specs.Refusal.{Row, noPair, Applies, entryOf, rowsTried, Decides, Accepted, Posed}
 use Rattle.lfa.specs.Writing.{Wrote}
+use Rattle.lfa.specs.Failures.{SeveralFailures}
 use Rattle.lfa.specs.Drill.{IsDrill, Drilled}
 use Rattle.lfa.specs.Answer.{Answer, refused, accepted, done, untouched, unreached, set, repair, played, answerTo, leave, writtenTo, exitOf, networkLoaded, linkPart, prefixPart}
 
@@ -373,6 +374,8 @@ pub record Demands : Type 0 where
   pub point-2 : (q : Question) → Point2 q
   pub point-4 : (q : Question) → Posed q → Point4 q
   pub point-5 : (q : Question) → Posed q → Point5 q
+  -- Point 9: "no packet for that prefix ever visits a router twice, whichever links have failed" (page `Failures`)
+  pub point-9 : (b : Bytes) → Accepted b → (p : ℕ) → SeveralFailures b p
   pub point-13 : Point13
   -- of a file of bytes, that is what `Posed` means
   pub posed-when : (q : Question) → ((i : ℕ) → byteAt (q .file) i < 256) →

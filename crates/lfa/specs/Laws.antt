@@ -50,5 +50,6 @@ pub mod Point2
 pub mod Former
 pub mod Point4
 pub mod Point5
+pub mod Failures
 pub mod Point13
 pub mod Demands

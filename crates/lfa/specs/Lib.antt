@@ -17,5 +17,6 @@ pub mod Ring
 pub mod Drill
 pub mod Answer
 pub mod Contract
+pub mod Failures
 pub mod Demands
 pub mod Laws

@@ -50,8 +50,7 @@ impl Case {
     /// The case of a file. The seed of its questions follows from its bytes, so
     /// that a case is the same whatever cases stand before it.
     pub fn of_file(file: NamedFile, breadth: Breadth) -> Case {
-        let seed =
-            file.bytes.iter().fold(0, |seed: u64, byte| seed * 31 % 1_000_003 + u64::from(*byte));
+        let seed = seed_of(&file.bytes);
         Case { name: file.name, file: file.bytes, breadth, seed }
     }
 
@@ -101,6 +100,11 @@ impl Case {
             None => format!("{:?}", self.file),
         }
     }
+}
+
+/// The seed that follows from the bytes of a file.
+pub(crate) fn seed_of(bytes: &[u8]) -> u64 {
+    bytes.iter().fold(0, |seed: u64, byte| seed * 31 % 1_000_003 + u64::from(*byte))
 }
 
 /// What a run found.

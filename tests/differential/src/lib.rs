@@ -12,6 +12,7 @@ pub mod call;
 pub mod campaign;
 pub mod compare;
 pub mod coverage;
+pub mod failures;
 pub mod files;
 pub mod legs;
 pub mod lent;

@@ -125,10 +125,15 @@ impl<'a> Rules<'a> {
         Ok(Met { hops: route.len() - 1, maintained, ..walk.met })
     }
 
+    /// The routers that links join to S.
+    pub(crate) fn neighbours(&self, s: usize) -> Vec<usize> {
+        (0..self.routers()).filter(|z| self.cost[s][*z].is_some()).collect()
+    }
+
     /// The neighbours of S other than E to which the link is not under maintenance.
     pub(crate) fn first_hops(&self, s: usize, e: usize) -> Vec<usize> {
-        let in_use = |n: &usize| self.cost[s][*n].is_some() && !self.maintained(s, *n);
-        (0..self.routers()).filter(|n| *n != e && in_use(n)).collect()
+        let neighbours = self.neighbours(s).into_iter();
+        neighbours.filter(|n| *n != e && !self.maintained(s, *n)).collect()
     }
 
     /// Whether the hop from x to z is under maintenance.

@@ -1,5 +1,5 @@
 //! The comparison notices every wrong planner: each fault of the oracle is
-//! turned on in turn, and some call then differs from the library's. One fault no call
+//! turned on in turn, and some call then differs from the library's. Some faults no call
 //! can show.
 
 use differential::campaign::{Breadth, Case};

@@ -19,6 +19,7 @@ pub mod corpus;
 pub mod damage;
 pub mod distance;
 pub mod drill;
+pub mod failures;
 pub mod fault;
 pub mod file;
 pub mod generate;

@@ -26,6 +26,7 @@ use Rattle.lfa.specs.Laws.Point1.{put-at-65535, point-1}
 use Rattle.lfa.specs.Laws.Ranks.{eight-ranks}
 use Rattle.lfa.specs.Laws.Point2.{ranks-lent, point-2}
 use Rattle.lfa.specs.Laws.Point4.{point-4}
+use Rattle.lfa.specs.Laws.Failures.{several-failures}
 use Rattle.lfa.specs.Laws.Point5.{point-5}
 use Rattle.lfa.specs.Laws.Point13.{point-13}
 use Rattle.lfa.specs.Laws.PosedWhen.{posed-when}
@@ -98,4 +99,4 @@ the-demand-3 q p = record {
 -- ---- the demands
 
 pub demands : Demands
-demands = record { demand-1 = the-demand-1; demand-2 = the-demand-2; demand-3 = the-demand-3; put-at-65535 = put-at-65535; point-1 = point-1; ranks-lent = ranks-lent; eight-ranks = eight-ranks; point-2 = λ q. point-2 q (the-demand-3 q); point-4 = λ q p. point-4 q p (the-demand-2 q p) (the-demand-3 q p); point-5 = λ q p. point-5 q p (the-demand-2 q p); point-13 = point-13; posed-when = posed-when }
+demands = record { demand-1 = the-demand-1; demand-2 = the-demand-2; demand-3 = the-demand-3; put-at-65535 = put-at-65535; point-1 = point-1; ranks-lent = ranks-lent; eight-ranks = eight-ranks; point-2 = λ q. point-2 q (the-demand-3 q); point-4 = λ q p. point-4 q p (the-demand-2 q p) (the-demand-3 q p); point-5 = λ q p. point-5 q p (the-demand-2 q p); point-9 = λ b a p. several-failures b a p the-demand-2; point-13 = point-13; posed-when = posed-when }

@@ -43,9 +43,9 @@ module _ (n : ℕ) (hops : List Arc) (d : ℕ → ℕ → ℕ) (to : Target) (ch
       let (m₁, falls₁) = falls sound d (router y) in
       let (m₂, falls₂) = falls sound d to in
       let leg : List ℕ = playTo n (options n hops d (router y)) choices y 0 m in
-      let first = first-leg-played n hops d y m₁ dist (sound .within) falls₁ choices n 0 m fm (rank-few hops d (router y) n m₁ (sound .within) falls₁ m hm) in
+      let first = first-leg-played n hops d y m₁ dist (sound .within) falls₁ choices n 0 m fm (rank-few m₁ n m hm) in
       let used : first .0 ≡ length leg = omega (arith, bytes-used (options n hops d (router y)) choices (first .1)) in
-      let second = second-leg-played n hops d to m₂ dist (sound .within) falls₂ choices n (length leg) y fy (rank-few hops d to n m₂ (sound .within) falls₂ y hy) in
+      let second = second-leg-played n hops d to m₂ dist (sound .within) falls₂ choices n (length leg) y fy (rank-few m₂ n y hy) in
       record {
         tunnel = leg;
         rest = playOn n (options n hops d to) choices (length leg) y;

@@ -64,9 +64,27 @@ impl Fault {
         Fault::VisitTwoHops,
     ];
 
-    /// The fault that no call shows: each leg of a pair starts at n or y, and neither
-    /// is E. It shows in the visits of a walk alone.
-    pub const IN_NO_CALL: [Fault; 1] = [Fault::StartNotVisited];
+    /// The ways to send a packet on by something else than a usual step or a neighbour
+    /// repair that is downstream. With each some packet visits a router twice.
+    pub const OF_FAILURES: [Fault; 5] = [
+        Fault::NotDownstreamSent,
+        Fault::TunnelSentPlain,
+        Fault::OtherPrefixStepSent,
+        Fault::LinkRepairSent,
+        Fault::SendsByTwoFiles,
+    ];
+
+    /// The faults that no call shows. Each leg of a pair starts at n or y, and neither
+    /// is E, so that the first shows in the visits of a walk alone. The others show in
+    /// the trails of packets.
+    pub const IN_NO_CALL: [Fault; 6] = [
+        Fault::StartNotVisited,
+        Fault::NotDownstreamSent,
+        Fault::TunnelSentPlain,
+        Fault::OtherPrefixStepSent,
+        Fault::LinkRepairSent,
+        Fault::SendsByTwoFiles,
+    ];
 
     /// The ways to add the check up wrongly.
     pub const OF_CHECK: [Fault; 7] = [

@@ -204,6 +204,14 @@ faults! {
     VisitOneHop: "visits are looked for up to the first hop of a walk",
     VisitTwoHops: "visits are looked for up to the second hop of a walk",
 
+    // Several failures together. No call tells what a router sends by: these show in the
+    // trails of packets.
+    NotDownstreamSent: "routers send by neighbour repairs of the classes 1 and 5 too",
+    TunnelSentPlain: "routers send to the first hop of a tunnel whose endpoint is downstream, without the tunnel",
+    OtherPrefixStepSent: "routers send by a usual step towards any prefix",
+    LinkRepairSent: "routers send by a link's own neighbour repairs of class 4, whatever the prefix",
+    SendsByTwoFiles: "routers of odd number send by the costs of another file, that of before maintenance",
+
     // Ranks: the table's use. That row 15 takes a wrong table, or comes at another
     // place, is said by rows, causes and limits too.
     ClassOfRank: "the table is read the other way: it maps a rank to its class",

@@ -1,10 +1,12 @@
 //! The hand-worked networks of document 01, networks of the source documents
 //! that their text determines, networks in which ranks matter, networks with
-//! links under maintenance, networks with dear attachments, and networks for node
-//! protection.
+//! links under maintenance, networks with dear attachments, networks for node
+//! protection, and networks for several failures together.
 
+mod failures;
 mod node;
 
+pub use failures::*;
 pub use node::*;
 
 use crate::network::Network;

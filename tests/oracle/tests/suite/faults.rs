@@ -1,4 +1,4 @@
-//! Every fault is noticed by some case of the corpus, but one that no call shows. Some
+//! Every fault is noticed by some case of the corpus, but those that no call shows. Some
 //! change no repair while the ranks ascend.
 
 use oracle::answer::{Outcome, Question};

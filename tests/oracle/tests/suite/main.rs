@@ -9,6 +9,7 @@ mod common;
 mod coverage;
 mod distances;
 mod drills;
+mod failures;
 mod faults;
 mod maintenance;
 mod node;
