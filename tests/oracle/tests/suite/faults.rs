@@ -8,16 +8,21 @@ use oracle::random::Random;
 use oracle::ranks::ASCENDING;
 use oracle::space::Space;
 use std::collections::BTreeSet;
+use std::sync::OnceLock;
 
 const SEED: u64 = 1;
 
-fn with_expected() -> Vec<(Case, Vec<Outcome>)> {
-    let cases = corpus::cases(SEED).into_iter();
-    let expected = cases.map(|case| {
-        let outcomes = case.outcomes(&Context::sound());
-        (case, outcomes)
-    });
-    expected.collect()
+/// The cases with what is right, worked out once.
+fn with_expected() -> &'static [(Case, Vec<Outcome>)] {
+    static EXPECTED: OnceLock<Vec<(Case, Vec<Outcome>)>> = OnceLock::new();
+    EXPECTED.get_or_init(|| {
+        let cases = corpus::cases(SEED).into_iter();
+        let expected = cases.map(|case| {
+            let outcomes = case.outcomes(&Context::sound());
+            (case, outcomes)
+        });
+        expected.collect()
+    })
 }
 
 /// The name of the first case that notices a fault, and its question.
@@ -34,7 +39,7 @@ fn every_fault_is_noticed() {
     let cases = with_expected();
     let mut unnoticed = Vec::new();
     for fault in Fault::all() {
-        match noticed(&cases, fault) {
+        match noticed(cases, fault) {
             Some(by) => println!("{} is noticed by {by}", fault.name()),
             None => unnoticed.push(fault.name()),
         }
@@ -52,7 +57,7 @@ fn what_other_classes_hide_shows_with_other_ranks() {
         for (case, expected) in with_expected() {
             let asked = case.questions.iter().zip(case.outcomes(&ctx)).zip(expected);
             for (((question, _), outcome), expected) in asked {
-                if outcome != expected {
+                if &outcome != expected {
                     assert_ne!(question.ranks(), Some(&ASCENDING[..]), "{question:?}");
                     calls.insert(call(question));
                 }
