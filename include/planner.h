@@ -9,6 +9,8 @@
  * - `work` is the work area. Where the file has N routers, the first N * N cells receive the distances, row by row: cell x * N + t is
  *   the distance from router x to router t, and 4294967295 where no path leads. The cells after them stay as they were. N is at most
  *   64, so that 4096 cells are enough for every file, and 128 bytes for `route`.
+ * - `table` is a table of the file's distances, as a call leaves them in the work area, and is never changed. Whoever filled it, the
+ *   call answers by it only if it holds the distances of the file.
  * - `ranks` says which classes of pairs are preferred, and is never changed: cell c is the rank of class c, and of the pairs that serve
  *   the one whose class has the lowest rank comes first. It holds the numbers 0 to 7 once each, in any order, so that `ranks_len` is 8.
  *   The cells 0, 1, 2, 3, 4, 5, 6, 7 prefer the lower class, as `plan` does; 4, 5, 0, 1, 6, 7, 2, 3 prefer tunnels. Which questions row
@@ -32,7 +34,8 @@
  *   8       prefix: its attachments are 0 or over 8, the router of a used slot is not below N, or    the first such prefix
  *           a byte that has to be zero is not, those of the unused slots among them
  *   9       prefix: two of its attachments name the same router                                      the first such prefix
- *   10      `work` has fewer than N * N cells                                                        N * N
+ *   10      `work` or `table` has fewer than N * N cells                                             N * N
+ *   18      the first N * N cells of `table` are not the distances of the file                       0
  *   11      `route` has fewer than 2 * N bytes                                                       2 * N
  *   15      `ranks` does not hold the numbers 0 to 7 once each: too few or many cells, a rank over   0
  *           7, or one that stands twice
@@ -52,6 +55,8 @@
 
 /* The version of this interface. It is one higher with each change of the interface; the list says what has to be changed in a program.
  *
+ *   5   planner_link_repair_with, planner_prefix_repair_with and planner_route_with are new, and row 18, which only they try. Nothing
+ *       has to be changed in a program for version 4.
  *   4   There are eight classes: a pair by which a packet may visit the far router E has 4 more than before. So the repair of a link has
  *       the class 4 to 7, and that of a prefix, with ascending ranks, is by a pair that does without E where there is one. `ranks` has
  *       eight cells, and four are refused by row 15. A program that calls planner_link_repair, planner_prefix_repair or planner_route,
@@ -60,7 +65,7 @@
  *   2   planner_link_repair, planner_prefix_repair and planner_route take `ranks` and `ranks_len` after `work_len`, and may be refused
  *       by row 15. With the ranks 0, 1, 2, 3 they answer as before. A program that calls them has to be changed.
  *   1   had no number: the three calls took no ranks. */
-#define PLANNER_VERSION 4
+#define PLANNER_VERSION 5
 
 #ifdef __cplusplus
 extern "C" {
@@ -81,7 +86,7 @@ enum {
 /* An answer. A field of which its kind does not speak is 0. */
 typedef struct {
     uint32_t kind;
-    uint32_t number;     /* the row of the table above, 1 to 15 */
+    uint32_t number;     /* the row of the table above, 1 to 15 or 18 */
     uint64_t value;      /* the value of a refusal, a set, or a number of routers */
     size_t first;        /* the first hop */
     size_t endpoint;     /* the tunnel's endpoint */
@@ -142,12 +147,23 @@ planner_answer planner_prefix_repair(const uint8_t *file, size_t file_len, uint3
                                      size_t ranks_len, size_t link, size_t end, size_t prefix);
 
 /* Plays the route of a packet from S to a prefix by the pair that repairs it: PLANNER_PLAYED, PLANNER_UNREACHABLE, PLANNER_UNTOUCHED,
- * or a refusal by any row. The bytes at `choices` decide between options, and are 0 after the last. Writes the routers that the
+ * or a refusal by any row but 18. The bytes at `choices` decide between options, and are 0 after the last. Writes the routers that the
  * packet visits, S first, into `route`, and leaves the bytes after them as they were; only PLANNER_PLAYED writes there. Leaves the
  * distances in the work area, where row 14 refuses too. */
 planner_answer planner_route(const uint8_t *file, size_t file_len, uint32_t *work, size_t work_len, const uint8_t *ranks,
                              size_t ranks_len, size_t link, size_t end, size_t prefix, const uint8_t *choices, size_t choices_len,
                              uint8_t *route, size_t route_len);
+
+/* The same three for many questions about one file: planner_distances fills a table once, and these take the table in place of the work
+ * area. A refusal is by the rows of the call above or by row 18, which is tried after row 10 and before row 11. With a table of the file's
+ * distances each answers, and writes into `route`, as the call above does with a work area of as many cells. */
+planner_answer planner_link_repair_with(const uint8_t *file, size_t file_len, const uint32_t *table, size_t table_len,
+                                        const uint8_t *ranks, size_t ranks_len, size_t link, size_t end);
+planner_answer planner_prefix_repair_with(const uint8_t *file, size_t file_len, const uint32_t *table, size_t table_len,
+                                          const uint8_t *ranks, size_t ranks_len, size_t link, size_t end, size_t prefix);
+planner_answer planner_route_with(const uint8_t *file, size_t file_len, const uint32_t *table, size_t table_len, const uint8_t *ranks,
+                                  size_t ranks_len, size_t link, size_t end, size_t prefix, const uint8_t *choices,
+                                  size_t choices_len, uint8_t *route, size_t route_len);
 
 /* Writes the network file of a network into `buffer`, and returns how many bytes it has: 512 for each block, at most 6656. Returns 0,
  * and writes nothing, where the network is outside the limits of docs/SPECIFICATION.md, The network file, or where the buffer is

@@ -79,6 +79,62 @@ pub fn route(file: &[u8], question: (usize, usize, usize)) -> Times {
     )
 }
 
+/// The distances of a file, for the calls that are lent them. Both sides read the
+/// same cells.
+fn table_of(file: &[u8]) -> Vec<u32> {
+    let mut table = vec![0; 64 * 64];
+    Baseline::distances(file, &mut table);
+    table
+}
+
+pub fn link_repair_with(file: &[u8], link: usize, end: usize) -> Times {
+    fn call<S: Side>(file: &[u8], table: &[u32], link: usize, end: usize) {
+        let (link, end) = black_box((link, end));
+        let ranks = black_box(&ASCENDING_RANKS);
+        black_box(S::link_repair_with(black_box(file), black_box(table), ranks, link, end));
+    }
+    let table = table_of(file);
+    measure(
+        ROUNDS,
+        || call::<Planner>(file, &table, link, end),
+        || call::<Baseline>(file, &table, link, end),
+    )
+}
+
+pub fn prefix_repair_with(file: &[u8], question: (usize, usize, usize)) -> Times {
+    fn call<S: Side>(file: &[u8], table: &[u32], question: (usize, usize, usize)) {
+        let (link, end, prefix) = black_box(question);
+        let (file, table, ranks) = black_box((file, table, &ASCENDING_RANKS));
+        black_box(S::prefix_repair_with(file, table, ranks, link, end, prefix));
+    }
+    let table = table_of(file);
+    measure(
+        ROUNDS,
+        || call::<Planner>(file, &table, question),
+        || call::<Baseline>(file, &table, question),
+    )
+}
+
+pub fn route_with(file: &[u8], question: (usize, usize, usize)) -> Times {
+    fn call<S: Side>(
+        file: &[u8],
+        table: &[u32],
+        route: &mut [u8; 128],
+        question: (usize, usize, usize),
+    ) {
+        let (ranks, question, choices) = black_box((&ASCENDING_RANKS, question, &[][..]));
+        let (file, table, route) = black_box((file, table, route));
+        black_box(S::route_with(file, table, ranks, question, choices, route));
+    }
+    let table = table_of(file);
+    let (mut one, mut other) = ([0; 128], [0; 128]);
+    measure(
+        ROUNDS,
+        || call::<Planner>(file, &table, &mut one, question),
+        || call::<Baseline>(file, &table, &mut other, question),
+    )
+}
+
 pub fn plan(file: &[u8]) -> Times {
     fn call<S: Side>(file: &[u8], (work, text): &mut (Vec<u32>, Vec<u8>)) {
         text.clear();

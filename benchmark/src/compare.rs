@@ -32,22 +32,35 @@ impl Lent {
     }
 }
 
+/// An answer, and what the call left in the buffers.
+struct Outcome {
+    answer: Answer,
+    left: Lent,
+}
+
 /// The questions about one file, asked of two sides.
 struct Comparison<'a> {
     file: &'a [u8],
+    /// The distances, and cells after them, for the calls that are lent a table.
+    table: &'a [u32],
     routers: usize,
     asked: usize,
 }
 
 /// Asks both sides every question about a file: every link and end, and every
-/// so manieth prefix. The answer is how many questions there were, or which
-/// one is answered differently.
+/// so manieth prefix; a repair and a route also with the table of the distances,
+/// and then the answer has to be the same again. The answer is how many questions
+/// there were, or which one is answered differently.
 pub fn compare<A: Side, B: Side>(file: &[u8], every: usize) -> Result<usize, String> {
     let network = A::load(file);
     if network != B::load(file) {
         return Err("load".into());
     }
-    let mut comparison = Comparison { file, routers: network.routers, asked: 1 };
+    let routers = network.routers;
+    let mut table = Lent::new(routers).work;
+    A::distances(file, &mut table);
+    let before = table.clone();
+    let mut comparison = Comparison { file, table: &table, routers, asked: 1 };
     comparison.distances::<A, B>()?;
     comparison.plan::<A, B>()?;
     for (link, end) in (0..network.links).flat_map(|link| [(link, 0), (link, 1)]) {
@@ -56,7 +69,11 @@ pub fn compare<A: Side, B: Side>(file: &[u8], every: usize) -> Result<usize, Str
             comparison.prefix::<A, B>(link, end, prefix)?;
         }
     }
-    Ok(comparison.asked)
+    let asked = comparison.asked;
+    if table != before {
+        return Err("the table is written".into());
+    }
+    Ok(asked)
 }
 
 impl Comparison<'_> {
@@ -66,7 +83,7 @@ impl Comparison<'_> {
         name: impl FnOnce() -> String,
         a: impl FnOnce(&mut Lent) -> Answer,
         b: impl FnOnce(&mut Lent) -> Answer,
-    ) -> Result<Answer, String> {
+    ) -> Result<Outcome, String> {
         let (mut one, mut other) = (Lent::new(self.routers), Lent::new(self.routers));
         let (answer, second) = (a(&mut one), b(&mut other));
         self.asked += 1;
@@ -79,7 +96,24 @@ impl Comparison<'_> {
         if one.route != other.route {
             return Err(format!("{}: the route buffer", name()));
         }
-        Ok(answer)
+        Ok(Outcome { answer, left: one })
+    }
+
+    /// Asks both sides the question that was just asked with the table in place of
+    /// the work area. They have to answer, and to leave the route, as before.
+    fn ask_again(
+        &mut self,
+        name: impl Fn() -> String,
+        first: &Outcome,
+        a: impl FnOnce(&mut Lent) -> Answer,
+        b: impl FnOnce(&mut Lent) -> Answer,
+    ) -> Result<(), String> {
+        let name = || format!("{}, with the table", name());
+        let second = self.ask(name, a, b)?;
+        if second.answer != first.answer || second.left.route != first.left.route {
+            return Err(format!("{}: not as without it", name()));
+        }
+        Ok(())
     }
 
     fn distances<A: Side, B: Side>(&mut self) -> Result<(), String> {
@@ -114,13 +148,30 @@ impl Comparison<'_> {
             )?;
         }
         for ranks in RANKS {
-            self.ask(
-                || format!("repair of link {link}, end {end}, ranks {ranks:?}"),
-                |lent| A::link_repair(file, &mut lent.work, &ranks, link, end),
-                |lent| B::link_repair(file, &mut lent.work, &ranks, link, end),
-            )?;
+            self.link_repair::<A, B>(&ranks, link, end)?;
         }
         Ok(())
+    }
+
+    fn link_repair<A: Side, B: Side>(
+        &mut self,
+        ranks: &[u8],
+        link: usize,
+        end: usize,
+    ) -> Result<(), String> {
+        let (file, table) = (self.file, self.table);
+        let name = || format!("repair of link {link}, end {end}, ranks {ranks:?}");
+        let first = self.ask(
+            name,
+            |lent| A::link_repair(file, &mut lent.work, ranks, link, end),
+            |lent| B::link_repair(file, &mut lent.work, ranks, link, end),
+        )?;
+        self.ask_again(
+            name,
+            &first,
+            |_| A::link_repair_with(file, table, ranks, link, end),
+            |_| B::link_repair_with(file, table, ranks, link, end),
+        )
     }
 
     /// The repair of a prefix, and its routes. Where there is no pair, nothing
@@ -131,23 +182,47 @@ impl Comparison<'_> {
         end: usize,
         prefix: usize,
     ) -> Result<(), String> {
-        let file = self.file;
-        let question = (link, end, prefix);
-        let ranks = RANKS[prefix % RANKS.len()];
-        let answer = self.ask(
-            || format!("repair of prefix {prefix} at link {link}, end {end}, ranks {ranks:?}"),
-            |lent| A::prefix_repair(file, &mut lent.work, &ranks, link, end, prefix),
-            |lent| B::prefix_repair(file, &mut lent.work, &ranks, link, end, prefix),
+        let (file, table) = (self.file, self.table);
+        let ranks = &RANKS[prefix % RANKS.len()];
+        let name =
+            || format!("repair of prefix {prefix} at link {link}, end {end}, ranks {ranks:?}");
+        let first = self.ask(
+            name,
+            |lent| A::prefix_repair(file, &mut lent.work, ranks, link, end, prefix),
+            |lent| B::prefix_repair(file, &mut lent.work, ranks, link, end, prefix),
+        )?;
+        self.ask_again(
+            name,
+            &first,
+            |_| A::prefix_repair_with(file, table, ranks, link, end, prefix),
+            |_| B::prefix_repair_with(file, table, ranks, link, end, prefix),
         )?;
         let strings = choice_strings();
-        let played = if answer.kind == PAIR { strings.len() } else { 1 };
+        let played = if first.answer.kind == PAIR { strings.len() } else { 1 };
         for choices in &strings[..played] {
-            self.ask(
-                || format!("route of {question:?}, ranks {ranks:?}, choices {choices:?}"),
-                |lent| A::route(file, &mut lent.work, &ranks, question, choices, &mut lent.route),
-                |lent| B::route(file, &mut lent.work, &ranks, question, choices, &mut lent.route),
-            )?;
+            self.route::<A, B>(ranks, (link, end, prefix), choices)?;
         }
         Ok(())
+    }
+
+    fn route<A: Side, B: Side>(
+        &mut self,
+        ranks: &[u8],
+        question: (usize, usize, usize),
+        choices: &[u8],
+    ) -> Result<(), String> {
+        let (file, table) = (self.file, self.table);
+        let name = || format!("route of {question:?}, ranks {ranks:?}, choices {choices:?}");
+        let first = self.ask(
+            name,
+            |lent| A::route(file, &mut lent.work, ranks, question, choices, &mut lent.route),
+            |lent| B::route(file, &mut lent.work, ranks, question, choices, &mut lent.route),
+        )?;
+        self.ask_again(
+            name,
+            &first,
+            |lent| A::route_with(file, table, ranks, question, choices, &mut lent.route),
+            |lent| B::route_with(file, table, ranks, question, choices, &mut lent.route),
+        )
     }
 }

@@ -9,5 +9,6 @@ pub mod networks;
 pub mod plan;
 pub mod planner;
 pub mod side;
+pub mod tables;
 pub mod timing;
 pub mod written;

@@ -8,18 +8,22 @@ use benchmark::compare::compare;
 use benchmark::networks::{self, Named};
 use benchmark::planner::Planner;
 use benchmark::side::Side;
+use benchmark::tables::compare_tables;
 use benchmark::timing::Times;
 use benchmark::written::{compare_drills, compare_written};
 use planner::ASCENDING_RANKS;
 
 /// The calls in the order of the table, with the largest ratio that is wanted.
-const CALLS: [(&str, Option<f64>); 9] = [
+const CALLS: [(&str, Option<f64>); 12] = [
     ("load", Some(1.5)),
     ("load of one block", Some(1.5)),
     ("distances", Some(1.5)),
     ("link repair", Some(1.5)),
     ("prefix repair", Some(1.5)),
     ("route", Some(1.5)),
+    ("link repair with table", Some(1.5)),
+    ("prefix repair with table", Some(1.5)),
+    ("route with table", Some(1.5)),
     ("plan", Some(2.0)),
     ("write", None),
     ("drill", None),
@@ -36,6 +40,7 @@ fn main() {
     let networks = networks::all();
     for Named { name, file } in &networks {
         told(name, compare::<Planner, Baseline>(file, 1));
+        told(name, compare_tables::<Planner, Baseline>(file, 1));
         told(name, compare_written::<Planner, Baseline>(file));
     }
     told("drills", compare_drills::<Planner, Baseline>());
@@ -71,7 +76,7 @@ fn one_block() -> Line {
 
 /// The largest drill.
 fn drill() -> Line {
-    Line { call: 8, network: "64 routers", times: calls::drill(1, 64) }
+    Line { call: 11, network: "64 routers", times: calls::drill(1, 64) }
 }
 
 /// The question with the longest route, the first of them.
@@ -104,8 +109,11 @@ fn time_network(network: &Named) -> Vec<Line> {
         (3, calls::link_repair(file, link, end)),
         (4, calls::prefix_repair(file, question)),
         (5, calls::route(file, question)),
-        (6, calls::plan(file)),
-        (7, calls::write(&Baseline::load(file))),
+        (6, calls::link_repair_with(file, link, end)),
+        (7, calls::prefix_repair_with(file, question)),
+        (8, calls::route_with(file, question)),
+        (9, calls::plan(file)),
+        (10, calls::write(&Baseline::load(file))),
     ];
     times.map(|(call, times)| Line { call, network: network.name, times }).into()
 }

@@ -1,12 +1,13 @@
 //! The whole plan, put together from the calls of one side in the way of the
-//! program `plan`: one load, and a link repair for each link and end, each of
-//! which reads the file and fills the distances anew. The ranks ascend.
+//! program `plan`: one load, one fill of the distances, and a link repair with
+//! them for each link and end, each of which reads the file and checks the
+//! distances anew. The ranks ascend.
 
 use crate::answer::{Answer, PAIR, REFUSED};
 use crate::side::Side;
 use planner::ASCENDING_RANKS;
 
-/// Adds the text of a file's plan.
+/// Adds the text of a file's plan. The work area has cells enough for the file.
 pub fn write<S: Side>(file: &[u8], work: &mut [u32], text: &mut Vec<u8>) {
     let network = S::load(file);
     if network.kind == REFUSED {
@@ -16,6 +17,7 @@ pub fn write<S: Side>(file: &[u8], work: &mut [u32], text: &mut Vec<u8>) {
     }
     text.extend(b"plan");
     fields(text, &[network.routers as u64, network.links as u64, network.prefixes as u64]);
+    S::distances(file, work);
     for link in 0..network.links {
         let (a, b) = (u64::from(network.from[link]), u64::from(network.to[link]));
         for (end, near, far) in [(0, a, b), (1, b, a)] {
@@ -24,7 +26,7 @@ pub fn write<S: Side>(file: &[u8], work: &mut [u32], text: &mut Vec<u8>) {
                 text.push(b' ');
                 digits(text, field);
             }
-            repair(text, &S::link_repair(file, work, &ASCENDING_RANKS, link, end as usize));
+            repair(text, &S::link_repair_with(file, work, &ASCENDING_RANKS, link, end as usize));
         }
     }
 }

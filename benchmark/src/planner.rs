@@ -98,6 +98,77 @@ impl Side for Planner {
         }
     }
 
+    fn link_repair_with(
+        file: &[u8],
+        table: &[u32],
+        ranks: &[u8],
+        link: usize,
+        end: usize,
+    ) -> Answer {
+        unsafe {
+            raw::planner_link_repair_with(
+                file.as_ptr(),
+                file.len(),
+                table.as_ptr(),
+                table.len(),
+                ranks.as_ptr(),
+                ranks.len(),
+                link,
+                end,
+            )
+        }
+    }
+
+    fn prefix_repair_with(
+        file: &[u8],
+        table: &[u32],
+        ranks: &[u8],
+        link: usize,
+        end: usize,
+        prefix: usize,
+    ) -> Answer {
+        unsafe {
+            raw::planner_prefix_repair_with(
+                file.as_ptr(),
+                file.len(),
+                table.as_ptr(),
+                table.len(),
+                ranks.as_ptr(),
+                ranks.len(),
+                link,
+                end,
+                prefix,
+            )
+        }
+    }
+
+    fn route_with(
+        file: &[u8],
+        table: &[u32],
+        ranks: &[u8],
+        (link, end, prefix): (usize, usize, usize),
+        choices: &[u8],
+        route: &mut [u8],
+    ) -> Answer {
+        unsafe {
+            raw::planner_route_with(
+                file.as_ptr(),
+                file.len(),
+                table.as_ptr(),
+                table.len(),
+                ranks.as_ptr(),
+                ranks.len(),
+                link,
+                end,
+                prefix,
+                choices.as_ptr(),
+                choices.len(),
+                route.as_mut_ptr(),
+                route.len(),
+            )
+        }
+    }
+
     fn write(network: &Network, buffer: &mut [u8]) -> usize {
         unsafe { raw::planner_write(network.clone(), buffer.as_mut_ptr(), buffer.len()) }
     }

@@ -32,6 +32,33 @@ pub trait Side {
         route: &mut [u8],
     ) -> Answer;
 
+    /// The same three with a table of distances in place of the work area.
+    fn link_repair_with(
+        file: &[u8],
+        table: &[u32],
+        ranks: &[u8],
+        link: usize,
+        end: usize,
+    ) -> Answer;
+
+    fn prefix_repair_with(
+        file: &[u8],
+        table: &[u32],
+        ranks: &[u8],
+        link: usize,
+        end: usize,
+        prefix: usize,
+    ) -> Answer;
+
+    fn route_with(
+        file: &[u8],
+        table: &[u32],
+        ranks: &[u8],
+        question: (usize, usize, usize),
+        choices: &[u8],
+        route: &mut [u8],
+    ) -> Answer;
+
     /// Both sides get the network in the struct of the C interface. In C it is
     /// passed by value, so that the planner's side has it copied for each call;
     /// the baseline reads it where it is, as a program in Rust would. So the

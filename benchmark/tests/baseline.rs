@@ -12,6 +12,7 @@ use oracle::generate::{self, Family};
 use oracle::network::Network as OracleNetwork;
 use oracle::random::Random;
 use oracle::row::Cause;
+use oracle::table;
 use std::collections::BTreeSet;
 
 /// A number of a question: one that does not fit counts as the largest.
@@ -104,18 +105,50 @@ fn agrees(file: &[u8], question: &Question, lent: &Buffers, expected: &Outcome) 
             };
             Baseline::space(space, file, work, number(link), number(end))
         }
-        Question::LinkRepair { ranks, link, end } => {
-            Baseline::link_repair(file, work, ranks, number(link), number(end))
-        }
-        Question::PrefixRepair { ranks, link, end, prefix } => {
-            Baseline::prefix_repair(file, work, ranks, number(link), number(end), number(prefix))
-        }
-        Question::Route { ranks, link, end, prefix, choices } => {
-            let question = (number(link), number(end), number(prefix));
-            Baseline::route(file, work, ranks, question, choices, &mut left.route)
+        Question::LinkRepair { .. } | Question::PrefixRepair { .. } | Question::Route { .. } => {
+            match question.table() {
+                Some(table) => second_call(file, table, question, &mut left.route),
+                None => single_call(file, question, &mut left),
+            }
         }
     };
     told(answer) == expected.answer && left == expected.left
+}
+
+/// A repair or a route of the baseline, with a work area.
+fn single_call(file: &[u8], question: &Question, left: &mut Buffers) -> Answer {
+    let work = &mut left.work;
+    match question {
+        Question::LinkRepair { ranks, link, end, .. } => {
+            Baseline::link_repair(file, work, ranks, number(link), number(end))
+        }
+        Question::PrefixRepair { ranks, link, end, prefix, .. } => {
+            Baseline::prefix_repair(file, work, ranks, number(link), number(end), number(prefix))
+        }
+        Question::Route { ranks, link, end, prefix, choices, .. } => {
+            let asked = (number(link), number(end), number(prefix));
+            Baseline::route(file, work, ranks, asked, choices, &mut left.route)
+        }
+        _ => panic!("{question:?} is neither"),
+    }
+}
+
+/// The same with a table.
+fn second_call(file: &[u8], table: &[u32], question: &Question, route: &mut [u8]) -> Answer {
+    match question {
+        Question::LinkRepair { ranks, link, end, .. } => {
+            Baseline::link_repair_with(file, table, ranks, number(link), number(end))
+        }
+        Question::PrefixRepair { ranks, link, end, prefix, .. } => {
+            let (link, end, prefix) = (number(link), number(end), number(prefix));
+            Baseline::prefix_repair_with(file, table, ranks, link, end, prefix)
+        }
+        Question::Route { ranks, link, end, prefix, choices, .. } => {
+            let asked = (number(link), number(end), number(prefix));
+            Baseline::route_with(file, table, ranks, asked, choices, route)
+        }
+        _ => panic!("{question:?} is neither"),
+    }
 }
 
 /// The files of the oracle's own corpus: every cause of every row at several
@@ -160,6 +193,32 @@ fn random_networks_have_the_same_outcomes() {
                 let expected = opened.ask(&question, &lent);
                 assert!(agrees(&file, &question, &lent, &expected), "{family:?}: {question:?}");
             }
+        }
+    }
+}
+
+/// Tables of every kind, in each call that takes one, on random networks of every family.
+/// The last are the right ones with cells replaced at random.
+#[test]
+fn tables_have_the_same_outcomes() {
+    let sound = Context::sound();
+    let random = &mut Random::new(27);
+    for (most, family) in
+        [4, 12, 64].iter().flat_map(|most| Family::ALL.iter().map(move |f| (*most, *f)))
+    {
+        let network = generate::network(family, most, random);
+        let file = oracle::file::write(&network);
+        let opened = Opened::new(&sound, &file);
+        let lent = corpus::marked(3, 2 * usize::from(network.routers));
+        let mut tables: Vec<_> = table::tables(&network).into_iter().map(|one| one.cells).collect();
+        if most < 64 {
+            tables.extend(table::one_cell_off(&network).into_iter().map(|one| one.cells));
+        }
+        tables.extend((0..20).map(|_| table::changed(&network, random)));
+        for (cells, question) in tables.iter().flat_map(|one| calls().map(|call| (one, call))) {
+            let question = question.with_table(cells);
+            let expected = opened.ask(&question, &lent);
+            assert!(agrees(&file, &question, &lent, &expected), "{family:?}: {question:?}");
         }
     }
 }

@@ -7,7 +7,11 @@ use benchmark::compare::compare;
 use benchmark::networks;
 use benchmark::planner::Planner;
 use benchmark::side::Side;
+use benchmark::tables::compare_tables;
 use benchmark::written::{compare_drills, compare_written};
+use oracle::generate::{self, Family};
+use oracle::network::Network;
+use oracle::random::Random;
 use planner::ASCENDING_RANKS;
 
 #[test]
@@ -73,6 +77,43 @@ fn both_sides_agree() {
         assert!(asked.is_ok(), "{}: {asked:?}", network.name);
     }
     assert!(compare::<Planner, Baseline>(&networks::one_block(), 1).is_ok());
+}
+
+/// A line of 64 routers with the largest cost: its ends have the largest distance that
+/// there is.
+fn longest() -> Network {
+    let pairs = (1..64).map(|router| (router - 1, router));
+    let line = pairs.fold(Network::of_routers(64), |line, (a, b)| line.link(a, b, 65_535, 65_535));
+    line.prefix(&[(63, 9)])
+}
+
+/// Small distances beside a large cost, whose lower bits may be those of a small one.
+fn dear(cost: u16) -> Network {
+    let line = Network::of_routers(3).link(0, 1, 1, 1).link(1, 2, 1, 1);
+    line.link(0, 2, cost, cost).prefix(&[(2, 9)])
+}
+
+/// Tables, on small networks of every family and with large costs, on some of 64 routers
+/// with large distances and with none, and on those of the benchmark. Where there are
+/// many cells, every 41st is changed.
+#[test]
+fn both_sides_judge_tables_alike() {
+    let random = &mut Random::new(28);
+    let costs = [1 << 14, 1 << 14 | 1, 1 << 15, 1 << 15 | 1, 3 << 14 | 1, 65_535];
+    let mut asked: Vec<Network> = costs.map(dear).into();
+    asked.extend(Family::ALL.iter().map(|family| generate::network(*family, 12, random)));
+    asked.push(longest());
+    for family in [Family::HighCost, Family::Disconnected, Family::Tree] {
+        asked.push(generate::of_counts(family, 64, 3, random));
+    }
+    let mut files: Vec<Vec<u8>> = asked.iter().map(oracle::file::write).collect();
+    files.push(networks::one_block());
+    files.extend(networks::all().into_iter().map(|network| network.file));
+    for (place, file) in files.iter().enumerate() {
+        let every = if Baseline::load(file).routers < 64 { 1 } else { 41 };
+        let asked = compare_tables::<Planner, Baseline>(file, every);
+        assert!(asked.is_ok(), "file {place}: {asked:?}");
+    }
 }
 
 /// All that the command compares.

@@ -1,6 +1,6 @@
 //! The baseline: the calls of the planner, written for speed. Every call that is
 //! given a file reads and checks it, and a call that computes fills the
-//! distances, just as the planner's calls do.
+//! distances, or checks those that it is lent, just as the planner's calls do.
 
 mod avoid;
 mod graph;
@@ -9,13 +9,15 @@ mod read;
 mod route;
 mod rows;
 mod search;
+mod table;
+mod with;
 mod write;
 
 use crate::answer::{self, Answer, Network, Refusal, Space, DONE, REFUSED, SET};
 use crate::side::Side;
 use avoid::{Protected, Target};
 use graph::Graph;
-use rows::{arranged, enough_cells, named, numbered};
+use rows::{arranged, enough_cells, long_enough, named, numbered};
 
 /// The program that was written for speed.
 pub struct Baseline;
@@ -99,9 +101,7 @@ fn route(
 ) -> Result<Answer, Refusal> {
     let network = opened(file)?;
     enough_cells(&network, work)?;
-    if buffer.len() < 2 * network.routers {
-        return Err(Refusal::new(11, 2 * network.routers));
-    }
+    long_enough(&network, buffer)?;
     let ranks = arranged(ranks)?;
     named(&network, link, end)?;
     numbered(&network, prefix)?;
@@ -160,6 +160,38 @@ impl Side for Baseline {
         buffer: &mut [u8],
     ) -> Answer {
         told(route(file, work, ranks, question, choices, buffer))
+    }
+
+    fn link_repair_with(
+        file: &[u8],
+        table: &[u32],
+        ranks: &[u8],
+        link: usize,
+        end: usize,
+    ) -> Answer {
+        told(with::link_repair(file, table, ranks, link, end))
+    }
+
+    fn prefix_repair_with(
+        file: &[u8],
+        table: &[u32],
+        ranks: &[u8],
+        link: usize,
+        end: usize,
+        prefix: usize,
+    ) -> Answer {
+        told(with::prefix_repair(file, table, ranks, (link, end, prefix)))
+    }
+
+    fn route_with(
+        file: &[u8],
+        table: &[u32],
+        ranks: &[u8],
+        question: (usize, usize, usize),
+        choices: &[u8],
+        buffer: &mut [u8],
+    ) -> Answer {
+        told(with::route(file, table, ranks, question, choices, buffer))
     }
 
     fn write(network: &Network, buffer: &mut [u8]) -> usize {

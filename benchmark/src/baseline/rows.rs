@@ -1,6 +1,8 @@
-//! The rows that judge what is asked beside the file: 10, 12, 13 and 15.
+//! The rows that judge what is asked beside the file: 10 to 13, 15 and 18.
 
+use super::graph::Graph;
 use super::search::Ranks;
+use super::table;
 use crate::answer::{Network, Refusal};
 
 /// Row 10.
@@ -8,6 +10,23 @@ pub fn enough_cells(network: &Network, work: &[u32]) -> Result<(), Refusal> {
     let cells = network.routers * network.routers;
     if work.len() < cells {
         return Err(Refusal::new(10, cells));
+    }
+    Ok(())
+}
+
+/// Row 18.
+pub fn right_table(graph: &Graph, cells: &[u32]) -> Result<(), Refusal> {
+    if !table::right(graph, cells) {
+        return Err(Refusal::new(18, 0));
+    }
+    Ok(())
+}
+
+/// Row 11.
+pub fn long_enough(network: &Network, buffer: &[u8]) -> Result<(), Refusal> {
+    let bytes = 2 * network.routers;
+    if buffer.len() < bytes {
+        return Err(Refusal::new(11, bytes));
     }
     Ok(())
 }

@@ -60,9 +60,9 @@ unfoldable pub computed : Question → Call → Answer
 computed q load = accepted
 computed q fill = done
 computed q (space s) = set (withDistances (networkAsked q) (λ d. spaceOf s (networkAsked q .routers) (arcs (networkAsked q)) d (linkAsked q)))
-computed q linkRepair = repairAnswer (linkFound q)
-computed q prefixRepair = repairAnswer (prefixFound q)
-computed q route = routeAnswer (prefixFound q) (length (routePlayed q))
+computed q (linkRepair f) = repairAnswer (linkFound q)
+computed q (prefixRepair f) = repairAnswer (prefixFound q)
+computed q (route f) = routeAnswer (prefixFound q) (length (routePlayed q))
 
 -- the whole answer of a call
 unfoldable pub answerTo : Question → Answer
@@ -71,7 +71,8 @@ answerTo q = elim (refusalOf q) [ some r ↦ refusal r | none ↦ computed q (q 
 -- ---- the exit of each lent buffer
 
 -- what a call writes into a buffer: the distances into the work area ("Calls that compute leave the distances in the work area
--- whenever rows 1 to 13 don't apply", and by Point 2 number 15), and the routers of the route into the route buffer, of which "later bytes .. are untouched"
+-- whenever rows 1 to 13 don't apply", and by Point 2 number 15), and the routers of the route into the route buffer, of which "later bytes ..
+-- are untouched"
 unfoldable pub writtenTo : Question → Buffer → List ℕ → List ℕ
 writtenTo q workArea before = filled (networkAsked q) before
 writtenTo q routeBuffer before = routePlayed q ++ drop (length (routePlayed q)) before

@@ -8,9 +8,10 @@ use mathlib.Core.Option.{some}
 use lib.ListN.{length}
 use Rattle.lfa.specs.Lists.{FirstFails}
 use Rattle.lfa.specs.File.{Bytes, routersOf, linksOf, prefixesOf, blocksIn, blocksNeeded, checkGood, headGood, blockGood, linkGood, linkNew, prefixGood, routersNew}
+use Rattle.lfa.specs.Distance.{HoldsDistances}
 use Rattle.lfa.specs.Ranks.{Arrangement}
 use Rattle.lfa.specs.Repair.{noneServes}
-use Rattle.lfa.specs.Question.{Question, searched}
+use Rattle.lfa.specs.Question.{Question, networkAsked, searched}
 
 -- the causes that lie in a file
 pub data FileRow : Type 0 where
@@ -30,11 +31,12 @@ FileApplies b routerTwice v = FirstFails (routersNew b) 0 (prefixesOf b) v
 
 -- the causes that lie in what else is asked, held against the counts of the file; they are looked for before anything is searched for
 pub data EarlyRow : Type 0 where
-  shortArea shortBuffer badRanks noSuchLink noSuchPrefix : EarlyRow
+  shortArea wrongTable shortBuffer badRanks noSuchLink noSuchPrefix : EarlyRow
 
 -- row r applies to the question and returns v
 abbrev pub EarlyApplies : Question → EarlyRow → ℕ → Type 0
-EarlyApplies q shortArea v = (q .area < routersOf (q .file) * routersOf (q .file)) × (v ≡ routersOf (q .file) * routersOf (q .file))
+EarlyApplies q shortArea v = (q .cells < routersOf (q .file) * routersOf (q .file)) × (v ≡ routersOf (q .file) * routersOf (q .file))
+EarlyApplies q wrongTable v = (HoldsDistances (networkAsked q) (q .table) → ⊥) × (v ≡ 0)
 EarlyApplies q shortBuffer v = (q .buffer < 2 * routersOf (q .file)) × (v ≡ 2 * routersOf (q .file))
 EarlyApplies q badRanks v = (Arrangement (q .ranks) → ⊥) × (v ≡ 0)
 EarlyApplies q noSuchLink v = ((linksOf (q .file) ≤ q .link) ⊎ (1 < q .end)) × (v ≡ linksOf (q .file))

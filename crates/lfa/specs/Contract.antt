@@ -11,7 +11,12 @@ pub record Answered (q : Question) (answer : Answer) (area areaAfter : List ℕ)
   pub answer-is : answer ≡ answerTo q
   pub area-is : areaAfter ≡ exitOf q workArea area
 
--- a call that is lent a route buffer besides: `buffer` is what it held, `bufferAfter` what it holds at exit
+-- a call that is lent a route buffer, and no work area: `buffer` is what it held, `bufferAfter` what it holds at exit
+pub record RoutedWith (q : Question) (answer : Answer) (buffer bufferAfter : List ℕ) : Type 0 where
+  pub answer-is : answer ≡ answerTo q
+  pub buffer-is : bufferAfter ≡ exitOf q routeBuffer buffer
+
+-- a call that is lent both
 pub record Routed (q : Question) (answer : Answer) (area areaAfter buffer bufferAfter : List ℕ) : Type 0 where
   pub answered : Answered q answer area areaAfter
   pub buffer-is : bufferAfter ≡ exitOf q routeBuffer buffer

@@ -5,10 +5,10 @@
 use Prim.Native.Nat.{ℕ, _+_, _*_, _%_, _≤_, _<_}
 use mathlib.Core.Path.{_≡_}
 use mathlib.Core.Logic.{_⊎_, _↔_}
-use mathlib.Core.Bool.{true}
+use mathlib.Core.Bool.{true, _&&_, not}
 use mathlib.Core.List.{List, [], _∷_, _++_, map, List·Memᴰ}
 use lib.ListN.{getD, length, take, drop}
-use Rattle.lfa.specs.Lists.{countUp, HowMany}
+use Rattle.lfa.specs.Lists.{countUp, memberOf, HowMany}
 use Rattle.lfa.specs.Network.{Arc, arc, at, Target, Attached, Network, router, arcs}
 use Rattle.lfa.specs.File.{Bytes, byteAt, linksOf, prefixesOf, linkEntry, prefixEntry}
 use Rattle.lfa.specs.FileOf.{fileOf, WithinLimits}
@@ -19,7 +19,7 @@ use Rattle.lfa.specs.Space.{underMaintenance, FirstHop, IsFirstHop, Spac
 use Rattle.lfa.specs.Ranks.{rankOf, Arrangement, ascending}
 use Rattle.lfa.specs.Repair.{Pair, IsPair, HasBaseClass, Told, Tells, Keys, First, MayCross}
 use Rattle.lfa.specs.Route.{deliver, AreOptionsBy, AreOptions, options, NamedRoute}
-use Rattle.lfa.specs.Question.{Question, Call, load, fill, linkRepair, prefixRepair, route, space, loading, filling, askSpace, askLink, askPrefix, askRoute, toPrefixRepair, withoutMaintenance, withRanks, LooksAtFirstHops, Buffer, workArea, routeBuffer, aRankTable, aLink, aPrefix, lent, HasInput, networkAsked, linkAsked, prefixAsked}
+use Rattle.lfa.specs.Question.{Question, Source, ownFill, lentTable, Call, load, fill, linkRepair, prefixRepair, route, space, loading, filling, askSpace, askLink, askPrefix, askRoute, askLinkWith, askPrefixWith, askRouteWith, toPrefixRepair, hasInput, withoutMaintenance, withRanks, withTable, LooksAtFirstHops, Buffer, workArea, routeBuffer, aTable, aRankTable, aLink, aPrefix, lent, HasInput, networkAsked, linkAsked, prefixAsked}
 use Rattle.lfa.specs.Refusal.{Row, noPair, Applies, entryOf, rowsTried, Decides, Accepted, Posed}
 use Rattle.lfa.specs.Writing.{Wrote}
 use Rattle.lfa.specs.Failures.{SeveralFailures}
@@ -60,9 +60,47 @@ pub record EachCallTries : Type 0 where
   pub load : numbersTried load ≡ countUp 1 9
   pub distances : numbersTried fill ≡ countUp 1 10
   pub space : (s : Space) → numbersTried (space s) ≡ countUp 1 10 ++ 12 ∷ []
-  pub link-repair : numbersTried linkRepair ≡ countUp 1 10 ++ 15 ∷ 12 ∷ 14 ∷ []
-  pub prefix-repair : numbersTried prefixRepair ≡ countUp 1 10 ++ 15 ∷ 12 ∷ 13 ∷ 14 ∷ []
-  pub route : numbersTried route ≡ countUp 1 11 ++ 15 ∷ 12 ∷ 13 ∷ 14 ∷ []
+  pub link-repair : numbersTried (linkRepair ownFill) ≡ countUp 1 10 ++ 15 ∷ 12 ∷ 14 ∷ []
+  pub prefix-repair : numbersTried (prefixRepair ownFill) ≡ countUp 1 10 ++ 15 ∷ 12 ∷ 13 ∷ 14 ∷ []
+  -- Point 7: number 18 is "tried after 10 in the second call"
+  pub link-repair-with : numbersTried (linkRepair lentTable) ≡ countUp 1 10 ++ 18 ∷ 15 ∷ 12 ∷ 14 ∷ []
+  pub prefix-repair-with : numbersTried (prefixRepair lentTable) ≡ countUp 1 10 ++ 18 ∷ 15 ∷ 12 ∷ 13 ∷ 14 ∷ []
+  pub route-with : numbersTried (route lentTable) ≡ countUp 1 10 ++ 18 ∷ 11 ∷ 15 ∷ 12 ∷ 13 ∷ 14 ∷ []
+  pub route : numbersTried (route ownFill) ≡ countUp 1 11 ++ 15 ∷ 12 ∷ 13 ∷ 14 ∷ []
+
+-- which calls are lent a buffer to write: a work area those that try row 10 and are lent no table, which is only read; a route buffer those
+-- that try row 11
+pub record EachIsLent : Type 0 where
+  pub area : (c : Call) → hasInput c (lent workArea) ≡ (memberOf 10 (numbersTried c) && not (memberOf 18 (numbersTried c)))
+  pub route : (c : Call) → hasInput c (lent routeBuffer) ≡ memberOf 11 (numbersTried c)
+
+-- a question of this call about this file, with so many cells for distances, and with these ranks, link, end and prefix
+abbrev pub Holds : Question → Call → Bytes → (cells : ℕ) → (ranks : List ℕ) → (link end prefix : ℕ) → Type 0
+Holds q c b cells ranks l e p = (q .call ≡ c) × (q .file ≡ b) × (q .cells ≡ cells) × (q .ranks ≡ ranks) × (q .link ≡ l) × (q .end ≡ e) × (q .prefix ≡ p)
+
+-- Each question holds what the call is given. With a table it is the question of the single call, put to the second one, and the route
+-- question is about the same as the prefix repair question.
+pub record EachQuestion : Type 0 where
+  pub of-load : (b : Bytes) → Holds (loading b) load b 0 [] 0 0 0
+  pub of-distances : (b : Bytes) (area : ℕ) → Holds (filling b area) fill b area [] 0 0 0
+  pub of-space : (s : Space) (b : Bytes) (area l e : ℕ) → Holds (askSpace s b area l e) (space s) b area [] l e 0
+  pub of-link : (b : Bytes) (area l e : ℕ) (ranks : List ℕ) → Holds (askLink b area ranks l e) (linkRepair ownFill) b area ranks l e 0
+  pub of-prefix : (b : Bytes) (area l e p : ℕ) (ranks : List ℕ) → Holds (askPrefix b area ranks l e p) (prefixRepair ownFill) b area ranks l e p
+  pub of-route : (b : Bytes) (area buffer l e p : ℕ) (ranks choices : List ℕ) →
+      Holds (askRoute b area buffer ranks l e p choices) (route ownFill) b area ranks l e p
+      × (askRoute b area buffer ranks l e p choices .buffer ≡ buffer) × (askRoute b area buffer ranks l e p choices .choices ≡ choices)
+  pub of-link-with : (b : Bytes) (area l e : ℕ) (table ranks : List ℕ) →
+      (askLinkWith b table ranks l e .call ≡ linkRepair lentTable) × (askLinkWith b table ranks l e ≡ withTable table (askLink b area ranks l e))
+  pub of-prefix-with : (b : Bytes) (area l e p : ℕ) (table ranks : List ℕ) →
+      (askPrefixWith b table ranks l e p .call ≡ prefixRepair lentTable) × (askPrefixWith b table ranks l e p ≡ withTable table (askPrefix b area ranks l e p))
+  pub of-route-with : (b : Bytes) (area buffer l e p : ℕ) (table ranks choices : List ℕ) →
+      (askRouteWith b table buffer ranks l e p choices .call ≡ route lentTable)
+      × (askRouteWith b table buffer ranks l e p choices ≡ withTable table (askRoute b area buffer ranks l e p choices))
+  pub with-table : (table : List ℕ) (q : Question) → Holds (withTable table q) (withTable table q .call) (q .file) (length table) (q .ranks) (q .link) (q .end) (q .prefix)
+      × (withTable table q .table ≡ table) × (withTable table q .buffer ≡ q .buffer) × (withTable table q .choices ≡ q .choices) × (withTable table q .maintenance ≡ q .maintenance)
+  pub route-prefix : (b : Bytes) (area buffer l e p : ℕ) (ranks choices : List ℕ) → toPrefixRepair ownFill (askRoute b area buffer ranks l e p choices) ≡ askPrefix b area ranks l e p
+  pub route-prefix-with : (b : Bytes) (buffer l e p : ℕ) (table ranks choices : List ℕ) →
+      toPrefixRepair lentTable (askRouteWith b table buffer ranks l e p choices) ≡ askPrefixWith b table ranks l e p
 
 -- rows 1 to 9 together: accepted files and networks within the limits of document 01 are the same thing
 pub record FilesAndNetworks : Type 0 where
@@ -71,6 +109,8 @@ pub record FilesAndNetworks : Type 0 where
 
 pub record Demand1 : Type 0 where
   pub rows : EachCallTries
+  pub buffers : EachIsLent
+  pub questions : EachQuestion
   pub files : FilesAndNetworks
   pub by-the-table : (q : Question) → ByTheTable q
   pub link-given : (b : Bytes) (k : ℕ) → PartGiven b k (linksOf b) (linkEntry b k) (linkPart b k)
@@ -153,8 +193,8 @@ pub record Demand2 (q : Question) : Type 0 where
   pub distances-left : HasInput q (lent workArea) → (area : List ℕ) (x t : ℕ) → x < N q → t < N q → getD (exitOf q workArea area) (x * N q + t) 0 ≡ D q x t
   pub later-cells-untouched : HasInput q (lent workArea) → (area : List ℕ) (k : ℕ) → N q * N q ≤ k → getD (exitOf q workArea area) k 0 ≡ getD area k 0
   pub space-held : (s : Space) → q .call ≡ space s → SpaceHeld q s
-  pub link-repair-first : q .call ≡ linkRepair → (t : Told) → answerTo q ≡ repair t → IsRepair q (router (linkAsked q .far)) t
-  pub prefix-repair-first : q .call ≡ prefixRepair → (t : Told) → answerTo q ≡ repair t → MayCross (Hops q) (D q) (linkAsked q) (prefixAsked q) × IsRepair q (prefixAsked q) t
+  pub link-repair-first : {from : Source} → q .call ≡ linkRepair from → (t : Told) → answerTo q ≡ repair t → IsRepair q (router (linkAsked q .far)) t
+  pub prefix-repair-first : {from : Source} → q .call ≡ prefixRepair from → (t : Told) → answerTo q ≡ repair t → MayCross (Hops q) (D q) (linkAsked q) (prefixAsked q) × IsRepair q (prefixAsked q) t
   -- "unreachable when D(S,p) is unreachable, untouched when no walk from S towards p crosses the link from S to E"
   pub unreachable-when : HasInput q aPrefix → (answerTo q ≡ unreached) ↔ (towards (D q) (prefixAsked q) (linkAsked q .near) ≡ unreachable)
   pub untouched-when : HasInput q aPrefix →
@@ -162,8 +202,8 @@ pub record Demand2 (q : Question) : Type 0 where
   pub write-nothing : HasInput q (lent routeBuffer) → (answerTo q ≡ unreached) ⊎ (answerTo q ≡ untouched) → (buffer : List ℕ) → exitOf q routeBuffer buffer ≡ buffer
   -- the options at a router; a route has a pair just where the prefix repair has one, and this pair is played
   pub options-are : (to : Target) (x : ℕ) → AreOptions (Hops q) (D q) to x (options (N q) (Hops q) (D q) to x)
-  pub route-14 : q .call ≡ route → (answerTo q ≡ refused 14 0) ↔ (answerTo (toPrefixRepair q) ≡ refused 14 0)
-  pub route-named : q .call ≡ route → (t : Told) → answerTo (toPrefixRepair q) ≡ repair t → IsRepair q (prefixAsked q) t × RouteNamed q (t .first) (t .endpoint)
+  pub route-14 : {from : Source} → q .call ≡ route from → (answerTo q ≡ refused 14 0) ↔ (answerTo (toPrefixRepair from q) ≡ refused 14 0)
+  pub route-named : {from : Source} → q .call ≡ route from → (t : Told) → answerTo (toPrefixRepair from q) ≡ repair t → IsRepair q (prefixAsked q) t × RouteNamed q (t .first) (t .endpoint)
 
 -- ---- demand 3
 
@@ -178,12 +218,12 @@ pub record Demand3By (q : Question) (by : Told → Keys) (answer : Answer) : Typ
   -- "every prefix whose traffic from that end may cross the link: asked for this prefix with work area enough, the planner answers
   -- with a repair or refusal 14. .. Refusal 14 comes exactly when no neighbour of that end but the far end, paired with any router
   -- other than the two ends, has this."
-  pub prefix-repaired : q .call ≡ prefixRepair → MayCross (Hops q) (D q) (linkAsked q) (prefixAsked q) → RepairedBy q by (HasThis q (prefixAsked q)) (prefixAsked q) answer
+  pub prefix-repaired : {from : Source} → q .call ≡ prefixRepair from → MayCross (Hops q) (D q) (linkAsked q) (prefixAsked q) → RepairedBy q by (HasThis q (prefixAsked q)) (prefixAsked q) answer
   -- "The link repair question, given work area enough, is answered with that repair or with 14, and with 14 exactly when no such
   -- pair has this for the far end."
-  pub link-repaired : q .call ≡ linkRepair → RepairedBy q by (HasThis q (router (linkAsked q .far))) (router (linkAsked q .far)) answer
+  pub link-repaired : {from : Source} → q .call ≡ linkRepair from → RepairedBy q by (HasThis q (router (linkAsked q .far))) (router (linkAsked q .far)) answer
   -- "A link's own repair, at either end, has this for every such prefix, and for the far end in the prefix's place."
-  pub link-has-this : q .call ≡ linkRepair → (t : Told) → answer ≡ repair t →
+  pub link-has-this : {from : Source} → q .call ≡ linkRepair from → (t : Told) → answer ≡ repair t →
       HasThis q (router (linkAsked q .far)) (t .first) (t .endpoint)
       × ((p : ℕ) → p < length (networkAsked q .prefixes) →
       MayCross (Hops q) (D q) (linkAsked q) (getD (networkAsked q .prefixes) p []) → HasThis q (getD (networkAsked q .prefixes) p []) (t .first) (t .endpoint))
@@ -210,8 +250,9 @@ pub record SameReply (q other : Question) : Type 0 where
 -- "below 65,535": at every call a link is under maintenance at a cost of 65,535
 abbrev pub PutAt65535 : Type 0
 PutAt65535 =
-    (b : Bytes) (area buffer l e p : ℕ) (ranks choices : List ℕ) (s : Space) (q : Question) →
-    List·Memᴰ q (loading b ∷ filling b area ∷ askSpace s b area l e ∷ askLink b area ranks l e ∷ askPrefix b area ranks l e p ∷ askRoute b area buffer ranks l e p choices ∷ []) → q .maintenance ≡ 65535
+    (b : Bytes) (area buffer l e p : ℕ) (table ranks choices : List ℕ) (s : Space) (q : Question) →
+    List·Memᴰ q (loading b ∷ filling b area ∷ askSpace s b area l e ∷ askLink b area ranks l e ∷ askPrefix b area ranks l e p ∷ askRoute b area buffer ranks l e p choices
+    ∷ askLinkWith b table ranks l e ∷ askPrefixWith b table ranks l e p ∷ askRouteWith b table buffer ranks l e p choices ∷ []) → q .maintenance ≡ 65535
 
 pub record Point1 (q : Question) : Type 0 where
   -- a first hop now, and before
@@ -225,14 +266,13 @@ pub record Point1 (q : Question) : Type 0 where
 -- order by ranks is in `keys`, the cause of number 15 in `Causes`, its place in `EachCallTries`, and that demand 3 is for questions that it
 -- does not turn away in `Posed`.
 
--- "lent with each repair question": the question holds the table that the call is lent, and with another table it is the same but for it
+-- "lent with each repair question": with another table of ranks the question is the same but for it (that it holds the one that is lent is in
+-- `EachQuestion`)
 pub record RanksLent : Type 0 where
-  pub link : (b : Bytes) (area l e : ℕ) (ranks : List ℕ) → askLink b area ranks l e .ranks ≡ ranks
   pub link-other : (b : Bytes) (area l e : ℕ) (ranks others : List ℕ) → withRanks others (askLink b area ranks l e) ≡ askLink b area others l e
-  pub prefix : (b : Bytes) (area l e p : ℕ) (ranks : List ℕ) → askPrefix b area ranks l e p .ranks ≡ ranks
   pub prefix-other : (b : Bytes) (area l e p : ℕ) (ranks others : List ℕ) → withRanks others (askPrefix b area ranks l e p) ≡ askPrefix b area others l e p
-  pub route : (b : Bytes) (area buffer l e p : ℕ) (ranks choices : List ℕ) → askRoute b area buffer ranks l e p choices .ranks ≡ ranks
   pub route-other : (b : Bytes) (area buffer l e p : ℕ) (ranks others choices : List ℕ) → withRanks others (askRoute b area buffer ranks l e p choices) ≡ askRoute b area buffer others l e p choices
+  pub with-table : (table others : List ℕ) (q : Question) → withRanks others (withTable table q) ≡ withTable table (withRanks others q)
 
 -- two answers of one kind: the same answer, or two repairs, or two routes
 pub data SameKind : Answer → Answer → Type 0 where
@@ -240,13 +280,16 @@ pub data SameKind : Answer → Answer → Type 0 where
   two-repairs : {t u : Told} → SameKind (repair t) (repair u)
   two-routes : {m k : ℕ} → SameKind (played m) (played k)
 
+-- "Numbers 15 and 18 to 20 write nothing", and 15 and 18 have "value 0"
+abbrev pub WritesNothing : Question → ℕ → Type 0
+WritesNothing q k = (v : ℕ) → answerTo q ≡ refused k v → (v ≡ 0) × ((x : Buffer) → HasInput q (lent x) → (before : List ℕ) → exitOf q x before ≡ before)
+
 pub record Point2 (q : Question) : Type 0 where
   -- "Who gets a repair and who gets 14 is the same under every such table", and so is every other refusal, what is unreachable or untouched,
   -- and the work area
   pub same-who : Arrangement (q .ranks) → (ranks : List ℕ) → Arrangement ranks → SameKind (answerTo q) (answerTo (withRanks ranks q))
   pub same-work : Arrangement (q .ranks) → (ranks : List ℕ) → Arrangement ranks → HasInput q (lent workArea) → (area : List ℕ) → exitOf q workArea area ≡ exitOf (withRanks ranks q) workArea area
-  -- "Numbers 15 .. write nothing", "value 0"
-  pub writes-nothing : (v : ℕ) → answerTo q ≡ refused 15 v → (v ≡ 0) × ((x : Buffer) → HasInput q (lent x) → (before : List ℕ) → exitOf q x before ≡ before)
+  pub writes-nothing : WritesNothing q 15
   -- with ascending ranks demand 3 is what it was before the Point: a repair is the first by class
   pub as-before : q .ranks ≡ ascending → Posed q → Demand3By q (keysByClass q) (answerTo q)
   -- which leaves no choice: only one repair is first by class, and only one by the ranks
@@ -292,7 +335,7 @@ pub record Point4 (q : Question) : Type 0 where
   -- A walk of today is the beginning of one of then, so that a pair that had this has it still: 14 comes only where no pair had this.
   pub walks-were : (to : Target) (x u k : ℕ) → Walk (Hops q) (D q) to x u k → WalkBy (FormerStep (Hops q) (D q) to) x u k
   pub still-has-this : (to : Target) (p : Pair) → Candidate q p → FormerlyHasThis q to (p .hop .router) (p .endpoint) → HasThis q to (p .hop .router) (p .endpoint)
-  pub none-had-this : q .call ≡ prefixRepair → MayCross (Hops q) (D q) (linkAsked q) (prefixAsked q) → answerTo q ≡ refused 14 0 →
+  pub none-had-this : {from : Source} → q .call ≡ prefixRepair from → MayCross (Hops q) (D q) (linkAsked q) (prefixAsked q) → answerTo q ≡ refused 14 0 →
       (p : Pair) → Candidate q p → FormerlyHasThis q (prefixAsked q) (p .hop .router) (p .endpoint) → ⊥
   -- Nothing changes towards routers; nor where no tight hop leaves an attached router, as with attachments of one cost, or one attachment.
   pub routers-as-before : (t : ℕ) → AsBefore q (router t)
@@ -329,16 +372,38 @@ pub record Point5 (q : Question) : Type 0 where
   pub class-of-before : (to : Target) (p : Pair) (t : Told) → TellsOf q to p t → HasBaseClass (D q) (linkAsked q) to (p .hop .router) (p .endpoint) (t .class % 4)
   -- "A link's own target is E, so its pairs are in 4 to 7": every pair that serves it, and the one that is answered
   pub link-pairs : HasInput q aLink → (p : Pair) (t : Told) → Candidate q p → HasThis q (router (linkAsked q .far)) (p .hop .router) (p .endpoint) → TellsOf q (router (linkAsked q .far)) p t → From4To7 (t .class)
-  pub link-class : q .call ≡ linkRepair → (t : Told) → answerTo q ≡ repair t → From4To7 (t .class)
+  pub link-class : {from : Source} → q .call ≡ linkRepair from → (t : Told) → answerTo q ≡ repair t → From4To7 (t .class)
   -- so that with ascending ranks a link's own repair is the pair that it was before, and only one pair is
-  pub link-as-before : q .call ≡ linkRepair → q .ranks ≡ ascending → (t : Told) → answerTo q ≡ repair t →
+  pub link-as-before : {from : Source} → q .call ≡ linkRepair from → q .ranks ≡ ascending → (t : Told) → answerTo q ≡ repair t →
       IsFirst q (keysByFormerClass q) (HasThis q (router (linkAsked q .far))) (router (linkAsked q .far)) t
   pub one-by-former-class : (to : Target) (t u : Told) → IsFirst q (keysByFormerClass q) (HasThis q to) to t → IsFirst q (keysByFormerClass q) (HasThis q to) to u → t ≡ u
   -- "With the ranks ascending, a prefix repair's class below 4 tells a user that every walk misses E" (it does with other ranks too), "and 4
   -- or more that no serving pair is node-protecting."
-  pub class-below-4 : q .call ≡ prefixRepair → (t : Told) → answerTo q ≡ repair t → t .class < 4 → MissesFar q (prefixAsked q) (t .first) (t .endpoint)
-  pub class-from-4 : q .call ≡ prefixRepair → q .ranks ≡ ascending → (t : Told) → answerTo q ≡ repair t → 4 ≤ t .class →
+  pub class-below-4 : {from : Source} → q .call ≡ prefixRepair from → (t : Told) → answerTo q ≡ repair t → t .class < 4 → MissesFar q (prefixAsked q) (t .first) (t .endpoint)
+  pub class-from-4 : {from : Source} → q .call ≡ prefixRepair from → q .ranks ≡ ascending → (t : Told) → answerTo q ≡ repair t → 4 ≤ t .class →
       (p : Pair) → Candidate q p → HasThis q (prefixAsked q) (p .hop .router) (p .endpoint) → MissesFar q (prefixAsked q) (p .hop .router) (p .endpoint) → ⊥
+
+-- ---- Point 7: "Split each repair question in two: one call fills the distance table, the other takes the file, a table and the question."
+-- Demands 1 to 3 are of both calls: a call is a `linkRepair`, a `prefixRepair` or a `route` from either `Source`.
+
+-- the second call, lent this table, answers as the single call of the question, and leaves the same in the route buffer
+abbrev pub TwoTogether : Question → (table : List ℕ) → Type 0
+TwoTogether q table =
+    (answerTo (withTable table q) ≡ answerTo q)
+    × (HasInput q (lent routeBuffer) → (before : List ℕ) → exitOf (withTable table q) routeBuffer before ≡ exitOf q routeBuffer before)
+
+pub record Point7 (q : Question) : Type 0 where
+  -- "It accepts the table exactly when its first N × N cells are the file's distances, whoever filled it"; "Number 18, value 0, for a table
+  -- that isn't the file's"
+  pub refused-18 : HasInput q aTable → Accepted (q .file) → N q * N q ≤ q .cells → q .cells ≡ length (q .table) →
+      (answerTo q ≡ refused 18 0) ↔ (((x t : ℕ) → x < N q → t < N q → getD (q .table) (x * N q + t) 0 ≡ D q x t) → ⊥)
+  pub writes-nothing : WritesNothing q 18
+  -- "Single calls become the two together and answer and write as they did": with the table that the first call leaves in an area, the
+  -- second answers as the single call does with this area, whatever is asked
+  pub two-together : (HasInput q aTable → ⊥) → (area : List ℕ) → length area ≡ q .cells → TwoTogether q (exitOf (filling (q .file) (length area)) workArea area)
+  -- and so it does with any table of that length that holds the file's distances, "whoever filled it"
+  pub any-right-table : (HasInput q aTable → ⊥) → (table : List ℕ) → length table ≡ q .cells →
+      (Accepted (q .file) → (x t : ℕ) → x < N q → t < N q → getD table (x * N q + t) 0 ≡ D q x t) → TwoTogether q table
 
 -- ---- Point 13: calls that make a network file in a lent buffer
 
@@ -374,6 +439,7 @@ pub record Demands : Type 0 where
   pub point-2 : (q : Question) → Point2 q
   pub point-4 : (q : Question) → Posed q → Point4 q
   pub point-5 : (q : Question) → Posed q → Point5 q
+  pub point-7 : (q : Question) → ((i : ℕ) → byteAt (q .file) i < 256) → Point7 q
   -- Point 9: "no packet for that prefix ever visits a router twice, whichever links have failed" (page `Failures`)
   pub point-9 : (b : Bytes) → Accepted b → (p : ℕ) → SeveralFailures b p
   pub point-13 : Point13

@@ -1,11 +1,12 @@
 -- "Distances and walks", first half: D(x,t) and D(x,p), the unreachable distance, and the contents of the work area.
 -- Assumes nothing.
 use Prim.Native.Nat.{ℕ, zero, suc, _+_, _*_, _≤_, _<_, min}
-use mathlib.Core.Bool.{true, false, _&&_}
+use mathlib.Core.Path.{_≡_}
+use mathlib.Core.Bool.{Bool, true, false, _&&_}
 use mathlib.Core.List.{List, [], _∷_, _++_, map, List·Memᴰ}
-use lib.Dec.{eqb}
-use lib.ListN.{drop}
-use Rattle.lfa.specs.Lists.{Table, table, cell, flat}
+use lib.Dec.{eqb, leb}
+use lib.ListN.{length, getD, drop}
+use Rattle.lfa.specs.Lists.{Table, table, cell, flat, everyBelow}
 use Rattle.lfa.specs.Network.{Arc, arc, Attachment, at, Target, Network, arcs}
 
 -- ---- the meaning
@@ -70,3 +71,17 @@ distanceIn t x y = elim (eqb x y) [ true ↦ 0 | false ↦ cell unreachable t x 
 -- "The work area receives the N × N router distances, row by row, row = start, as 32-bit cells; later cells are untouched."
 unfoldable pub filled : Network → List ℕ → List ℕ
 filled net area = flat (distances net) ++ drop (net .routers * net .routers) area
+
+-- ---- a lent table
+
+-- Point 7: "its first N × N cells are the file's distances", row by row, row = start
+pub record HoldsDistances (net : Network) (cells : List ℕ) : Type 0 where
+  pub enough : net .routers * net .routers ≤ length cells
+  pub each : (x t : ℕ) → x < net .routers → t < net .routers → getD cells (x * net .routers + t) 0 ≡ distanceIn (distances net) x t
+
+-- and the test of it
+unfoldable pub cellsHold : (n : ℕ) → Table → List ℕ → Bool
+cellsHold n d cells = leb (n * n) (length cells) && everyBelow (λ x. everyBelow (λ t. eqb (getD cells (x * n + t) 0) (distanceIn d x t)) n) n
+
+unfoldable pub holdsDistances : Network → List ℕ → Bool
+holdsDistances net cells = let d : Table = distances net in cellsHold (net .routers) d cells

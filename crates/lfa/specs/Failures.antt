@@ -12,7 +12,7 @@ use Rattle.lfa.specs.Distance.{distances, distanceIn, towards}
 use Rattle.lfa.specs.Walk.{Step, WalkBy}
 use Rattle.lfa.specs.Space.{underMaintenance, Protected, protected}
 use Rattle.lfa.specs.Repair.{IsPair, Serves, HasClass, Told}
-use Rattle.lfa.specs.Question.{askPrefix}
+use Rattle.lfa.specs.Question.{Question, askPrefix, askPrefixWith}
 use Rattle.lfa.specs.Refusal.{Posed}
 use Rattle.lfa.specs.Answer.{repair, answerTo}
 
@@ -65,6 +65,11 @@ pub record Sends (b : Bytes) (p : ℕ) (failed : List ℕ) (x z l : ℕ) : Type 
   pub is-up : List·Memᴰ l failed → ⊥
   pub way : MaySend b p x z l
 
+-- what is said of the answer to a prefix repair question about a link and end
+abbrev pub AnswerSends : Bytes → (p link end : ℕ) → Question → Type 0
+AnswerSends b p link end q =
+    (t : Told) → Posed q → answerTo q ≡ repair t → Downstream (t .class) → (t .endpoint ≡ t .first) × ((l : ℕ) × DownstreamRepair b p (linkOf b link end .near) (t .first) l)
+
 -- ---- what is promised
 
 -- For every accepted file, every prefix, and "whichever links have failed"; links may fail while the packet is on its way, since the empty
@@ -79,7 +84,6 @@ pub record SeveralFailures (b : Bytes) (p : ℕ) : Type 0 where
   pub each-step : (failed : List ℕ) (x z l : ℕ) → (List·Memᴰ l failed → ⊥) → Step (hopsOf b) (costsOf b) (prefixOf b p) x z l → Sends b p failed x z l
   pub each-repair : (failed : List ℕ) (x z l : ℕ) → (List·Memᴰ l failed → ⊥) → NeighbourRepair b p x z l →
       towards (costsOf b) (prefixOf b p) z < towards (costsOf b) (prefixOf b p) x → Sends b p failed x z l
-  -- .. and what the planner answers, under any ranks, with class 0 or 4, is such a repair, over some link
-  pub answer-sends : (area link end : ℕ) (ranks : List ℕ) (t : Told) → Posed (askPrefix b area ranks link end p) →
-      answerTo (askPrefix b area ranks link end p) ≡ repair t → (t .class ≡ 0) ⊎ (t .class ≡ 4) →
-      (t .endpoint ≡ t .first) × ((l : ℕ) × DownstreamRepair b p (linkOf b link end .near) (t .first) l)
+  -- .. and what the planner answers, under any ranks, with class 0 or 4, is such a repair, over some link; by its own fill or a lent table
+  pub answer-sends : (area link end : ℕ) (ranks : List ℕ) → AnswerSends b p link end (askPrefix b area ranks link end p)
+  pub answer-sends-with : (link end : ℕ) (table ranks : List ℕ) → AnswerSends b p link end (askPrefixWith b table ranks link end p)

@@ -26,6 +26,7 @@ pub mod Network
 pub mod Options
 pub mod Legs
 pub mod Route
+pub mod Holds
 pub mod Rows
 pub mod Causes
 pub mod FileRows
@@ -39,6 +40,7 @@ pub mod Asked
 pub mod Work
 pub mod File
 pub mod PosedWhen
+pub mod Lent
 pub mod Demand1
 pub mod HasThis
 pub mod Replies
@@ -50,6 +52,8 @@ pub mod Point2
 pub mod Former
 pub mod Point4
 pub mod Point5
+pub mod TwoTogether
+pub mod Point7
 pub mod Failures
 pub mod Point13
 pub mod Demands

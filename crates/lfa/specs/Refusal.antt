@@ -10,9 +10,10 @@ use lib.Dec.{ltb, leb}
 use lib.ListN.{length}
 use Rattle.lfa.specs.Lists.{unless, firstFailing, select}
 use Rattle.lfa.specs.File.{Bytes, byteAt, routersOf, linksOf, prefixesOf, blocksIn, blocksNeeded, lengthGood, checkGood, headGood, blockCountGood, blockGood, linkGood, linkNew, prefixGood, routersNew}
+use Rattle.lfa.specs.Distance.{HoldsDistances, holdsDistances}
 use Rattle.lfa.specs.Ranks.{Arrangement, isArrangement}
-use Rattle.lfa.specs.Question.{Question, Call, Buffer, workArea, routeBuffer, Input, aFile, aRankTable, aLink, aPrefix, searching, lent, hasInput, HasInput, searched, ifNone, networkAsked}
-pub use Rattle.lfa.specs.Causes.{FileRow, badLength, badCheck, badHead, badBlockCount, badBlock, badLink, parallelLink, badPrefix, routerTwice, FileApplies, EarlyRow, shortArea, shortBuffer, badRanks, noSuchLink, noSuchPrefix, EarlyApplies, Row, ofFile, early, noPair, Applies}
+use Rattle.lfa.specs.Question.{Question, Call, Buffer, workArea, routeBuffer, Input, aFile, someCells, aTable, aRankTable, aLink, aPrefix, searching, lent, hasInput, HasInput, searched, ifNone, networkAsked}
+pub use Rattle.lfa.specs.Causes.{FileRow, badLength, badCheck, badHead, badBlockCount, badBlock, badLink, parallelLink, badPrefix, routerTwice, FileApplies, EarlyRow, shortArea, wrongTable, shortBuffer, badRanks, noSuchLink, noSuchPrefix, EarlyApplies, Row, ofFile, early, noPair, Applies}
 
 -- ---- Number and Left
 
@@ -47,13 +48,15 @@ fileNumber routerTwice = 9
 
 abbrev pub earlyNumber : EarlyRow → ℕ
 earlyNumber shortArea = 10
+earlyNumber wrongTable = 18
 earlyNumber shortBuffer = 11
 earlyNumber badRanks = 15
 earlyNumber noSuchLink = 12
 earlyNumber noSuchPrefix = 13
 
 abbrev pub earlyInput : EarlyRow → Input
-earlyInput shortArea = lent workArea
+earlyInput shortArea = someCells
+earlyInput wrongTable = aTable
 earlyInput shortBuffer = lent routeBuffer
 earlyInput badRanks = aRankTable
 earlyInput noSuchLink = aLink
@@ -69,9 +72,9 @@ entryOf noPair = record { number = 14; input = searching; left = leavesRoute }
 unfoldable pub fileRows : List FileRow
 fileRows = badLength ∷ badCheck ∷ badHead ∷ badBlockCount ∷ badBlock ∷ badLink ∷ parallelLink ∷ badPrefix ∷ routerTwice ∷ []
 
--- Point 2: number 15 is "tried after 11"
+-- Point 2: number 15 is "tried after 11"; Point 7: number 18 is "tried after 10 in the second call"
 unfoldable pub earlyRows : List EarlyRow
-earlyRows = shortArea ∷ shortBuffer ∷ badRanks ∷ noSuchLink ∷ noSuchPrefix ∷ []
+earlyRows = shortArea ∷ wrongTable ∷ shortBuffer ∷ badRanks ∷ noSuchLink ∷ noSuchPrefix ∷ []
 
 -- the rows of a question, and all rows
 unfoldable pub questionRows : List Row
@@ -113,18 +116,19 @@ fileReturned b parallelLink = firstFailing (linkNew b) 0 (linksOf b)
 fileReturned b badPrefix = firstFailing (prefixGood b) 0 (prefixesOf b)
 fileReturned b routerTwice = firstFailing (routersNew b) 0 (prefixesOf b)
 
--- the value that an early row returns where it applies, by the counts of any file
-unfoldable pub sizedReturned : (routers links prefixes : ℕ) → Question → EarlyRow → Option ℕ
-sizedReturned n l p q shortArea = unless (leb (n * n) (q .area)) (n * n)
-sizedReturned n l p q shortBuffer = unless (leb (2 * n) (q .buffer)) (2 * n)
-sizedReturned n l p q badRanks = unless (isArrangement (q .ranks)) 0
-sizedReturned n l p q noSuchLink = unless (ltb (q .link) l && leb (q .end) 1) l
-sizedReturned n l p q noSuchPrefix = unless (ltb (q .prefix) p) p
+-- the value that an early row returns where it applies, by the counts of any file, and by whether the lent table is right
+unfoldable pub sizedReturned : (routers links prefixes : ℕ) → (right : Bool) → Question → EarlyRow → Option ℕ
+sizedReturned n l p right q shortArea = unless (leb (n * n) (q .cells)) (n * n)
+sizedReturned n l p right q wrongTable = unless right 0
+sizedReturned n l p right q shortBuffer = unless (leb (2 * n) (q .buffer)) (2 * n)
+sizedReturned n l p right q badRanks = unless (isArrangement (q .ranks)) 0
+sizedReturned n l p right q noSuchLink = unless (ltb (q .link) l && leb (q .end) 1) l
+sizedReturned n l p right q noSuchPrefix = unless (ltb (q .prefix) p) p
 
 -- the value that a row returns where it applies to the question
 unfoldable pub returned : Question → Row → Option ℕ
 returned q (ofFile r) = fileReturned (q .file) r
-returned q (early r) = sizedReturned (routersOf (q .file)) (linksOf (q .file)) (prefixesOf (q .file)) q r
+returned q (early r) = sizedReturned (routersOf (q .file)) (linksOf (q .file)) (prefixesOf (q .file)) (holdsDistances (networkAsked q) (q .table)) q r
 returned q noPair = ifNone (searched q (q .call)) 0
 
 -- the row that decides, and the value that it returns
@@ -166,11 +170,13 @@ pub record Accepted (b : Bytes) : Type 0 where
   pub bytes : (i : ℕ) → byteAt b i < 256
   pub none-applies : (r : FileRow) (v : ℕ) → FileApplies b r v → ⊥
 
--- A question that no row before 14 turns away: an accepted file, buffers that are long enough, an arrangement of ranks, and a link, an end
--- and a prefix of the file, as far as the call has them. "work area is enough when row 10 doesn't apply"
+-- A question that no row before 14 turns away: an accepted file, buffers that are long enough, a table that holds the file's distances, an
+-- arrangement of ranks, and a link, an end and a prefix of the file, as far as the call has them. "work area is enough when row 10 doesn't
+-- apply"
 pub record Posed (q : Question) : Type 0 where
   pub file : Accepted (q .file)
-  pub area : HasInput q (lent workArea) → networkAsked q .routers * networkAsked q .routers ≤ q .area
+  pub cells : HasInput q someCells → networkAsked q .routers * networkAsked q .routers ≤ q .cells
+  pub table : HasInput q aTable → HoldsDistances (networkAsked q) (q .table)
   pub buffer : HasInput q (lent routeBuffer) → 2 * networkAsked q .routers ≤ q .buffer
   pub ranks : HasInput q aRankTable → Arrangement (q .ranks)
   pub link : HasInput q aLink → q .link < length (networkAsked q .links)

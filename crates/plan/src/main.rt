@@ -9,7 +9,8 @@ use print::end;
 use print::number;
 use print::refused;
 use refusal::file_row;
-use repair::link_repair;
+use repair::distances;
+use repair::link_repair_with;
 ghost use Prim.Native.Nat.{_≤_};
 
 mod print;
@@ -32,7 +33,7 @@ fn print_pair(pair: Pair) {
 }
 
 // Prints the fields of a repair; where there is none, number 14, each is a word. Nothing else is answered for a link and an end of
-// an accepted file, with cells enough: only a prefix repair is untouched or unreachable.
+// an accepted file, with the table of its distances: only a prefix repair is untouched or unreachable.
 fn print_repair(answer: Repair) {
     let Repair::Pair(pair) = answer else {
         io::write_all(1, b" none none none none");
@@ -49,26 +50,28 @@ fn print_question(link: usize, side: usize, near: u8, far: u8) {
     number(far as usize);
 }
 
-// Prints the lines of the two ends of a link, which joins the routers a and b. The ranks ascend: the rank of a class is its number.
-fn print_ends(file: &[u8], work: &mut [u32], link: usize, a: u8, b: u8) {
+// Prints the lines of the two ends of a link, which joins the routers a and b, by the table of the file's distances. The ranks ascend: the
+// rank of a class is its number.
+fn print_ends(file: &[u8], table: &[u32], link: usize, a: u8, b: u8) {
     let ranks: [u8; 8] = [0, 1, 2, 3, 4, 5, 6, 7];
     print_question(link, 0, a, b);
-    print_repair(link_repair(file, work, &ranks, link, 0));
+    print_repair(link_repair_with(file, table, &ranks, link, 0));
     end();
     print_question(link, 1, b, a);
-    print_repair(link_repair(file, work, &ranks, link, 1));
+    print_repair(link_repair_with(file, table, &ranks, link, 1));
     end();
 }
 
-// Prints the lines of every link, with a work area that is enough for 64 routers.
+// Prints the lines of every link. The distances are worked out once, in a table that is enough for 64 routers.
 fn print_links(file: &[u8], network: Network)
     requires { ⌜ network .links ≤ 128 ⌝ }
 {
-    let mut work = [0u32; 4096];
+    let mut table = [0u32; 4096];
+    distances(file, &mut table);
     let links = network.links;
     let mut link = 0;
     while link < links {
-        print_ends(file, &mut work, link, network.from[link], network.to[link]);
+        print_ends(file, &table, link, network.from[link], network.to[link]);
         link += 1;
     }
 }

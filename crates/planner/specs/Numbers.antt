@@ -50,6 +50,10 @@ pub record Numbered (q : Question) (r : Numbers) (area areaAfter : List ℕ) : T
   pub numbers-are : r ≡ numbersOf (answerTo q)
   pub area-is : areaAfter ≡ exitOf q workArea area
 
+pub record NumberedRouteWith (q : Question) (r : Numbers) (buffer bufferAfter : List ℕ) : Type 0 where
+  pub numbers-are : r ≡ numbersOf (answerTo q)
+  pub buffer-is : bufferAfter ≡ exitOf q routeBuffer buffer
+
 pub record NumberedRoute (q : Question) (r : Numbers) (area areaAfter buffer bufferAfter : List ℕ) : Type 0 where
   pub numbered : Numbered q r area areaAfter
   pub buffer-is : bufferAfter ≡ exitOf q routeBuffer buffer

@@ -16,22 +16,25 @@ use numbers::verdict_numbers;
 use repair::distances;
 use repair::extended_p_space;
 use repair::link_repair;
+use repair::link_repair_with;
 use repair::p_space;
 use repair::prefix_repair;
+use repair::prefix_repair_with;
 use repair::q_space;
 use route::route;
+use route::route_with;
 use writer::write;
 ghost use mathlib.Core.Path.{_≡_};
 ghost use lib.ListN.{length};
 ghost use Rattle.lfa.specs.Space.{pSpace, extendedP, qSpace, sizeOf};
-ghost use Rattle.lfa.specs.Question.{loading, filling, askSpace, askLink, askPrefix, askRoute};
+ghost use Rattle.lfa.specs.Question.{loading, filling, askSpace, askLink, askPrefix, askRoute, askLinkWith, askPrefixWith, askRouteWith};
 ghost use Rattle.lfa.specs.Answer.{answerTo, networkLoaded, linkPart, prefixPart};
 ghost use Rattle.lfa.specs.Writing.{Wrote};
 ghost use Rattle.lfa.specs.Drill.{Drilled};
 ghost use Rattle.network_file.specs.Struct.{structOf};
 ghost use Rattle.network_file.specs.Held.{networkHeld};
 ghost use Rattle.numbers.specs.Numbers.{numbersOf};
-ghost use Rattle.planner.specs.Numbers.{loadedAs, networkIn, Numbered, NumberedRoute};
+ghost use Rattle.planner.specs.Numbers.{loadedAs, networkIn, Numbered, NumberedRoute, NumberedRouteWith};
 ghost use Rattle.planner.specs.Copied.{copiedTo};
 
 mod copy;
@@ -202,6 +205,20 @@ pub extern "C" fn planner_link_repair(
     repair_numbers(link_repair(file, work, ranks, link, end))
 }
 
+// The same with a table of the file's distances, which is only read, in place of the work area.
+#[no_mangle]
+pub extern "C" fn planner_link_repair_with(
+    file: &[u8],
+    table: &[u32],
+    ranks: &[u8],
+    link: usize,
+    end: usize,
+) -> Numbers
+    ensures { λ r. ⌜ r ≡ numbersOf (answerTo (askLinkWith (now (file .entry)) (now (table .entry)) (now (ranks .entry)) link end)) ⌝ }
+{
+    repair_numbers(link_repair_with(file, table, ranks, link, end))
+}
+
 // The pair that repairs the traffic to a prefix. A class below 4 tells that no walk of the pair visits the far router.
 #[no_mangle]
 pub extern "C" fn planner_prefix_repair(
@@ -215,6 +232,21 @@ pub extern "C" fn planner_prefix_repair(
     ensures { λ r. ⌜ Numbered (askPrefix (now (file .entry)) (length (now (work .entry))) (now (ranks .entry)) link end prefix) r (now (work .entry)) (now (work .exit)) ⌝ }
 {
     repair_numbers(prefix_repair(file, work, ranks, link, end, prefix))
+}
+
+// The same with a table of the file's distances, which is only read, in place of the work area.
+#[no_mangle]
+pub extern "C" fn planner_prefix_repair_with(
+    file: &[u8],
+    table: &[u32],
+    ranks: &[u8],
+    link: usize,
+    end: usize,
+    prefix: usize,
+) -> Numbers
+    ensures { λ r. ⌜ r ≡ numbersOf (answerTo (askPrefixWith (now (file .entry)) (now (table .entry)) (now (ranks .entry)) link end prefix)) ⌝ }
+{
+    repair_numbers(prefix_repair_with(file, table, ranks, link, end, prefix))
 }
 
 // Plays the route of the pair that repairs the traffic to a prefix, and writes its routers into the buffer.
@@ -233,4 +265,22 @@ pub extern "C" fn planner_route(
         r (now (work .entry)) (now (work .exit)) (now (buffer .entry)) (now (buffer .exit)) ⌝ }
 {
     played_numbers(route(file, work, ranks, link, end, prefix, choices, buffer))
+}
+
+// The same with a table of the file's distances, which is only read, in place of the work area.
+#[no_mangle]
+pub extern "C" fn planner_route_with(
+    file: &[u8],
+    table: &[u32],
+    ranks: &[u8],
+    link: usize,
+    end: usize,
+    prefix: usize,
+    choices: &[u8],
+    buffer: &mut [u8],
+) -> Numbers
+    ensures { λ r. ⌜ NumberedRouteWith (askRouteWith (now (file .entry)) (now (table .entry)) (length (now (buffer .entry))) (now (ranks .entry)) link end prefix (now (choices .entry)))
+        r (now (buffer .entry)) (now (buffer .exit)) ⌝ }
+{
+    played_numbers(route_with(file, table, ranks, link, end, prefix, choices, buffer))
 }

@@ -1,21 +1,25 @@
--- What turns a question away, in document 01's rows and values, and what `pose` tells of a question.
+-- What turns a question away, in document 01's rows and values, and what is told of a question that is put.
 -- Assumes nothing.
-use Prim.Native.Nat.{ℕ}
+use Prim.Native.Nat.{ℕ, _<_}
 use mathlib.Core.Path.{_≡_}
+use mathlib.Core.Bool.{Bool, true, false}
 use mathlib.Core.Option.{Option, none, some}
 use mathlib.Core.List.{List}
 use lib.ListN.{length}
 use Rattle.lfa.specs.Network as lfa
-use Rattle.lfa.specs.Distance.{filled}
+use Rattle.lfa.specs.File.{Bytes, byteAt}
+use Rattle.lfa.specs.Distance.{holdsDistances, filled}
 use Rattle.lfa.specs.Space.{underMaintenance}
-use Rattle.lfa.specs.Question.{Question}
-use Rattle.lfa.specs.Refusal.{Row, early, shortArea, shortBuffer, badRanks, noSuchLink, noSuchPrefix, noPair, Decided, decided, inFile}
-use Rattle.lfa.specs.Answer.{Answer, refusal, earlyAnswer, networkLoaded}
-use Rattle.network_file.specs.Load.{faultRow}
+use Rattle.lfa.specs.Question.{Question, loading, aTable, HasInput, networkAsked}
+use Rattle.lfa.specs.Refusal.{Row, early, shortArea, wrongTable, shortBuffer, badRanks, noSuchLink, noSuchPrefix, noPair, Decided, decided, inFile, Accepted}
+use Rattle.lfa.specs.Answer.{Answer, refusal, earlyAnswer, answerTo, networkLoaded}
+use Rattle.network_file.specs.declared.Loaded.{Loaded}
+use Rattle.network_file.specs.Load.{faultRow, answerOf}
 use Rattle.network_file.specs.Struct.{structOf}
 use Rattle.network_file.specs.declared.network.Network as struct
+use Rattle.rows.specs.declared.Cells.{Cells}
 use Rattle.question.specs.declared.Refusal.{Refusal}
-use Rattle.question.specs.declared.Refusal.the-variants.{File, ShortArea, ShortBuffer, NoSuchLink, NoSuchPrefix, NoPair, BadRanks}
+use Rattle.question.specs.declared.Refusal.the-variants.{File, ShortArea, ShortBuffer, NoSuchLink, NoSuchPrefix, NoPair, BadRanks, WrongTable}
 use Rattle.question.specs.declared.Turned as question
 use Rattle.question.specs.declared.Turned.the-variants.{Refused as TurnedAway, Ready}
 
@@ -28,6 +32,7 @@ rowOf (NoSuchLink v) = decided (early noSuchLink) v
 rowOf (NoSuchPrefix v) = decided (early noSuchPrefix) v
 rowOf NoPair = decided noPair 0
 rowOf BadRanks = decided (early badRanks) 0
+rowOf WrongTable = decided (early wrongTable) 0
 
 unfoldable pub refusalAnswer : Refusal → Answer
 refusalAnswer x = refusal (rowOf x)
@@ -45,10 +50,31 @@ unfoldable pub areaPosed : question.Turned → lfa.Network → List ℕ → List
 areaPosed (TurnedAway r) net area = area
 areaPosed Ready net area = filled net area
 
--- what `pose` tells of a question, and leaves in the work area, whose cells the question counts; links are under maintenance at 65,535
-pub record Judges (q : Question) (turned : question.Turned) (network : struct.Network) (area after : List ℕ) : Type 0 where
-  pub cells-are : q .area ≡ length area
+-- the cells for distances of a question: a work area of so many; or this table, which holds the distances of a network or does not
+unfoldable pub workCells : ℕ → Cells
+workCells count = record { count = count; given = false; right = false }
+
+unfoldable pub tableCells : lfa.Network → List ℕ → Cells
+tableCells net table = record { count = length table; given = true; right = holdsDistances net table }
+
+-- what is loaded is the file's
+pub record IsLoaded (b : Bytes) (loaded : Loaded) : Type 0 where
+  pub bytes : (i : ℕ) → byteAt b i < 256
+  pub verdict-is : answerOf (loaded .verdict) ≡ answerTo (loading b)
+  pub network-is : loaded .network ≡ structOf (networkLoaded b)
+
+-- the lent table was judged rightly, where the call has one
+abbrev pub TableJudged : Question → Bool → Type 0
+TableJudged q right = Accepted (q .file) → HasInput q aTable → right ≡ holdsDistances (networkAsked q) (q .table)
+
+-- What `pose` and `pose_with` tell of a question; links are under maintenance at 65,535.
+pub record Judges (q : Question) (turned : question.Turned) (network : struct.Network) : Type 0 where
   pub limit-is : q .maintenance ≡ underMaintenance
   pub turned-is : turnedAnswer turned ≡ earlyAnswer q
   pub network-is : network ≡ structOf (networkLoaded (q .file))
+
+-- and what is in the cells for distances, which the question counts, before and after
+pub record Poses (q : Question) (turned : question.Turned) (network : struct.Network) (area after : List ℕ) : Type 0 where
+  pub judges : Judges q turned network
+  pub cells-are : q .cells ≡ length area
   pub area-is : after ≡ areaPosed turned (networkLoaded (q .file)) area

@@ -47,5 +47,6 @@ pub fn question_row(refusal: Refusal) -> Row
         Refusal::NoSuchPrefix(n) => numbered(13, n),
         Refusal::NoPair => numbered(14, 0),
         Refusal::BadRanks => numbered(15, 0),
+        Refusal::WrongTable => numbered(18, 0),
     }
 }

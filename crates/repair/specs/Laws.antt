@@ -1,3 +1,4 @@
+pub mod Told
 pub mod Named
 pub mod Searched
 pub mod Answered

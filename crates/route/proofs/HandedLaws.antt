@@ -10,7 +10,7 @@ use Rattle.lfa.specs.File.{byteAt, networkOf}
 use Rattle.lfa.specs.Space.{Protected, protected}
 use Rattle.lfa.specs.Repair.{Told, Outcome, serving}
 use Rattle.lfa.specs.Route.{NamedRoute}
-use Rattle.lfa.specs.Question.{Question, route, workArea, routeBuffer, aLink, aPrefix, lent, inputsOf, inputNumber, hasInput, networkAsked, linkAsked, prefixAsked, prefixFound}
+use Rattle.lfa.specs.Question.{Question, Source, route, routeBuffer, someCells, aLink, aPrefix, lent, inputsOf, inputNumber, hasInput, networkAsked, linkAsked, prefixAsked, prefixFound}
 use Rattle.lfa.specs.Refusal.{Posed}
 use Rattle.lfa.specs.Answer.{played, answerTo, routeAfter}
 use Rattle.lfa.specs.Laws.Accepted.{accepted-descend, accepted-sound, accepted-named, prefix-count}
@@ -23,7 +23,7 @@ use Rattle.metric.specs.Column.{slotsIn}
 use Rattle.search.specs.Calls.{protectedOf, prefixBy}
 use Rattle.question.specs.declared.Turned.{Turned}
 use Rattle.question.specs.declared.Turned.the-variants.{Ready}
-use Rattle.question.specs.Turning.{Judges}
+use Rattle.question.specs.Turning.{Poses}
 use Rattle.question.specs.Laws.Posed.{ready-posed, ready-taken, area-filled}
 use Rattle.repair.specs.Laws.Searched.{prefix-searched}
 use Rattle.repair.specs.Laws.Named.{hops-are, held-is, prefix-cell, prefix-slots, prefix-target, protected-is}
@@ -32,7 +32,7 @@ use Rattle.question.specs.Laws.Loaded.{limits, columns-within, routers-same, pr
 use Rattle.route.specs.Leg.{Playable}
 
 -- a route question that is posed and not turned away
-module _ {q : Question} {turned : Turned} {network : Network} {area after : List ℕ} (j : Judges q turned network area after) (bytes : (i : ℕ) → byteAt (q .file) i < 256) (ready : turned ≡ Ready) (c : q .call ≡ route) where
+module _ {q : Question} {turned : Turned} {network : Network} {area after : List ℕ} (j : Poses q turned network area after) (bytes : (i : ℕ) → byteAt (q .file) i < 256) (ready : turned ≡ Ready) {from : Source} (c : q .call ≡ route from) where
   pub p : Posed q
   p = ready-posed j bytes ready
 
@@ -55,12 +55,12 @@ module _ {q : Question} {turned : Turned} {network : Network} {area after : List
 
   cells-enough : networkOf (q .file) .routers * networkOf (q .file) .routers ≤ length area
   unfolding networkAsked hasInput inputsOf inputNumber memberOf anyOf
-  cells-enough = omega (arith, j .cells-are, p .area (has q p (lent workArea) c refl))
+  cells-enough = omega (arith, j .cells-are, p .cells (has q p someCells c refl))
 
   -- what the search finds is what the prefix repair finds
   pub route-searched : {o : Outcome} → o ≡ prefixBy network (q .ranks) (q .link) (q .end) (q .prefix) after → o ≡ prefixFound q
   unfolding hasInput inputsOf inputNumber memberOf anyOf
-  route-searched e = e ∙ prefix-searched p t area (j .cells-are) (j .limit-is) (area-filled j bytes ready) (has q p aLink c refl) (has q p (lent workArea) c refl) (has q p aPrefix c refl)
+  route-searched e = e ∙ prefix-searched p t area (j .cells-are) (j .judges .limit-is) (area-filled j bytes ready) (has q p aLink c refl) (has q p someCells c refl) (has q p aPrefix c refl)
 
   -- the pair that was found
   module _ {told : Told} (found : prefixFound q ≡ serving told) where
@@ -79,7 +79,7 @@ module _ {q : Question} {turned : Turned} {network : Network} {area after : List
       near-same : near ≡ protected (q .maintenance) (networkOf (q .file)) (q .link) (q .end) .near
       near-same =
           near-is ∙ ap (λ (r : Protected). r .near) (protected-is t (q .link) (q .end) link-there)
-          ∙ ap (λ (m : ℕ). protected m (networkOf (q .file)) (q .link) (q .end) .near) (sym (j .limit-is))
+          ∙ ap (λ (m : ℕ). protected m (networkOf (q .file)) (q .link) (q .end) .near) (sym (j .judges .limit-is))
 
       abbrev InColumns : List ℕ → Type 0
       InColumns r =

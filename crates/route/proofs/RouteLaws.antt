@@ -9,7 +9,7 @@ use lib.ListN.{length}
 use types.Run.{OneOf, miss}
 use denote.Enum.Declared.{tagOf}
 use Rattle.lfa.specs.Repair.{Told, Outcome, prefixUnreachable, prefixUntouched, noneServes, serving}
-use Rattle.lfa.specs.Question.{Question, route, prefixFound}
+use Rattle.lfa.specs.Question.{Question, Source, route, prefixFound}
 use Rattle.lfa.specs.Refusal.{Row, Decided, decided, Posed}
 use Rattle.lfa.specs.Answer.{Answer, repair, refusal, repairAnswer, routeAnswer, routeFor, routePlayed, computed, answerTo, routeAfter}
 use Rattle.lfa.specs.Laws.Asked.{posed-route}
@@ -49,7 +49,7 @@ not-pair (answer.Pair p) k = absurd (third k)
 -- ---- a route question that no row before 14 turns away: what the search finds for the prefix repair
 
 -- An answer without a pair is passed on, and writes nothing.
-pub passed : (q : Question) → Posed q → q .call ≡ route → (r : Repair) → repairOf r ≡ repairAnswer (prefixFound q) → passedOn r ≡ repairOf r →
+pub passed : (q : Question) → Posed q → {from : Source} → q .call ≡ route from → (r : Repair) → repairOf r ≡ repairAnswer (prefixFound q) → passedOn r ≡ repairOf r →
     (passedOn r ≡ answerTo q) × ((lent : List ℕ) → lent ≡ routeAfter q lent)
 unfolding repairAnswer routeAnswer computed routePlayed routeFor
 passed q s c r a n = found (prefixFound q) refl

@@ -1,2 +1,3 @@
 pub mod Leg
 pub mod Answer
+pub mod Put

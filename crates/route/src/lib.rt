@@ -4,9 +4,11 @@ use answers::Repair;
 use answers::repair_answer;
 use metric::read::wide;
 use play::play;
+use question::Judged;
 use question::Refusal;
 use question::Turned;
 use question::pose;
+use question::pose_with;
 use rows::Asked;
 use rows::Call;
 use rows::ranks::arranged;
@@ -15,10 +17,11 @@ ghost use mathlib.Core.Path.{_≡_};
 ghost use mathlib.Core.List.{List};
 ghost use Prim.Native.Nat.{ℕ, _<_};
 ghost use lib.ListN.{length};
-ghost use Rattle.lfa.specs.Question.{askRoute};
-ghost use Rattle.lfa.specs.Contract.{Routed};
+ghost use Rattle.lfa.specs.Question.{askRoute, askRouteWith};
+ghost use Rattle.lfa.specs.Contract.{Routed, RoutedWith};
 ghost use Rattle.search.specs.Hops.{protectedIn};
 ghost use Rattle.route.specs.Answer.{playedOf, passedOn};
+ghost use Rattle.route.specs.Put.{routeNumbers, Rest, routeQuestion, IsPut};
 
 mod play;
 
@@ -53,10 +56,25 @@ fn repairing<'a>(from: &'a [u8; 128], to: &'a [u8; 128], link: usize, end: usize
     wide(to[link])
 }
 
-// Plays the route of the pair that repairs the traffic to a prefix, and writes its routers into the buffer.
-pub fn route(
-    file: &[u8],
-    work: &mut [u32],
+// The numbers of a question for a route.
+fn route_asked(buffer: usize, ranked: bool, link: usize, end: usize, prefix: usize) -> Asked
+    ensures { λ r. ⌜ r ≡ routeNumbers buffer ranked link end prefix ⌝ }
+{
+    Asked {
+        call: Call::Route,
+        buffer,
+        ranked,
+        link,
+        end,
+        prefix,
+    }
+}
+
+// The answer to such a question once the rows before 14 are tried, over a table of the network's distances: plays the route of the pair
+// that repairs the traffic to the prefix, and writes its routers into the buffer.
+fn route_over(
+    judged: Judged,
+    table: &[u32],
     ranks: &[u8],
     link: usize,
     end: usize,
@@ -64,25 +82,16 @@ pub fn route(
     choices: &[u8],
     buffer: &mut [u8],
 ) -> Played
-    ensures { λ r. ⌜ Routed (askRoute (now (file .entry)) (length (now (work .entry))) (length (now (buffer .entry))) (now (ranks .entry)) link end prefix (now (choices .entry)))
-        (playedOf r) (now (work .entry)) (now (work .exit)) (now (buffer .entry)) (now (buffer .exit)) ⌝ }
+    requires { ⌜ ((rest : Rest) × IsPut rest (judged .turned) (judged .network) (now table) (length (now buffer)) (now ranks) link end prefix (now choices)) ⌝ }
+    ensures { λ r. ⌜ ((rest : Rest) → IsPut rest (judged .turned) (judged .network) (now (table .entry)) (length (now (buffer .entry))) (now (ranks .entry)) link end prefix (now (choices .entry)) →
+        RoutedWith (routeQuestion rest (length (now (buffer .entry))) (now (ranks .entry)) link end prefix (now (choices .entry))) (playedOf r) (now (buffer .entry)) (now (buffer .exit))) ⌝ }
 {
-    let ranked = arranged(ranks);
-    let asked = Asked {
-        call: Call::Route,
-        buffer: buffer.len(),
-        ranked,
-        link,
-        end,
-        prefix,
-    };
-    let posed = pose(file, asked, work);
-    let turned = posed.turned;
+    let turned = judged.turned;
     if let Turned::Refused(refusal) = turned {
         return Played::Refused(refusal);
     }
-    let network = posed.network;
-    let answer = repair_answer(prefix_pair(network, ranks, link, end, prefix, work));
+    let network = judged.network;
+    let answer = repair_answer(prefix_pair(network, ranks, link, end, prefix, table));
     let Repair::Pair(pair) = answer else {
         return passed_on(answer);
     };
@@ -92,7 +101,7 @@ pub fn route(
     let count = wide(attached[prefix]);
     let near = repairing(&network.from, &network.to, link, end);
     let written = play(
-        work,
+        table,
         routers,
         links,
         &network.from,
@@ -110,4 +119,42 @@ pub fn route(
         buffer,
     );
     Played::Written(written)
+}
+
+// Plays the route of the pair that repairs the traffic to a prefix, and writes its routers into the buffer.
+pub fn route(
+    file: &[u8],
+    work: &mut [u32],
+    ranks: &[u8],
+    link: usize,
+    end: usize,
+    prefix: usize,
+    choices: &[u8],
+    buffer: &mut [u8],
+) -> Played
+    ensures { λ r. ⌜ Routed (askRoute (now (file .entry)) (length (now (work .entry))) (length (now (buffer .entry))) (now (ranks .entry)) link end prefix (now (choices .entry)))
+        (playedOf r) (now (work .entry)) (now (work .exit)) (now (buffer .entry)) (now (buffer .exit)) ⌝ }
+{
+    let asked = route_asked(buffer.len(), arranged(ranks), link, end, prefix);
+    let judged = pose(file, asked, work);
+    route_over(judged, work, ranks, link, end, prefix, choices, buffer)
+}
+
+// The same with a table of the file's distances, which is only read, in place of the work area.
+pub fn route_with(
+    file: &[u8],
+    table: &[u32],
+    ranks: &[u8],
+    link: usize,
+    end: usize,
+    prefix: usize,
+    choices: &[u8],
+    buffer: &mut [u8],
+) -> Played
+    ensures { λ r. ⌜ RoutedWith (askRouteWith (now (file .entry)) (now (table .entry)) (length (now (buffer .entry))) (now (ranks .entry)) link end prefix (now (choices .entry)))
+        (playedOf r) (now (buffer .entry)) (now (buffer .exit)) ⌝ }
+{
+    let asked = route_asked(buffer.len(), arranged(ranks), link, end, prefix);
+    let judged = pose_with(file, asked, table);
+    route_over(judged, table, ranks, link, end, prefix, choices, buffer)
 }

@@ -1,5 +1,6 @@
-// Rows 10 to 13 and 15 of the table of refusals, for every call that tries one of them, in the order 10, 11, 15, 12, 13. They look at the
-// counts of a file's head, at the numbers of the question, and at whether its table of ranks is an arrangement.
+// Rows 10 to 13, 15 and 18 of the table of refusals, for every call that tries one of them, in the order 10, 18, 11, 15, 12, 13. They look at
+// the counts of a file's head, at the numbers of the question, at whether its table of ranks is an arrangement, and at whether a table of
+// distances that is lent is the file's.
 use metric::read::wide;
 ghost use Prim.Native.Nat.{ℕ};
 ghost use mathlib.Core.Path.{_≡_};
@@ -24,8 +25,16 @@ pub enum Call {
     Route,
 }
 
-// The numbers of a question, beside the cells of its work area, and whether the lent table of ranks is an arrangement. Where the call has
-// no such input, any value may stand.
+// The cells for distances that every call is lent: how many they are; whether they are given as a table, as repair and route calls may have
+// it, or else a work area; and, of a table, whether it holds the file's distances.
+pub struct Cells {
+    pub count: usize,
+    pub given: bool,
+    pub right: bool,
+}
+
+// The numbers of a question, beside those cells, and whether the lent table of ranks is an arrangement. Where the call has no such input,
+// any value may stand.
 pub struct Asked {
     pub call: Call,
     pub buffer: usize,
@@ -38,6 +47,7 @@ pub struct Asked {
 // The first of these rows that applies, with the value that it returns.
 pub enum Row {
     ShortArea(usize),
+    WrongTable,
     ShortBuffer(usize),
     NoSuchLink(usize),
     NoSuchPrefix(usize),
@@ -45,43 +55,49 @@ pub enum Row {
     Passed,
 }
 
-// Which inputs a call has, beside the file and the work area.
+// Which inputs a call has, beside the file and the cells for distances.
 struct Inputs {
+    table: bool,
     buffer: bool,
     ranks: bool,
     link: bool,
     prefix: bool,
 }
 
-fn inputs_of(call: Call) -> Inputs
-    ensures { λ r. ⌜ ((s : Space) → r ≡ inputsIn (callOf call s)) ⌝ }
+fn inputs_of(call: Call, given: bool) -> Inputs
+    ensures { λ r. ⌜ ((s : Space) → r ≡ inputsIn (callOf call given s)) ⌝ }
 {
     match call {
         Call::Distances => Inputs {
+            table: false,
             buffer: false,
             ranks: false,
             link: false,
             prefix: false,
         },
         Call::Space => Inputs {
+            table: false,
             buffer: false,
             ranks: false,
             link: true,
             prefix: false,
         },
         Call::Link => Inputs {
+            table: given,
             buffer: false,
             ranks: true,
             link: true,
             prefix: false,
         },
         Call::Prefix => Inputs {
+            table: given,
             buffer: false,
             ranks: true,
             link: true,
             prefix: true,
         },
         Call::Route => Inputs {
+            table: given,
             buffer: true,
             ranks: true,
             link: true,
@@ -110,16 +126,16 @@ fn or_row(tried: bool, passes: bool, row: Row, later: Row) -> Row
     later
 }
 
-// The first of rows 10 to 13 and 15 that applies to a question about a file with these counts, `area` being the cells of the work area,
-// which every call has. It is found from the last row to the first, so that a further row is one more step.
-pub fn first_row(routers: u8, links: usize, prefixes: usize, area: usize, asked: Asked) -> Row
-    ensures { λ r. ⌜ ((b : Bytes) (s : Space) (choices ranks : List ℕ) → isArrangement ranks ≡ asked .ranked → rowDecided r
-        ≡ firstRow (sizedReturned routers links prefixes (questionAbout b area asked s choices ranks)) (select (triesEarly (callOf (asked .call) s)) earlyRows)) ⌝ }
+// The first of these rows that applies to a question about a file with these counts. The row is found from the last to the first, so that a
+// further row is one more step.
+pub fn first_row(routers: u8, links: usize, prefixes: usize, cells: Cells, asked: Asked) -> Row
+    ensures { λ r. ⌜ ((b : Bytes) (s : Space) (table choices ranks : List ℕ) → isArrangement ranks ≡ asked .ranked → rowDecided r
+        ≡ firstRow (sizedReturned routers links prefixes (cells .right) (questionAbout b cells table asked s choices ranks)) (select (triesEarly (callOf (asked .call) (cells .given) s)) earlyRows)) ⌝ }
 {
     let call = asked.call;
-    let has = inputs_of(call);
+    let has = inputs_of(call, cells.given);
     let n = wide(routers);
-    let cells = n * n;
+    let square = n * n;
     let bytes = 2 * n;
     let there = named(links, asked.link, asked.end);
     let from13 = or_row(
@@ -136,5 +152,6 @@ pub fn first_row(routers: u8, links: usize, prefixes: usize, area: usize, asked:
         Row::ShortBuffer(bytes),
         from15,
     );
-    or_row(true, cells <= area, Row::ShortArea(cells), from11)
+    let from18 = or_row(has.table, cells.right, Row::WrongTable, from11);
+    or_row(true, square <= cells.count, Row::ShortArea(square), from18)
 }

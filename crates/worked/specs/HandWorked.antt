@@ -12,7 +12,7 @@ use Rattle.lfa.specs.Network.{Target, at, router, attachmentOf, isAttached, arc
 use Rattle.lfa.specs.File.{byteAt, wordAt, partOf, allZero, blocksIn, blockOf, sumWords, checkOf, routersOf, linksOf, prefixesOf, ceil, linkBlocks, prefixBlocks, blocksNeeded, linkEntry, linkIn, prefixEntry, attachments, slotRouter, slot, prefixIn, linkOf, prefixOf, networkOf, lengthGood, checkGood, headGood, blockCountGood, laterGood, entriesIn, soundBlock, blockGood, soundLink, linkGood, joinSame, linkNew, slotGood, soundPrefix, prefixGood, slotNew, routersNew}
 use Rattle.lfa.specs.FileOf.{fileOf, blocksOf, prefixBlock, linkBlock, entriesBlock, prefixBytes, slotBytes, linkBytes, headBlock, blockBytes, pad, wordBytes}
 use Rattle.lfa.specs.Ring.{nextOnRing, ringLink, ringOf}
-use Rattle.lfa.specs.Distance.{least, costOver, towards, hopCost, direct, through, stage, distances, distanceIn}
+use Rattle.lfa.specs.Distance.{least, costOver, towards, hopCost, direct, through, stage, distances, distanceIn, cellsHold, holdsDistances}
 use Rattle.lfa.specs.Walk.{isStep, leads, takers, over, overFrom, avoids, crosses, into, visits}
 use Rattle.lfa.specs.Space.{underMaintenance, Protected, protectedBy, protected, isFirst, hopOver, firstHops, inSpace, setOf, spaceOf}
 use Rattle.lfa.specs.Ranks.{ascending, timesGiven, isArrangement}
@@ -20,10 +20,10 @@ use Rattle.lfa.specs.Repair.{Pair, isEndpoint, pairsOf, pairs, serves, mayCross
 use Rattle.lfa.specs.Route.{isStepTo, nextRouters, delivers, movesOf, options, choiceAt, optionTaken, playTo, playOn, routeOf}
 use Rattle.lfa.specs.Laws.Turned.{early-given}
 use mathlib.Core.Bool.{Bool, true, false}
-use Rattle.lfa.specs.Question.{Question, routeBuffer, aLink, inputsOf, inputNumber, hasInput, HasInput, loading, askSpace, askLink, askPrefix, askRoute, networkAsked, linkAsked, prefixAsked, withDistances, linkFound, prefixFound, searched, ifNone}
-use Rattle.lfa.specs.Refusal.{EarlyRow, shortArea, shortBuffer, badRanks, noSuchLink, EarlyApplies, triesEarly, fileReturned, returned, fileNumber, entryOf, fileRows, earlyRows, questionRows, allRows, tries, rowsTried, firstRow, inFile, fileRefusal, refusalOf, sizedReturned}
+use Rattle.lfa.specs.Question.{Question, routeBuffer, aLink, cellsFrom, inputsOf, inputNumber, hasInput, HasInput, loading, askSpace, askLink, askPrefix, askRoute, askLinkWith, askPrefixWith, askRouteWith, networkAsked, linkAsked, prefixAsked, withDistances, linkFound, prefixFound, searched, ifNone}
+use Rattle.lfa.specs.Refusal.{EarlyRow, shortArea, wrongTable, shortBuffer, badRanks, noSuchLink, EarlyApplies, triesEarly, fileReturned, returned, fileNumber, leavesAll, entryOf, fileRows, earlyRows, questionRows, allRows, tries, rowsTried, firstRow, inFile, fileRefusal, refusalOf, sizedReturned}
 use Rattle.lfa.specs.Answer.{refused, refusal, routeFor, routePlayed, repairAnswer, routeAnswer, computed, answerTo, writtenTo, leave, exitBy, exitOf}
-use Rattle.worked.specs.Tables.{ring, ring4prefix, ring5prefix, ring4attached, ring4cost3, ring5attached, behindFar, besideFar, ring3cost2, ring4cost10, twoRouters, oneRouter, members, told, starred, ranked, ended, missed, Worked, asked, route}
+use Rattle.worked.specs.Tables.{ring, ring4prefix, ring5prefix, ring4attached, ring4cost3, ring5attached, behindFar, besideFar, ring3cost2, ring4cost10, twoRouters, oneRouter, members, told, starred, ranked, tabled, ended, missed, Worked, asked, route}
 
 -- what the definitions answer to the question of a row, in the row's form
 unfoldable pub yielded : Worked → Worked
@@ -36,8 +36,12 @@ yieldedAll (w ∷ ws) = yielded w ∷ yieldedAll ws
 
 -- to unfold this is to unfold every definition that an answer rests on
 unfoldable opened : Unit {0}
-unfolding countUp below select anyOf everyBelow memberOf flat count firstFailing unless table cell timesGiven isArrangement router arcs arcsFrom byteAt wordAt partOf allZero blocksIn blockOf sumWords checkOf routersOf linksOf prefixesOf ceil linkBlocks prefixBlocks blocksNeeded linkEntry linkIn prefixEntry attachments slotRouter slot prefixIn linkOf prefixOf networkOf lengthGood checkGood headGood blockCountGood laterGood entriesIn soundBlock blockGood soundLink linkGood joinSame linkNew slotGood soundPrefix prefixGood slotNew routersNew fileOf blocksOf prefixBlock linkBlock entriesBlock prefixBytes slotBytes linkBytes headBlock blockBytes pad wordBytes least costOver towards hopCost direct through stage distances distanceIn attachmentOf isAttached isStep leads takers over overFrom avoids crosses into visits protectedBy protected isFirst hopOver firstHops inSpace setOf spaceOf isEndpoint pairsOf pairs serves mayCross nodeProtects orElse baseClassOf classOf toldOf key noLater earlier choose pairKey firstPair outcomeOf linkOutcome prefixOutcome isStepTo nextRouters delivers movesOf options choiceAt optionTaken playTo playOn routeOf answerTo routePlayed loading askSpace askLink askPrefix askRoute networkAsked linkAsked prefixAsked withDistances linkFound prefixFound searched inputsOf inputNumber hasInput ifNone fileReturned returned sizedReturned fileNumber entryOf fileRows earlyRows questionRows allRows tries rowsTried firstRow inFile fileRefusal refusalOf refusal routeFor repairAnswer routeAnswer computed writtenTo leave exitBy exitOf
+unfolding countUp below select anyOf everyBelow memberOf flat count firstFailing unless table cell timesGiven isArrangement router arcs arcsFrom byteAt wordAt partOf allZero blocksIn blockOf sumWords checkOf routersOf linksOf prefixesOf ceil linkBlocks prefixBlocks blocksNeeded linkEntry linkIn prefixEntry attachments slotRouter slot prefixIn linkOf prefixOf networkOf lengthGood checkGood headGood blockCountGood laterGood entriesIn soundBlock blockGood soundLink linkGood joinSame linkNew slotGood soundPrefix prefixGood slotNew routersNew fileOf blocksOf prefixBlock linkBlock entriesBlock prefixBytes slotBytes linkBytes headBlock blockBytes pad wordBytes least costOver towards hopCost direct through stage distances distanceIn attachmentOf isAttached isStep leads takers over overFrom avoids crosses into visits protectedBy protected isFirst hopOver firstHops inSpace setOf spaceOf isEndpoint pairsOf pairs serves mayCross nodeProtects orElse baseClassOf classOf toldOf key noLater earlier choose pairKey firstPair outcomeOf linkOutcome prefixOutcome isStepTo nextRouters delivers movesOf options choiceAt optionTaken playTo playOn routeOf answerTo routePlayed loading askSpace askLink askPrefix askRoute networkAsked linkAsked prefixAsked withDistances linkFound prefixFound searched askLinkWith askPrefixWith askRouteWith cellsFrom cellsHold holdsDistances inputsOf inputNumber hasInput ifNone fileReturned returned sizedReturned fileNumber leavesAll entryOf fileRows earlyRows questionRows allRows tries rowsTried firstRow inFile fileRefusal refusalOf refusal routeFor repairAnswer routeAnswer computed writtenTo leave exitBy exitOf
 opened = tt
+
+tabled-yielded : yieldedAll tabled ≡ tabled
+unfolding opened nextOnRing ringLink ringOf ring ring4prefix told tabled yielded yieldedAll
+tabled-yielded = refl
 
 -- the table; the lone router's "any link question" follows
 rows-yielded : yieldedAll starred ≡ starred
@@ -70,9 +74,9 @@ lone-links : linksOf (fileOf oneRouter) ≡ 0
 unfolding opened oneRouter
 lone-links = refl
 
--- no row before 12 that the call tries applies: the buffers are long enough, and the ranks an arrangement
+-- no row before 12 that the call tries applies: the buffers are long enough, a lent table is the file's, and the ranks are an arrangement
 abbrev pub NoneBefore12 : Question → Type 0
-NoneBefore12 q = (r : EarlyRow) (v : ℕ) → List·Memᴰ r (shortArea ∷ shortBuffer ∷ badRanks ∷ []) → triesEarly (q .call) r ≡ true → EarlyApplies q r v → ⊥
+NoneBefore12 q = (r : EarlyRow) (v : ℕ) → List·Memᴰ r (shortArea ∷ wrongTable ∷ shortBuffer ∷ badRanks ∷ []) → triesEarly (q .call) r ≡ true → EarlyApplies q r v → ⊥
 
 -- a link question about the lone router: where no row before 12 applies, row 12 does
 lone-refused : (q : Question) → q .file ≡ fileOf oneRouter → NoneBefore12 q → HasInput q aLink → answerTo q ≡ refused 12 0
@@ -103,6 +107,7 @@ ring5keys p = keysOf ascending ring5d ring5link (toldOf 5 (arcs (ring 5 [])) rin
 pub record Yielded : Type 0 where
   pub rows : yieldedAll starred ≡ starred
   pub by-ranks : yieldedAll ranked ≡ ranked
+  pub by-table : yieldedAll tabled ≡ tabled
   pub by-ends : yieldedAll ended ≡ ended
   pub by-protection : yieldedAll missed ≡ missed
   pub ring-4-avoids : (ring4avoids (at 1 0 ∷ at 3 100 ∷ []) ≡ true) × (ring4avoids (at 1 0 ∷ []) ≡ false)
@@ -113,4 +118,4 @@ pub record Yielded : Type 0 where
 
 pub hand-worked : Yielded
 unfolding opened nextOnRing ringLink ringOf ring ring4avoids ring5d ring5link overHop4 ring5keys
-hand-worked = record { rows = rows-yielded; by-ranks = ranked-yielded; by-ends = ended-yielded; by-protection = missed-yielded; ring-4-avoids = (refl, refl); ring-5-tie = (refl, refl, refl); lone = lone-refused }
+hand-worked = record { rows = rows-yielded; by-ranks = ranked-yielded; by-table = tabled-yielded; by-ends = ended-yielded; by-protection = missed-yielded; ring-4-avoids = (refl, refl); ring-5-tie = (refl, refl, refl); lone = lone-refused }

@@ -1,6 +1,6 @@
 -- The hand-worked networks and the answers that are worked out of them: document 01's starred rows as one table, and others for what ranks do
--- (Point 2), where walks end (Point 4) and which pairs miss the far router (Point 5). Each is asked through the definitions that the public
--- contracts cite, from the bytes of its network's file.
+-- (Point 2), where walks end (Point 4), which pairs miss the far router (Point 5) and what a lent table of distances does (Point 7). Each is
+-- asked through the definitions that the public contracts cite, from the bytes of its network's file.
 -- Assumes nothing.
 use Prim.Native.Nat.{ℕ, _+_, _^_}
 use mathlib.Core.List.{List, [], _∷_}
@@ -9,7 +9,7 @@ use Rattle.lfa.specs.FileOf.{fileOf}
 use Rattle.lfa.specs.Ring.{ringOf}
 use Rattle.lfa.specs.Space.{Space, pSpace, extendedP, qSpace}
 use Rattle.lfa.specs.Ranks.{ascending}
-use Rattle.lfa.specs.Question.{Question, loading, askSpace, askLink, askPrefix, askRoute}
+use Rattle.lfa.specs.Question.{Question, loading, askSpace, askLink, askPrefix, askRoute, askLinkWith, askPrefixWith, askRouteWith}
 use Rattle.lfa.specs.Answer.{Answer, refused, accepted, set, repair, played, untouched}
 
 -- ---- the networks
@@ -133,6 +133,29 @@ ranked =
     ∷ asked (withTable 4096 (0 ∷ 1 ∷ 2 ∷ 3 ∷ 4 ∷ 5 ∷ 6 ∷ 7 ∷ 8 ∷ []) 9) (refused 15 0)
     ∷ asked (withTable 15 [] 0) (refused 10 16)
     ∷ asked (askRoute (fileOf ring4prefix) 4096 7 [] 0 0 0 []) (refused 11 8)
+    ∷ []
+
+-- a table of the distances of ring 4, where the first cell is 0 and the last two are 1 and 0
+abbrev pub ring4table : (first before last : ℕ) → List ℕ
+ring4table first before last = first ∷ 1 ∷ 2 ∷ 1 ∷ 1 ∷ 0 ∷ 1 ∷ 2 ∷ 2 ∷ 1 ∷ 0 ∷ 1 ∷ 1 ∷ 2 ∷ before ∷ last ∷ []
+
+-- With a table of the file's distances the second call answers as the single call does, also where more cells follow. A table in which one
+-- cell is off gets 18, before 11, 15 and 12 are tried, and one that is too short 10, whatever it holds.
+unfoldable pub tabled : List Worked
+tabled =
+    asked (askLinkWith (fileOf ring4prefix) (ring4table 0 1 0) ascending 0 0) (told 3 2 7 2)
+    ∷ asked (askLinkWith (fileOf ring4prefix) (0 ∷ 1 ∷ 2 ∷ 1 ∷ 1 ∷ 0 ∷ 1 ∷ 2 ∷ 2 ∷ 1 ∷ 0 ∷ 1 ∷ 1 ∷ 2 ∷ 1 ∷ 0 ∷ 9 ∷ []) ascending 0 0) (told 3 2 7 2)
+    ∷ asked (askPrefixWith (fileOf ring4prefix) (ring4table 0 1 0) ascending 0 0 0) (told 3 3 1 1)
+    ∷ asked (askPrefixWith (fileOf ring4prefix) (ring4table 0 1 0) class2first 0 0 0) (told 3 2 2 2)
+    ∷ asked (askLinkWith (fileOf ring4prefix) (ring4table 0 1 0) ascending 0 1) (told 2 3 7 2)
+    ∷ route (askRouteWith (fileOf ring4prefix) (ring4table 0 1 0) 8 ascending 0 0 0 []) (played 3) (0 ∷ 3 ∷ 2 ∷ [])
+    ∷ asked (askLinkWith (fileOf ring4prefix) (ring4table 1 1 0) ascending 0 0) (refused 18 0)
+    ∷ asked (askLinkWith (fileOf ring4prefix) (ring4table 0 1 1) ascending 0 0) (refused 18 0)
+    ∷ asked (askPrefixWith (fileOf ring4prefix) (ring4table 0 2 0) [] 9 9 9) (refused 18 0)
+    ∷ route (askRouteWith (fileOf ring4prefix) (ring4table 0 2 0) 7 ascending 0 0 0 []) (refused 18 0) []
+    ∷ asked (askRouteWith (fileOf ring4prefix) (ring4table 0 1 0) 7 [] 0 0 0 []) (refused 11 8)
+    ∷ asked (askLinkWith (fileOf ring4prefix) (0 ∷ 1 ∷ 2 ∷ 1 ∷ 1 ∷ 0 ∷ 1 ∷ 2 ∷ 2 ∷ 1 ∷ 0 ∷ 1 ∷ 1 ∷ 2 ∷ 1 ∷ []) ascending 0 0) (refused 10 16)
+    ∷ asked (askLinkWith (fileOf ring4prefix) [] [] 9 9) (refused 10 16)
     ∷ []
 
 -- the table by which class 7 comes first

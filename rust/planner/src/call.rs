@@ -3,8 +3,8 @@
 //! Every call takes every input and returns. What it asks of its pointers is the same each time:
 //! each has to be good for its length for the time of the call, and the buffers of one call may
 //! not overlap. A slice's pointer and length are good by the slice's type, and an exclusive slice
-//! overlaps no other; of shared ones, the file, ranks and choices, one that overlaps is copied. The
-//! pointer of an empty slice points nowhere, but its length is 0, so that nothing is read or
+//! overlaps no other; of shared ones, the file, table, ranks and choices, one that overlaps is copied.
+//! The pointer of an empty slice points nowhere, but its length is 0, so that nothing is read or
 //! written there.
 
 use crate::answer::{self, Pair, Played, Repair, Set};
@@ -14,6 +14,7 @@ use crate::network::{Network, MOST_ROUTERS};
 use crate::raw;
 use crate::refusal::Refusal;
 use std::borrow::Cow;
+use std::ops::Range;
 
 /// Cells of a work area that is enough for every network.
 pub const WORK_CELLS: usize = MOST_ROUTERS * MOST_ROUTERS;
@@ -125,7 +126,7 @@ pub fn link_repair(
     link: usize,
     end: usize,
 ) -> Result<Pair, Refusal> {
-    let ranks = apart(ranks, &[file]);
+    let ranks = apart(ranks, &[range(file)]);
     // SAFETY: pointers and lengths are those of three slices that do not overlap.
     let answer = unsafe {
         raw::planner_link_repair(
@@ -133,6 +134,36 @@ pub fn link_repair(
             file.len(),
             work.as_mut_ptr(),
             work.len(),
+            ranks.as_ptr(),
+            ranks.len(),
+            link,
+            end,
+        )
+    };
+    answer::pair(answer)
+}
+
+/// The same as [`link_repair`], with a table of the file's distances in place of the work area. The
+/// table is only read: [`distances`] fills one, and so does [`Table::of`](crate::Table::of).
+///
+/// Refuses by the rows 1 to 10, 18, 15, 12 and 14: by row 10 where the table has fewer than N * N
+/// cells, and by row 18 where the first N * N are not the distances of the file.
+pub fn link_repair_with(
+    file: &[u8],
+    table: &[u32],
+    ranks: &[u8],
+    link: usize,
+    end: usize,
+) -> Result<Pair, Refusal> {
+    let table = apart(table, &[range(file)]);
+    let ranks = apart(ranks, &[range(file), range(&table)]);
+    // SAFETY: pointers and lengths are those of three slices that do not overlap.
+    let answer = unsafe {
+        raw::planner_link_repair_with(
+            file.as_ptr(),
+            file.len(),
+            table.as_ptr(),
+            table.len(),
             ranks.as_ptr(),
             ranks.len(),
             link,
@@ -154,7 +185,7 @@ pub fn prefix_repair(
     end: usize,
     prefix: usize,
 ) -> Result<Repair, Refusal> {
-    let ranks = apart(ranks, &[file]);
+    let ranks = apart(ranks, &[range(file)]);
     // SAFETY: pointers and lengths are those of three slices that do not overlap.
     let answer = unsafe {
         raw::planner_prefix_repair(
@@ -172,13 +203,43 @@ pub fn prefix_repair(
     answer::repair(answer)
 }
 
+/// The same as [`prefix_repair`], with a table as [`link_repair_with`] takes it.
+///
+/// Refuses by the rows 1 to 10, 18, 15, 12, 13 and 14.
+pub fn prefix_repair_with(
+    file: &[u8],
+    table: &[u32],
+    ranks: &[u8],
+    link: usize,
+    end: usize,
+    prefix: usize,
+) -> Result<Repair, Refusal> {
+    let table = apart(table, &[range(file)]);
+    let ranks = apart(ranks, &[range(file), range(&table)]);
+    // SAFETY: pointers and lengths are those of three slices that do not overlap.
+    let answer = unsafe {
+        raw::planner_prefix_repair_with(
+            file.as_ptr(),
+            file.len(),
+            table.as_ptr(),
+            table.len(),
+            ranks.as_ptr(),
+            ranks.len(),
+            link,
+            end,
+            prefix,
+        )
+    };
+    answer::repair(answer)
+}
+
 /// Plays the route of a packet from S to a prefix by the pair that repairs it, and writes the
 /// routers that it visits into `route`, S first. The bytes after them stay as they were. The ranks
 /// are as [`link_repair`] takes them.
 ///
 /// The choice bytes decide between equal hops, each modulo the number of options; after the last
-/// they count as 0. Refuses by any row. Leaves the distances in the work area, also where row 14
-/// refuses.
+/// they count as 0. Refuses by any row but 18. Leaves the distances in the work area, also where
+/// row 14 refuses.
 #[allow(clippy::too_many_arguments)]
 pub fn route(
     file: &[u8],
@@ -190,8 +251,8 @@ pub fn route(
     choices: &[u8],
     route: &mut [u8],
 ) -> Result<Played, Refusal> {
-    let choices = apart(choices, &[file]);
-    let ranks = apart(ranks, &[file, &choices]);
+    let choices = apart(choices, &[range(file)]);
+    let ranks = apart(ranks, &[range(file), range(&choices)]);
     // SAFETY: pointers and lengths are those of five slices that do not overlap.
     let answer = unsafe {
         raw::planner_route(
@@ -199,6 +260,45 @@ pub fn route(
             file.len(),
             work.as_mut_ptr(),
             work.len(),
+            ranks.as_ptr(),
+            ranks.len(),
+            link,
+            end,
+            prefix,
+            choices.as_ptr(),
+            choices.len(),
+            route.as_mut_ptr(),
+            route.len(),
+        )
+    };
+    answer::played(answer)
+}
+
+/// The same as [`route`], with a table as [`link_repair_with`] takes it. Only a route that is played
+/// is written.
+///
+/// Refuses by any row; row 18 is tried after row 10 and before row 11.
+#[allow(clippy::too_many_arguments)]
+pub fn route_with(
+    file: &[u8],
+    table: &[u32],
+    ranks: &[u8],
+    link: usize,
+    end: usize,
+    prefix: usize,
+    choices: &[u8],
+    route: &mut [u8],
+) -> Result<Played, Refusal> {
+    let table = apart(table, &[range(file)]);
+    let choices = apart(choices, &[range(file), range(&table)]);
+    let ranks = apart(ranks, &[range(file), range(&table), range(&choices)]);
+    // SAFETY: pointers and lengths are those of five slices that do not overlap.
+    let answer = unsafe {
+        raw::planner_route_with(
+            file.as_ptr(),
+            file.len(),
+            table.as_ptr(),
+            table.len(),
             ranks.as_ptr(),
             ranks.len(),
             link,
@@ -238,8 +338,9 @@ pub fn drill(seed: u32, routers: usize, buffer: &mut [u8]) -> usize {
 
 /// A shared slice, or a copy of it where it overlaps another one: shared slices may overlap in
 /// Rust, but the buffers of one call may not.
-fn apart<'a>(slice: &'a [u8], others: &[&[u8]]) -> Cow<'a, [u8]> {
-    let overlapping = others.iter().any(|other| overlap(slice, other));
+fn apart<'a, Cell: Clone>(slice: &'a [Cell], others: &[Range<*const u8>]) -> Cow<'a, [Cell]> {
+    let own = range(slice);
+    let overlapping = others.iter().any(|other| own.start < other.end && other.start < own.end);
     if overlapping {
         Cow::from(slice.to_vec())
     } else {
@@ -247,8 +348,8 @@ fn apart<'a>(slice: &'a [u8], others: &[&[u8]]) -> Cow<'a, [u8]> {
     }
 }
 
-/// Whether two slices share a byte.
-fn overlap(one: &[u8], other: &[u8]) -> bool {
-    let (one, other) = (one.as_ptr_range(), other.as_ptr_range());
-    one.start < other.end && other.start < one.end
+/// Where the bytes of a slice stand.
+fn range<Cell>(slice: &[Cell]) -> Range<*const u8> {
+    let Range { start, end } = slice.as_ptr_range();
+    start.cast()..end.cast()
 }

@@ -4,6 +4,7 @@
 //! A network file comes as bytes. Every call judges it first and answers with a [`Refusal`] where
 //! the file is not sound or the question asks for what is not there. The calls that compute are
 //! lent a work area, which receives the distances; [`WORK_CELLS`] cells are enough for every file.
+//! Where many repairs of one file are asked for, a [`Table`] has its distances worked out once.
 //!
 //! A question names a link and an end: 0 makes the link's router a the repairing router S and its
 //! router b the far router E, 1 the reverse. A question for a repair is lent the ranks of the eight
@@ -11,7 +12,8 @@
 //! says what a network file holds, and what distances, spaces, repairs and routes are.
 //!
 //! ```
-//! use planner::{Pair, Played, Repair, ASCENDING_RANKS, DRILL_BYTES, ROUTE_BYTES, WORK_CELLS};
+//! use planner::{Pair, Played, Repair, Table, ASCENDING_RANKS};
+//! use planner::{DRILL_BYTES, ROUTE_BYTES, WORK_CELLS};
 //!
 //! // Four routers in a ring, and a prefix that is attached to routers 1 and 2.
 //! let network = planner::text::parse(
@@ -46,6 +48,10 @@
 //! let repair = planner::prefix_repair(&file, &mut work, &ranks, 0, 0, 0)?;
 //! assert_eq!(repair, Repair::Pair(Pair { first: 3, endpoint: 2, class: 2, cost: 2 }));
 //!
+//! // Many questions: the distances are worked out once.
+//! let table = Table::of(&file)?;
+//! assert_eq!(table.prefix_repair(&ranks, 0, 0, 0)?, repair);
+//!
 //! // A drill, which is a network for training: five routers in a ring, with costs drawn from seed 8.
 //! let mut file = [0; DRILL_BYTES];
 //! assert_eq!(planner::drill(8, 5, &mut file), DRILL_BYTES);
@@ -65,13 +71,14 @@ mod network;
 #[allow(unsafe_code)]
 pub mod raw;
 mod refusal;
+mod table;
 pub mod text;
 
 pub use answer::{Pair, Played, Repair, Set};
 pub use call::{
-    distances, drill, extended_p_space, link_entry, link_repair, load, p_space, prefix_entry,
-    prefix_repair, q_space, route, write, ASCENDING_RANKS, LEAST_DRILL_ROUTERS, MOST_DRILL_ROUTERS,
-    ROUTE_BYTES, UNREACHABLE, WORK_CELLS,
+    distances, drill, extended_p_space, link_entry, link_repair, link_repair_with, load, p_space,
+    prefix_entry, prefix_repair, prefix_repair_with, q_space, route, route_with, write,
+    ASCENDING_RANKS, LEAST_DRILL_ROUTERS, MOST_DRILL_ROUTERS, ROUTE_BYTES, UNREACHABLE, WORK_CELLS,
 };
 pub use file::{DRILL_BYTES, LARGEST_FILE};
 pub use network::{
@@ -79,3 +86,4 @@ pub use network::{
     MOST_PREFIXES, MOST_ROUTERS,
 };
 pub use refusal::Refusal;
+pub use table::Table;

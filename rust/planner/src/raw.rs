@@ -4,7 +4,7 @@
 #![allow(missing_docs)]
 
 /// `PLANNER_VERSION`: the version of the interface.
-pub const VERSION: u32 = 4;
+pub const VERSION: u32 = 5;
 
 /// The kinds of an answer.
 pub mod kind {
@@ -144,6 +144,42 @@ unsafe extern "C" {
         file_len: usize,
         work: *mut u32,
         work_len: usize,
+        ranks: *const u8,
+        ranks_len: usize,
+        link: usize,
+        end: usize,
+        prefix: usize,
+        choices: *const u8,
+        choices_len: usize,
+        route: *mut u8,
+        route_len: usize,
+    ) -> Answer;
+    pub fn planner_link_repair_with(
+        file: *const u8,
+        file_len: usize,
+        table: *const u32,
+        table_len: usize,
+        ranks: *const u8,
+        ranks_len: usize,
+        link: usize,
+        end: usize,
+    ) -> Answer;
+    pub fn planner_prefix_repair_with(
+        file: *const u8,
+        file_len: usize,
+        table: *const u32,
+        table_len: usize,
+        ranks: *const u8,
+        ranks_len: usize,
+        link: usize,
+        end: usize,
+        prefix: usize,
+    ) -> Answer;
+    pub fn planner_route_with(
+        file: *const u8,
+        file_len: usize,
+        table: *const u32,
+        table_len: usize,
         ranks: *const u8,
         ranks_len: usize,
         link: usize,

@@ -8,10 +8,10 @@ use std::fmt::{self, Display, Formatter};
 /// Its `Display` says the number, the value, and what they mean.
 #[derive(Clone, Copy, Debug, PartialEq, Eq, Hash)]
 pub struct Refusal {
-    /// The number of the row, 1 to 15.
+    /// The number of the row, 1 to 15 or 18.
     pub number: u32,
     /// The value that the row returns: a block, link or prefix, or a number that is needed. It
-    /// is 0 for the rows 1, 3, 14 and 15.
+    /// is 0 for the rows 1, 3, 14, 15 and 18.
     pub value: u64,
 }
 
@@ -74,10 +74,10 @@ fn entry_words(out: &mut Formatter, number: u32, value: u64) -> fmt::Result {
     }
 }
 
-/// The rows 10 to 15, about the question and the lent buffers.
+/// The rows 10 to 15 and 18, about the question and what is lent with it.
 fn question_words(out: &mut Formatter, number: u32, value: u64) -> fmt::Result {
     match number {
-        10 => write!(out, "the work area is too short: it needs {value} cells"),
+        10 => write!(out, "the work area or the table is too short: it needs {value} cells"),
         11 => write!(out, "the route buffer is too short: it needs {value} bytes"),
         12 => write!(
             out,
@@ -93,6 +93,11 @@ fn question_words(out: &mut Formatter, number: u32, value: u64) -> fmt::Result {
             out,
             "the ranks are no arrangement: the eight classes have the ranks 0 to 7, each once, in \
              any order"
+        ),
+        18 => write!(
+            out,
+            "the table is not the file's: its cells are not the distances between the routers of \
+             the file"
         ),
         _ => write!(out, "the table of refusals has no such row"),
     }

@@ -3,7 +3,7 @@
 //! It shows what the safe crate keeps to itself: the 34 bytes that an entry is
 //! copied into, the numbers of the kinds, the fields of which a kind does not
 //! speak, the cells of a network after the last entry, networks outside the
-//! limits, and null pointers for buffers of no cells.
+//! limits, and null pointers for buffers of no cells, a table of none among them.
 
 use crate::call::{Call, ENTRY, Planner, Told};
 use crate::plan;
@@ -23,7 +23,10 @@ pub struct CInterface;
 
 impl Planner for CInterface {
     fn ask(&self, call: Call) -> Told {
-        let Call { file, question, choices, ranks, work, route, entry, made } = call;
+        if let Some(table) = call.table {
+            return second(call, table);
+        }
+        let Call { file, question, choices, ranks, work, route, entry, made, .. } = call;
         match *question {
             Question::Load => load(file),
             Question::LinkEntry { link } => copied(raw::planner_link_entry, file, link, entry),
@@ -56,6 +59,21 @@ impl Planner for CInterface {
             Question::Write { ref network } => write(&by_value(network, UNSPOKEN), made),
         }
     }
+}
+
+/// A second call, which takes a table in the place of the work area.
+fn second(call: Call, table: &[u32]) -> Told {
+    let Call { file, question, choices, ranks, route, .. } = call;
+    told(match *question {
+        Question::LinkRepair { link, end, .. } => link_repair_with(file, table, ranks, link, end),
+        Question::PrefixRepair { link, end, prefix, .. } => {
+            prefix_repair_with(file, table, ranks, (link, end, prefix))
+        }
+        Question::Route { link, end, prefix, .. } => {
+            route_with(file, table, ranks, (link, end, prefix), choices, route)
+        }
+        _ => unreachable!("repairs and routes alone have a table"),
+    })
 }
 
 /// The pointer of a buffer: null for one of no cells.
@@ -154,6 +172,72 @@ fn route_of(
             file.len(),
             to(work),
             work.len(),
+            of(ranks),
+            ranks.len(),
+            place(link),
+            place(end),
+            place(prefix),
+            of(choices),
+            choices.len(),
+            to(route),
+            route.len(),
+        )
+    }
+}
+
+fn link_repair_with(file: &[u8], table: &[u32], ranks: &[u8], link: u64, end: u64) -> Answer {
+    // SAFETY: pointers and lengths are those of three slices apart.
+    unsafe {
+        raw::planner_link_repair_with(
+            of(file),
+            file.len(),
+            of(table),
+            table.len(),
+            of(ranks),
+            ranks.len(),
+            place(link),
+            place(end),
+        )
+    }
+}
+
+fn prefix_repair_with(
+    file: &[u8],
+    table: &[u32],
+    ranks: &[u8],
+    (link, end, prefix): Named,
+) -> Answer {
+    // SAFETY: pointers and lengths are those of three slices apart.
+    unsafe {
+        raw::planner_prefix_repair_with(
+            of(file),
+            file.len(),
+            of(table),
+            table.len(),
+            of(ranks),
+            ranks.len(),
+            place(link),
+            place(end),
+            place(prefix),
+        )
+    }
+}
+
+fn route_with(
+    file: &[u8],
+    table: &[u32],
+    ranks: &[u8],
+    (link, end, prefix): Named,
+    choices: &[u8],
+    route: &mut [u8],
+) -> Answer {
+    // SAFETY: pointers and lengths are those of five slices apart.
+    unsafe {
+        raw::planner_route_with(
+            of(file),
+            file.len(),
+            of(table),
+            table.len(),
             of(ranks),
             ranks.len(),
             place(link),

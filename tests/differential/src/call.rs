@@ -17,6 +17,8 @@ pub struct Call<'a> {
     pub choices: &'a [u8],
     /// The ranks of a repair question, lent in the same way.
     pub ranks: &'a [u8],
+    /// The table of a second call, lent in the same way; a single call has none.
+    pub table: Option<&'a [u32]>,
     pub work: &'a mut [u32],
     pub route: &'a mut [u8],
     pub entry: &'a mut [u8],

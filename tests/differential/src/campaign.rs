@@ -9,6 +9,7 @@ use crate::networks::Named;
 use crate::questions;
 use crate::ranked;
 use crate::routes::{Asking, Rules, follow_heard};
+use crate::tabled;
 use crate::threads::each;
 use oracle::answer::{Opened, Question, load};
 use oracle::fault::{Context, Fault};
@@ -34,6 +35,8 @@ pub enum Breadth {
     AllRanks,
     /// Every wrong table of ranks.
     WrongRanks,
+    /// Second calls by tables of every kind.
+    Tables,
     /// Questions that write a file; the one of the case gives their seed alone.
     Writing,
 }
@@ -83,8 +86,11 @@ impl Case {
             (Some(network), Breadth::Limits) => {
                 let mut asked = questions::numbers_at_limits(&network, random);
                 asked.extend(questions::lengths_at_limits(&network, random));
+                asked.extend(tabled::numbers_at_limits(&network, random));
+                asked.extend(tabled::lengths_at_limits(&network, random));
                 asked
             }
+            (Some(network), Breadth::Tables) => tabled::by_tables(&network, random),
             (Some(network), Breadth::DecidingRanks) => ranked::by_deciding_ranks(&network, random),
             (Some(network), Breadth::RandomRanks(count)) => {
                 ranked::by_random_ranks(&network, count, random)
@@ -183,6 +189,7 @@ fn run_case(planner: &dyn Planner, case: &Case) -> Report {
         report.coverage.attached(&opened, &before_attached, &asked, &compared.expected);
         report.coverage.ranks(&opened, &asked, &compared.expected);
         report.coverage.node(&opened, &before_node, &asked, &compared.expected);
+        report.coverage.tables(&opened, &asked, &compared.expected);
         pairs.remember(&asked.question, &compared.heard.told);
         let wrong = match &compared.difference {
             Some(difference) => Some(difference.clone()),
@@ -201,7 +208,8 @@ fn run_case(planner: &dyn Planner, case: &Case) -> Report {
 }
 
 /// The pair that the planner told last. A route follows the prefix repair of
-/// the same question, so that its pair is known.
+/// the same question, so that its pair is known. A second call has the pair of the
+/// single call.
 #[derive(Default)]
 struct LastPair {
     question: Option<Question>,
@@ -213,7 +221,7 @@ impl LastPair {
         if let (Question::PrefixRepair { .. }, Told::Pair { first, endpoint, .. }) =
             (question, told)
         {
-            self.question = Some(question.clone());
+            self.question = Some(question.clone().single());
             self.pair = (*first as usize, *endpoint as usize);
         }
     }
@@ -230,7 +238,7 @@ fn wrong_route(
     let Heard { told: Told::Played(count), .. } = compared.heard else {
         return None;
     };
-    let Question::Route { ranks, link, end, prefix, choices } = &asked.question else {
+    let Question::Route { ranks, link, end, prefix, choices, .. } = &asked.question else {
         return Some("a question that is no route was played".to_string());
     };
     let repair = Question::prefix_repair(*link, *end, *prefix).with_ranks(ranks);

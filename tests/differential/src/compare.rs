@@ -1,6 +1,7 @@
 //! The comparison: one question, asked of both sides.
 
 use crate::call::{Call, ENTRY, Planner, Told};
+use crate::kinds::Kind;
 use crate::lent::{Lent, filled};
 use oracle::answer::{Answer, Buffers, Opened, Outcome, Question};
 
@@ -14,17 +15,26 @@ pub struct Asked {
     pub bytes: usize,
     /// Bytes of the buffer that a file is written into.
     pub made: usize,
+    /// What the table of a second call is made as, if it has a name.
+    pub kind: Option<Kind>,
 }
 
 impl Asked {
     /// A question about a file, with a work area and a route buffer.
     pub fn of_file(question: Question, cells: usize, bytes: usize) -> Asked {
-        Asked { question, cells, bytes, made: 0 }
+        Asked { question, cells, bytes, made: 0, kind: None }
+    }
+
+    /// A second call by a table of a kind. It takes no work area; some cells are lent all
+    /// the same, so that one that is written is noticed.
+    pub fn by_table(question: Question, kind: Kind, cells: &[u32], bytes: usize) -> Asked {
+        let question = question.with_table(cells);
+        Asked { question, cells: 3, bytes, made: 0, kind: Some(kind) }
     }
 
     /// A question that writes a file, with a buffer for it.
     pub fn of_buffer(question: Question, made: usize) -> Asked {
-        Asked { question, cells: 0, bytes: 0, made }
+        Asked { question, cells: 0, bytes: 0, made, kind: None }
     }
 
     /// What the oracle is lent: the same pattern without guards.
@@ -40,6 +50,7 @@ pub struct Heard {
     pub file: Lent<u8>,
     pub choices: Lent<u8>,
     pub ranks: Lent<u8>,
+    pub table: Lent<u32>,
     pub work: Lent<u32>,
     pub route: Lent<u8>,
     pub entry: Lent<u8>,
@@ -51,6 +62,7 @@ pub fn ask(planner: &dyn Planner, file: &[u8], asked: &Asked) -> Heard {
     let file = Lent::holding(file);
     let choices = Lent::holding(choices_of(&asked.question));
     let ranks = Lent::holding(ranks_of(&asked.question));
+    let table = Lent::holding(table_of(&asked.question));
     let mut work = Lent::of_length(asked.cells);
     let mut route = Lent::of_length(asked.bytes);
     let mut entry = Lent::of_length(ENTRY);
@@ -60,12 +72,13 @@ pub fn ask(planner: &dyn Planner, file: &[u8], asked: &Asked) -> Heard {
         question: &asked.question,
         choices: choices.contents(),
         ranks: ranks.contents(),
+        table: asked.question.table().map(|_| table.contents()),
         work: work.lend(),
         route: route.lend(),
         entry: entry.lend(),
         made: made.lend(),
     });
-    Heard { told, file, choices, ranks, work, route, entry, made }
+    Heard { told, file, choices, ranks, table, work, route, entry, made }
 }
 
 /// The first thing in which a planner differs from what is expected.
@@ -87,6 +100,7 @@ pub fn difference(file: &[u8], asked: &Asked, expected: &Outcome, heard: &Heard)
         ("the file", heard.file.difference(file)),
         ("the choices", heard.choices.difference(choices_of(&asked.question))),
         ("the ranks", heard.ranks.difference(ranks_of(&asked.question))),
+        ("the table", heard.table.difference(table_of(&asked.question))),
     ];
     let found = buffers.into_iter().find_map(|(name, found)| Some((name, found?)));
     found.map(|(name, found)| format!("in {name}, {found}"))
@@ -112,6 +126,11 @@ pub fn compare(planner: &dyn Planner, opened: &Opened, file: &[u8], asked: &Aske
 /// The ranks of a question; those that take none have none.
 fn ranks_of(question: &Question) -> &[u8] {
     question.ranks().unwrap_or_default()
+}
+
+/// The cells of a second call's table; single calls and other questions have none.
+fn table_of(question: &Question) -> &[u32] {
+    question.table().unwrap_or_default()
 }
 
 /// The choice bytes of a question; other questions than routes have none.

@@ -7,6 +7,7 @@ use crate::maintenance;
 use crate::node;
 use crate::ranks;
 use crate::routes::Met;
+use crate::tables;
 use crate::writing;
 use oracle::answer::{Answer, Opened, Outcome, Question, inputs};
 use oracle::network::{LinkEnd, Network};
@@ -198,6 +199,7 @@ pub fn everything() -> Vec<String> {
     things.extend(maintenance::thing::ALL.map(str::to_string));
     things.extend(node::thing::ALL.map(str::to_string));
     things.extend(ranks::things());
+    things.extend(tables::things());
     things.extend(writing::things());
     things.extend(Cause::ALL.iter().map(|cause| of_cause(*cause)));
     things

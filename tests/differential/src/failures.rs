@@ -394,7 +394,7 @@ impl Answers<'_> {
 
     /// The route that the planner plays for the question of a prefix repair.
     fn route(&self, question: &Question, random: &mut Random, report: &mut Report) -> Vec<usize> {
-        let (Question::PrefixRepair { ranks, link, end, prefix }, choices) =
+        let (Question::PrefixRepair { ranks, link, end, prefix, .. }, choices) =
             (question, choices(&self.named.network, random))
         else {
             return Vec::new();

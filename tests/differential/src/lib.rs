@@ -14,6 +14,7 @@ pub mod compare;
 pub mod coverage;
 pub mod failures;
 pub mod files;
+pub mod kinds;
 pub mod legs;
 pub mod lent;
 pub mod library;
@@ -26,6 +27,8 @@ pub mod ranked;
 pub mod ranks;
 pub mod routes;
 pub mod stand_in;
+pub mod tabled;
+pub mod tables;
 mod threads;
 pub mod writing;
 

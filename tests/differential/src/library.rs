@@ -7,14 +7,17 @@ use oracle::answer::Question;
 use oracle::columns::Columns;
 use oracle::network as theirs;
 use oracle::space::Space;
-use planner::{Attachment, Link, Network, Pair, Played, Refusal, Repair, Set};
+use planner::{Attachment, Link, Network, Pair, Played, Refusal, Repair, Set, Table};
 
 /// The planner's library.
 pub struct Library;
 
 impl Planner for Library {
     fn ask(&self, call: Call) -> Told {
-        let Call { file, question, choices, ranks, work, route, entry, made } = call;
+        if let Some(table) = call.table {
+            return second(call, table);
+        }
+        let Call { file, question, choices, ranks, work, route, entry, made, .. } = call;
         match *question {
             Question::Load => load(file),
             Question::LinkEntry { link } => copied(planner::link_entry(file, place(link)), entry),
@@ -50,6 +53,75 @@ impl Planner for Library {
                 None => written(0),
             },
         }
+    }
+}
+
+/// A second call. Where its table is the file's, the same is asked of a [`Table`] of the
+/// file, which has to tell and to write the same.
+fn second(call: Call, table: &[u32]) -> Told {
+    let Call { file, question, choices, ranks, route, .. } = call;
+    let mut same_route = route.to_vec();
+    let told = with_table(file, table, question, ranks, choices, route);
+    if matches!(told, Told::Refused { number: 1..=10 | 18, .. }) {
+        return told;
+    }
+    let by_method = by_table_of_file(file, question, ranks, choices, &mut same_route);
+    if (&told, &*route) == (&by_method, &same_route) {
+        return told;
+    }
+    Told::Other(format!("{told:?} and {route:?}, but of a Table {by_method:?} and {same_route:?}"))
+}
+
+/// The calls that are lent a table.
+fn with_table(
+    file: &[u8],
+    table: &[u32],
+    question: &Question,
+    ranks: &[u8],
+    choices: &[u8],
+    route: &mut [u8],
+) -> Told {
+    match *question {
+        Question::LinkRepair { link, end, .. } => {
+            told(planner::link_repair_with(file, table, ranks, place(link), place(end)), pair)
+        }
+        Question::PrefixRepair { link, end, prefix, .. } => {
+            let (link, end, prefix) = (place(link), place(end), place(prefix));
+            told(planner::prefix_repair_with(file, table, ranks, link, end, prefix), repaired)
+        }
+        Question::Route { link, end, prefix, .. } => {
+            let (link, end, prefix) = (place(link), place(end), place(prefix));
+            let call = planner::route_with;
+            told(call(file, table, ranks, link, end, prefix, choices, route), played)
+        }
+        _ => unreachable!("repairs and routes alone have a table"),
+    }
+}
+
+/// The same of a table that the crate fills itself.
+fn by_table_of_file(
+    file: &[u8],
+    question: &Question,
+    ranks: &[u8],
+    choices: &[u8],
+    route: &mut [u8],
+) -> Told {
+    let table = match Table::of(file) {
+        Ok(table) => table,
+        Err(refusal) => return told(Err::<(), Refusal>(refusal), |()| Told::Done),
+    };
+    match *question {
+        Question::LinkRepair { link, end, .. } => {
+            told(table.link_repair(ranks, place(link), place(end)), pair)
+        }
+        Question::PrefixRepair { link, end, prefix, .. } => {
+            told(table.prefix_repair(ranks, place(link), place(end), place(prefix)), repaired)
+        }
+        Question::Route { link, end, prefix, .. } => {
+            let (link, end, prefix) = (place(link), place(end), place(prefix));
+            told(table.route(ranks, link, end, prefix, choices, route), played)
+        }
+        _ => unreachable!("repairs and routes alone have a table"),
     }
 }
 

@@ -87,7 +87,7 @@ pub(crate) fn choices(network: &Network, random: &mut Random) -> Vec<u8> {
 
 /// Numbers about a count: in range, just out of it, at the largest value, and
 /// such that their lower 8, 16 or 32 bits are in range.
-fn numbers_about(count: usize) -> Vec<u64> {
+pub(crate) fn numbers_about(count: usize) -> Vec<u64> {
     let count = count as u64;
     let mut numbers = vec![0, count.saturating_sub(1), count, count + 1, 256, 1 << 16, 1 << 32];
     numbers.extend([u64::from(u32::MAX), 1 << 63, u64::MAX - 1, u64::MAX]);
@@ -149,8 +149,8 @@ fn mixed(link: u64, links: u64, end: u64, prefix: u64, prefixes: u64) -> Vec<Que
     questions
 }
 
-/// Each call about a refused file, with buffers that are enough for any file,
-/// with short ones, and with none.
+/// Each call about a refused file, single and second, with buffers that are enough for
+/// any file, with short ones, and with none.
 pub fn of_refused(random: &mut Random) -> Vec<Asked> {
     let mut asked = Vec::new();
     for (cells, bytes) in [(4096, 128), (5, 5), (0, 0)] {
@@ -163,8 +163,13 @@ pub fn of_refused(random: &mut Random) -> Vec<Asked> {
         ];
         questions.extend(link_questions(number, random.below(3) as u64));
         questions.extend(prefix_questions(number, random.below(3) as u64, number));
-        let questions = wrongly_ranked_too(questions, random).into_iter();
-        asked.extend(questions.map(|question| Asked::of_file(question, cells, bytes)));
+        let mut questions = wrongly_ranked_too(questions, random);
+        // The same put as second calls. Of no file is a distance from a router to itself 7.
+        let split = questions.iter().filter(|question| question.ranks().is_some());
+        let second = split.map(|question| question.clone().with_table(&vec![7; cells]));
+        let second: Vec<Question> = second.collect();
+        questions.extend(second);
+        asked.extend(questions.into_iter().map(|question| Asked::of_file(question, cells, bytes)));
     }
     asked.push(Asked::of_file(Question::Plan, 0, 0));
     asked
@@ -185,7 +190,7 @@ pub(crate) fn prefix_questions(link: u64, end: u64, prefix: u64) -> [Question; 2
 }
 
 /// Cells and bytes that are just enough.
-fn enough(network: &Network) -> (usize, usize) {
+pub(crate) fn enough(network: &Network) -> (usize, usize) {
     let routers = usize::from(network.routers);
     (routers * routers, 2 * routers)
 }

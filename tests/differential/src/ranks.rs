@@ -24,8 +24,9 @@ pub mod thing {
     pub const PREFIX_15: &str = "ranks: prefix repair: 15";
     pub const ROUTE_15: &str = "ranks: route: 15";
     pub const FILE_FIRST: &str = "ranks: wrong ones, and the file is refused";
-    pub const BEFORE_15: [&str; 2] = [
-        "ranks: wrong ones, and the work area is too short: 10",
+    pub const BEFORE_15: [&str; 3] = [
+        "ranks: wrong ones, and the work area or the table is too short: 10",
+        "ranks: wrong ones, and the table is not the file's: 18",
         "ranks: wrong ones, and the route buffer is too short: 11",
     ];
     pub const AFTER_15: [&str; 4] = [
@@ -121,7 +122,10 @@ impl Coverage {
 }
 
 /// The one of three things that belongs to a question's call.
-fn by_call(question: &Question, [link, prefix, route]: [&'static str; 3]) -> &'static str {
+pub(crate) fn by_call(
+    question: &Question,
+    [link, prefix, route]: [&'static str; 3],
+) -> &'static str {
     match question {
         Question::LinkRepair { .. } => link,
         Question::PrefixRepair { .. } => prefix,
@@ -136,11 +140,12 @@ fn wrong(answer: &Answer, with_sound_ranks: impl Fn() -> Answer) -> &'static str
         Answer::Refused { number, .. } => *number,
         _ => 0,
     };
-    let [work_area, route_buffer] = thing::BEFORE_15;
+    let [work_area, table, route_buffer] = thing::BEFORE_15;
     let [link, prefix, no_pair, answered] = thing::AFTER_15;
     match (number(answer), number(&with_sound_ranks())) {
         (1..=9, _) => thing::FILE_FIRST,
         (10, _) => work_area,
+        (18, _) => table,
         (11, _) => route_buffer,
         (_, 12) => link,
         (_, 13) => prefix,

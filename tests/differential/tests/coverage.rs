@@ -7,7 +7,8 @@ use differential::campaign::{Breadth, Case, run};
 use differential::coverage::everything;
 use differential::files;
 use differential::library::Library;
-use differential::networks::{self, MIDDLE, SMALL, WIDE};
+use differential::networks::{self, MIDDLE, SMALL, WIDE, of_family};
+use oracle::generate::Family;
 use std::time::Instant;
 
 /// Everything with other seeds than in the tests of the single parts. What
@@ -17,13 +18,19 @@ fn cases() -> Vec<Case> {
     let limits = |named| Case::of_network(named, Breadth::Limits);
     let file = |file| Case::of_file(file, Breadth::Limits);
     let ranked = |file| Case::of_file(file, Breadth::DecidingRanks);
+    let tables = |named| Case::of_network(named, Breadth::Tables);
+    let tables_of_file = |file| Case::of_file(file, Breadth::Tables);
     let mut cases = vec![whole(1)(networks::largest(1001))];
     cases.extend(networks::of_extremes(1002).into_iter().map(whole(1)));
     cases.extend(networks::of_families(WIDE, 1003..1005).into_iter().map(whole(1)));
     cases.extend(networks::of_families(MIDDLE, 1005..1009).into_iter().map(whole(1)));
     cases.extend(networks::of_families(SMALL, 1010..1050).into_iter().map(whole(3)));
     cases.extend(networks::of_families(SMALL, 1050..1053).into_iter().map(limits));
+    let in_parts = (1055..1058).map(|seed| of_family(Family::Disconnected, MIDDLE, seed));
+    cases.extend(in_parts.map(tables));
+    cases.extend(networks::of_families(SMALL, 1055..1057).into_iter().map(tables));
     cases.extend(files::worked().into_iter().map(ranked));
+    cases.extend(files::worked().into_iter().map(tables_of_file));
     cases.extend(files::single_causes(8, 1060).into_iter().map(file));
     cases.extend(files::pairs_of_causes(1061).into_iter().map(file));
     cases.extend(files::several_causes(100, 1062).into_iter().map(file));

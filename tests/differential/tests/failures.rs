@@ -1,7 +1,8 @@
 //! Several failures together: 100,000 packets over links of which any set has failed, sent
 //! on in any mixture of usual steps and neighbour repairs that are downstream, visit no
 //! router twice and have fewer than N hops. Once by every pair that serves, once by what the
-//! library answers, and once by what the C interface answers. With the classes 1 and 5 allowed some packet does visit a router twice.
+//! library answers, and once by what the C interface answers. With the classes 1 and 5
+//! allowed some packet does visit a router twice.
 
 use differential::c_interface::CInterface;
 use differential::call::Planner;

@@ -1,5 +1,5 @@
-//! Lengths and numbers at their limits: work area and route buffer of none, one
-//! short, exact and longer; link, end and prefix just out of range and at the
+//! Lengths and numbers at their limits: work area, table and route buffer of none, one
+//! short, exact and longer, tables of 4,096 and 4,097 cells too; link, end and prefix just out of range and at the
 //! largest value; networks on both sides of every limit of the file.
 
 use differential::campaign::{Breadth, Case, Report, run};
@@ -22,7 +22,7 @@ fn random_networks() {
     networks.extend(networks::of_extremes(6));
     let cases = networks.into_iter().map(|named| Case::of_network(named, Breadth::Limits));
     let report = compared(&cases.collect::<Vec<Case>>());
-    report.assert_met(&of_rows(&[10, 11, 12, 13, 15]));
+    report.assert_met(&of_rows(&[10, 18, 11, 12, 13, 15]));
 }
 
 #[test]

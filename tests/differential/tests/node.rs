@@ -91,7 +91,7 @@ fn the_oracle_keeps_the_rules_too() {
 fn wrong_planners_are_noticed() {
     let small = networks::of_families(SMALL, 7601..7606).into_iter();
     let cases: Vec<Case> = small.map(|named| Case::of_network(named, Breadth::Whole(1))).collect();
-    let shown = Fault::OF_NODES.into_iter().filter(|fault| !Fault::IN_NO_CALL.contains(fault));
+    let shown = Fault::OF_NODES.into_iter().filter(|fault| !fault.is_in_no_call());
     assert_noticed(&shown.collect::<Vec<Fault>>(), &cases, 3);
 }
 

@@ -11,98 +11,12 @@ use crate::repair::{self, Pair, Repair};
 use crate::route;
 use crate::row::{self, Cause, Inputs, Refusal};
 use crate::space::{self, Space};
+use crate::table;
 use crate::workings::Workings;
 use crate::writing;
 use std::cell::OnceCell;
 
-/// A call with its inputs, but for the file and the buffers lent to be written.
-#[derive(Clone, Debug, PartialEq, Eq)]
-pub enum Question {
-    Load,
-    LinkEntry {
-        link: u64,
-    },
-    PrefixEntry {
-        prefix: u64,
-    },
-    Distances,
-    Space {
-        space: Space,
-        link: u64,
-        end: u64,
-    },
-    Size {
-        set: u64,
-    },
-    LinkRepair {
-        ranks: Vec<u8>,
-        link: u64,
-        end: u64,
-    },
-    PrefixRepair {
-        ranks: Vec<u8>,
-        link: u64,
-        end: u64,
-        prefix: u64,
-    },
-    Route {
-        ranks: Vec<u8>,
-        link: u64,
-        end: u64,
-        prefix: u64,
-        choices: Vec<u8>,
-    },
-    /// What the program `plan` prints.
-    Plan,
-    /// The drill of a seed with so many routers. It looks at no file.
-    Drill {
-        seed: u32,
-        routers: u64,
-    },
-    /// The file of a network. It looks at no file either.
-    Write {
-        network: Box<Columns>,
-    },
-}
-
-impl Question {
-    /// A link repair question with the ranks ascending.
-    pub fn link_repair(link: u64, end: u64) -> Question {
-        Question::LinkRepair { ranks: ASCENDING.to_vec(), link, end }
-    }
-
-    /// A prefix repair question with the ranks ascending.
-    pub fn prefix_repair(link: u64, end: u64, prefix: u64) -> Question {
-        Question::PrefixRepair { ranks: ASCENDING.to_vec(), link, end, prefix }
-    }
-
-    /// A route question with the ranks ascending.
-    pub fn route(link: u64, end: u64, prefix: u64, choices: &[u8]) -> Question {
-        let choices = choices.to_vec();
-        Question::Route { ranks: ASCENDING.to_vec(), link, end, prefix, choices }
-    }
-
-    /// The ranks of a question that takes them.
-    pub fn ranks(&self) -> Option<&[u8]> {
-        match self {
-            Question::LinkRepair { ranks, .. }
-            | Question::PrefixRepair { ranks, .. }
-            | Question::Route { ranks, .. } => Some(ranks),
-            _ => None,
-        }
-    }
-
-    /// The same question with other ranks, if it takes them.
-    pub fn with_ranks(mut self, table: &[u8]) -> Question {
-        if let Question::LinkRepair { ranks, .. }
-        | Question::PrefixRepair { ranks, .. }
-        | Question::Route { ranks, .. } = &mut self
-        {
-            *ranks = table.to_vec();
-        }
-        self
-    }
-}
+pub use crate::question::Question;
 
 /// The answer of a call.
 #[derive(Clone, Debug, PartialEq, Eq)]
@@ -139,7 +53,8 @@ pub enum Answer {
 
 /// The buffers that a caller lends: a work area of 32-bit cells, a route buffer
 /// of bytes, and a buffer of bytes that a file is written into. A call leaves
-/// those that it does not take.
+/// those that it does not take. A second call's table is only read: it is part of
+/// the question.
 #[derive(Clone, Debug, Default, PartialEq, Eq)]
 pub struct Buffers {
     pub work: Vec<u32>,
@@ -239,6 +154,46 @@ pub fn route(
     ask(ctx, file, &question, lent)
 }
 
+/// The second call of a link repair: it reads the distances in a table.
+pub fn link_repair_by_table(
+    ctx: &Context,
+    file: &[u8],
+    table: &[u32],
+    ranks: &[u8],
+    link: u64,
+    end: u64,
+) -> Outcome {
+    let question = Question::link_repair(link, end).with_ranks(ranks).with_table(table);
+    ask(ctx, file, &question, &Buffers::default())
+}
+
+/// The second call of a prefix repair.
+pub fn prefix_repair_by_table(
+    ctx: &Context,
+    file: &[u8],
+    table: &[u32],
+    ranks: &[u8],
+    (link, end, prefix): (u64, u64, u64),
+) -> Outcome {
+    let question = Question::prefix_repair(link, end, prefix).with_ranks(ranks).with_table(table);
+    ask(ctx, file, &question, &Buffers::default())
+}
+
+/// The second call of a route. The route buffer is all that it may write.
+pub fn route_by_table(
+    ctx: &Context,
+    file: &[u8],
+    table: &[u32],
+    route_buffer: &[u8],
+    ranks: &[u8],
+    (link, end, prefix): (u64, u64, u64),
+    choices: &[u8],
+) -> Outcome {
+    let question = Question::route(link, end, prefix, choices).with_ranks(ranks).with_table(table);
+    let lent = Buffers { route: route_buffer.to_vec(), ..Buffers::default() };
+    ask(ctx, file, &question, &lent)
+}
+
 /// What the program `plan` prints.
 pub fn plan_text(ctx: &Context, file: &[u8]) -> String {
     plan::text(&Opened::new(ctx, file))
@@ -299,6 +254,10 @@ impl<'a> Opened<'a> {
         match row {
             1..=9 => *self.file_rows[usize::from(row) - 1]
                 .get_or_init(|| file::rows::row(self.ctx, row, self.file)),
+            18 => {
+                let refusal = |cells| table::row(self.workings(), cells, inputs.link_end);
+                inputs.table.and_then(refusal)
+            }
             _ => row::question_row(self.ctx, row, &Head::of(Bytes(self.file)), inputs),
         }
     }
@@ -358,24 +317,35 @@ impl<'a> Opened<'a> {
     }
 
     /// A call that computes: a row other than 14 leaves all that was lent,
-    /// otherwise the work area holds the distances.
+    /// otherwise the work area holds the distances. A second call takes no work
+    /// area, and its table is only read.
     fn compute(&self, question: &Question, lent: &Buffers) -> Outcome {
         let mut left = lent.clone();
+        let fills = question.table().is_none();
         if let Some(refusal) = self.refusal(&inputs(question, lent)) {
-            if self.filled_all_the_same(&refusal) {
+            if fills && self.filled_all_the_same(&refusal) {
                 self.fill(&mut left.work);
             }
-            if self.ctx.has(Fault::RefusalTouchesBuffers) {
-                left.work.iter_mut().take(1).for_each(|cell| *cell = 0);
-                left.route.iter_mut().take(1).for_each(|byte| *byte = 0);
-            }
+            self.touched_all_the_same(&refusal, &mut left);
             return Outcome { answer: refused(self.ctx, &refusal), left };
         }
         let answer = self.answer(question, &mut left.route);
-        if !self.work_area_forgotten(&answer) {
+        if fills && !self.work_area_forgotten(&answer) {
             self.fill(&mut left.work);
         }
         Outcome { answer, left }
+    }
+
+    /// What a fault writes though a row turns the question away.
+    fn touched_all_the_same(&self, refusal: &Refusal, left: &mut Buffers) {
+        if self.ctx.has(Fault::RefusalTouchesBuffers) {
+            left.work.iter_mut().take(1).for_each(|cell| *cell = 0);
+            left.route.iter_mut().take(1).for_each(|byte| *byte = 0);
+        }
+        if refusal.number == 18 && self.ctx.has(Fault::EighteenWritesRoute) {
+            let bytes = 2 * self.workings().hops.routers();
+            left.route.iter_mut().take(bytes).for_each(|byte| *byte = 0);
+        }
     }
 
     /// Whether the distances stand in the work area after a refusal that was
@@ -408,9 +378,11 @@ impl<'a> Opened<'a> {
         }
     }
 
-    /// The answer to a question that all rows but 14 let pass.
+    /// The answer to a question that all rows but 14 let pass. A second call goes by
+    /// the numbers of its table; after the check they are the file's distances.
     fn answer(&self, question: &Question, route_buffer: &mut [u8]) -> Answer {
-        let workings = self.workings();
+        let by_table = question.table().and_then(|cells| table::workings(self.workings(), cells));
+        let workings = by_table.as_ref().unwrap_or(self.workings());
         let link_end = |link, end| workings.network.link_end(self.ctx, link, end);
         match question {
             Question::Space { space, link, end } => match link_end(*link, *end) {
@@ -420,21 +392,24 @@ impl<'a> Opened<'a> {
                 }
                 None => Answer::Set(0),
             },
-            Question::LinkRepair { ranks, link, end } => {
+            Question::LinkRepair { ranks, link, end, .. } => {
                 let ranks = self.ranks(ranks, Fault::LinkRepairAscending);
                 let repaired = |link_end| repair::link_repair(workings, &link_end, ranks);
                 self.repair(ranks, link_end(*link, *end).map_or(Repair::None, repaired))
             }
-            Question::PrefixRepair { ranks, link, end, prefix } => {
+            Question::PrefixRepair { ranks, link, end, prefix, .. } => {
                 let ranks = self.ranks(ranks, Fault::PrefixRepairAscending);
                 let repaired =
                     |link_end| repair::prefix_repair(workings, &link_end, *prefix, ranks);
                 self.repair(ranks, link_end(*link, *end).map_or(Repair::None, repaired))
             }
-            Question::Route { ranks, link, end, prefix, choices } => {
+            Question::Route { ranks, link, end, prefix, choices, .. } => {
                 let ranks = &self.route_ranks(ranks);
                 match link_end(*link, *end) {
-                    Some(link_end) => self.played(ranks, &link_end, *prefix, choices, route_buffer),
+                    Some(link_end) => {
+                        let asked = (&link_end, *prefix, choices.as_slice());
+                        self.played(workings, ranks, asked, route_buffer)
+                    }
                     None => self.repair(ranks, Repair::None),
                 }
             }
@@ -476,13 +451,12 @@ impl<'a> Opened<'a> {
     /// pair is passed on and writes nothing.
     fn played(
         &self,
+        workings: &Workings,
         ranks: &[u8],
-        link_end: &LinkEnd,
-        prefix: u64,
-        choices: &[u8],
+        (link_end, prefix, choices): (&LinkEnd, u64, &[u8]),
         route_buffer: &mut [u8],
     ) -> Answer {
-        let repair = repair::prefix_repair(self.workings(), link_end, prefix, ranks);
+        let repair = repair::prefix_repair(workings, link_end, prefix, ranks);
         let answer = self.repair(ranks, repair);
         let (Repair::Pair(pair), Answer::Pair(_)) = (repair, &answer) else {
             if self.ctx.has(Fault::NothingPlayedWrites) {
@@ -490,7 +464,7 @@ impl<'a> Opened<'a> {
             }
             return answer;
         };
-        let routers = route::play(self.workings(), link_end, prefix, &pair, choices);
+        let routers = route::play(workings, link_end, prefix, &pair, choices);
         write_route(route_buffer, &routers);
         if self.ctx.has(Fault::LaterBytesTouched) {
             route_buffer.iter_mut().skip(routers.len()).take(1).for_each(|byte| *byte = 0);
@@ -527,8 +501,10 @@ fn refused(ctx: &Context, refusal: &Refusal) -> Answer {
 /// What a question has inputs for. With it `Opened::refusal` tells the cause of
 /// a refusal, which is no part of an answer; tests count the causes they met.
 pub fn inputs<'q>(question: &'q Question, lent: &Buffers) -> Inputs<'q> {
-    let computing = Inputs { work: Some(lent.work.len()), ..Inputs::default() };
-    let ranks = question.ranks();
+    let (ranks, table) = (question.ranks(), question.table());
+    // A second call takes a table in the place of the work area.
+    let work = if table.is_none() { Some(lent.work.len()) } else { None };
+    let computing = Inputs { work, table, ..Inputs::default() };
     match question {
         Question::Distances => computing,
         Question::Space { link, end, .. } | Question::LinkRepair { link, end, .. } => {

@@ -9,6 +9,7 @@ use crate::network::Network;
 use crate::random::Random;
 use crate::ranks::ASCENDING;
 use crate::space::Space;
+use crate::table;
 use crate::text;
 use crate::words;
 use std::io::Read;
@@ -48,6 +49,9 @@ oracle [OPTION ...] COMMAND
   --ranks RANK,RANK,...            the ranks of the classes 0 to 7 for the repairs
                                    and routes of `ask` and `batch`; 0,1,2,3,4,5,6,7
                                    if none are given
+  --table right                    the repairs and routes of `ask` are second calls, with
+                                   the file's distances as their table
+  --table CELL,CELL,...            the same with these cells
   --left                           `ask` prints the lent buffers after the call
   --fault NAME                     turns on a fault
 ";
@@ -57,7 +61,15 @@ struct Options {
     ctx: Context,
     lent: Buffers,
     ranks: Vec<u8>,
+    table: Option<Lent>,
     show_left: bool,
+}
+
+/// The table that is lent to second calls.
+enum Lent {
+    /// The distances of the file that is asked about.
+    Right,
+    Cells(Vec<u32>),
 }
 
 /// What the program prints for these words and this input, or what is wrong.
@@ -104,30 +116,21 @@ pub fn run(arguments: &[String], input: &mut dyn Read) -> Result<Vec<u8>, String
 /// Takes the options from the front of the words.
 fn options(arguments: &[String]) -> Result<(Options, &[String]), String> {
     let mut faults = Vec::new();
-    let mut lent = batch::enough();
-    let mut ranks = ASCENDING.to_vec();
-    let mut show_left = false;
+    let (lent, ranks) = (batch::enough(), ASCENDING.to_vec());
+    let mut options = Options { ctx: Context::sound(), lent, ranks, table: None, show_left: false };
     let mut words = arguments;
     while let [option, rest @ ..] = words {
         words = match (option.as_str(), rest) {
             ("--left", rest) => {
-                show_left = true;
-                rest
-            }
-            ("--work", [cells, rest @ ..]) => {
-                lent.work = vec![lent.work[0]; length(cells)?];
-                rest
-            }
-            ("--buffer", [bytes, rest @ ..]) => {
-                lent.route = vec![lent.route[0]; length(bytes)?];
-                rest
-            }
-            ("--ranks", [table, rest @ ..]) => {
-                ranks = table.split(',').map(byte).collect::<Result<Vec<u8>, String>>()?;
+                options.show_left = true;
                 rest
             }
             ("--fault", [name, rest @ ..]) => {
                 faults.push(Fault::named(name).ok_or(format!("`{name}` is no fault"))?);
+                rest
+            }
+            ("--work" | "--buffer" | "--ranks" | "--table", [value, rest @ ..]) => {
+                options.lend(option, value)?;
                 rest
             }
             (unknown, _) if unknown.starts_with("--") => {
@@ -138,7 +141,28 @@ fn options(arguments: &[String]) -> Result<(Options, &[String]), String> {
             _ => break,
         };
     }
-    Ok((Options { ctx: Context::with(&faults), lent, ranks, show_left }, words))
+    options.ctx = Context::with(&faults);
+    Ok((options, words))
+}
+
+impl Options {
+    /// Takes the value of an option that lends something to a call.
+    fn lend(&mut self, option: &str, value: &str) -> Result<(), String> {
+        match option {
+            "--work" => self.lent.work = vec![self.lent.work[0]; length(value)?],
+            "--buffer" => self.lent.route = vec![self.lent.route[0]; length(value)?],
+            "--ranks" => self.ranks = value.split(',').map(byte).collect::<Result<_, String>>()?,
+            _ => self.table = Some(lent_table(value)?),
+        }
+        Ok(())
+    }
+}
+
+fn lent_table(cells: &str) -> Result<Lent, String> {
+    if cells == "right" {
+        return Ok(Lent::Right);
+    }
+    cells.split(',').map(cell).collect::<Result<Vec<u32>, String>>().map(Lent::Cells)
 }
 
 fn make(input: &mut dyn Read) -> Result<Vec<u8>, String> {
@@ -167,8 +191,8 @@ fn sized(routers: &str, links: &str, prefixes: &str, seed: &str) -> Result<Vec<u
 }
 
 fn drill_file(ctx: &Context, seed: &str, routers: &str) -> Result<Vec<u8>, String> {
-    let seed = u32::from_str(seed).map_err(|_| format!("`{seed}` is no number of 32 bits"))?;
-    let Outcome { answer, mut left } = drill(ctx, seed, number(routers)?, &[0; file::LARGEST]);
+    let Outcome { answer, mut left } =
+        drill(ctx, cell(seed)?, number(routers)?, &[0; file::LARGEST]);
     let written = if let Answer::Written(count) = answer { count } else { 0 };
     checked(written > 0, "a drill has 3 to 64 routers")?;
     left.made.truncate(written);
@@ -180,6 +204,11 @@ fn ask_words(options: &Options, words: &[&str], input: &mut dyn Read) -> Result<
     let file = match question {
         Question::Size { .. } => Vec::new(),
         _ => bytes(input)?,
+    };
+    let question = match &options.table {
+        Some(Lent::Right) => question.with_table(&table::right_of_file(&file)),
+        Some(Lent::Cells(cells)) => question.with_table(cells),
+        None => question,
     };
     let outcome = ask(&options.ctx, &file, &question, &options.lent);
     let mut lines = vec![words::long(&outcome)];
@@ -249,6 +278,10 @@ fn length(word: &str) -> Result<usize, String> {
     let length = number(word)?;
     checked(length <= 1 << 20, &format!("{length} is over 1048576"))?;
     Ok(length as usize)
+}
+
+fn cell(word: &str) -> Result<u32, String> {
+    u32::from_str(word).map_err(|_| format!("`{word}` is no number of 32 bits"))
 }
 
 fn byte(word: &str) -> Result<u8, String> {

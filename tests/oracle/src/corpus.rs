@@ -12,6 +12,7 @@ use crate::ranks::{ASCENDING, Arrangement, DESCENDING, WRONG, deciding_tables, r
 use crate::repair::serving_classes;
 use crate::row::Cause;
 use crate::space::Space;
+use crate::table_questions;
 use crate::worked;
 use crate::workings::Workings;
 use crate::write_questions;
@@ -212,7 +213,7 @@ fn random_damage(random: &mut Random) -> Vec<(String, Vec<u8>)> {
 
 /// The questions about an accepted file: every one that can be asked, up to a
 /// number that is enough for a small network; then those about buffers and
-/// numbers at their limits.
+/// numbers at their limits; then second calls.
 pub fn questions(network: &Network, random: &mut Random) -> Vec<(Question, Buffers)> {
     const MOST: usize = 400;
     let cells = usize::from(network.routers) * usize::from(network.routers);
@@ -227,10 +228,12 @@ pub fn questions(network: &Network, random: &mut Random) -> Vec<(Question, Buffe
         .map(|question| (question, marked(cells + random.below(3), bytes + random.below(3))))
         .collect();
     asked.extend(questions_at_limits(network, random));
+    let second = table_questions::questions(network, &asked);
+    asked.extend(second);
     asked
 }
 
-/// Every question about an accepted file with numbers in range. A repair is
+/// Every single call about an accepted file with numbers in range. A repair is
 /// asked for with the ranks ascending and with two other arrangements, a route
 /// with one of these and three strings of choices.
 pub fn valid_questions(network: &Network, random: &mut Random) -> Vec<Question> {
@@ -380,6 +383,9 @@ fn questions_of_refused(random: &mut Random) -> Vec<(Question, Buffers)> {
         Question::Distances,
     ];
     questions.extend(wrongly_ranked_too(any_questions(number, 0, &[number]), random));
+    let split = questions.iter().filter(|question| question.ranks().is_some());
+    let second: Vec<Question> = split.map(|each| each.clone().with_table(&[0; 4])).collect();
+    questions.extend(second);
     let lend = |question: Question| [(question.clone(), marked(5, 5)), (question, marked(0, 0))];
     questions.into_iter().flat_map(lend).collect()
 }

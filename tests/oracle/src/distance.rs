@@ -30,6 +30,12 @@ impl Distances {
         Distances { routers, cells }
     }
 
+    /// The numbers of N x N cells as distances, whatever they are.
+    pub fn of_cells(routers: usize, cells: Vec<u32>) -> Distances {
+        assert_eq!(cells.len(), routers * routers);
+        Distances { routers, cells }
+    }
+
     /// D(x,t). It is unreachable for a router that is not there.
     pub fn between(&self, x: usize, t: usize) -> u32 {
         if x < self.routers && t < self.routers {

@@ -1,7 +1,7 @@
 //! The table "What turns a question away": its rows, their causes, their
 //! order, and the rows 10 to 13, which look at a question's other inputs.
-//! The rows 1 to 9, which look at the file, are in `file::rows`, and row 15 is
-//! in `ranks`.
+//! The rows 1 to 9, which look at the file, are in `file::rows`, row 15 is in
+//! `ranks`, and row 18 is in `table`.
 
 use crate::fault::{Context, Fault, Limit};
 use crate::file::Head;
@@ -44,6 +44,8 @@ listed! {
         UnusedSlot: "an unused slot is not zero",
         RouterTwice: "a prefix names a router twice",
         WorkAreaShort: "the work area is shorter than N x N",
+        TableShort: "the table is shorter than N x N",
+        TableOther: "the table's first N x N cells are not the file's distances",
         RouteBufferShort: "the route buffer is shorter than 2 x N",
         RanksShort: "there are fewer than eight ranks",
         RanksLong: "there are more than eight ranks",
@@ -106,7 +108,8 @@ impl Cause {
             | Cause::SlotZeroByte
             | Cause::UnusedSlot => 8,
             Cause::RouterTwice => 9,
-            Cause::WorkAreaShort => 10,
+            Cause::WorkAreaShort | Cause::TableShort => 10,
+            Cause::TableOther => 18,
             Cause::RouteBufferShort => 11,
             Cause::RanksShort | Cause::RanksLong | Cause::RankOver | Cause::RankTwice => 15,
             Cause::LinkNumberOver | Cause::EndOver => 12,
@@ -142,7 +145,17 @@ pub fn first_cause(ctx: &Context, causes: &[(Cause, bool)]) -> Option<Cause> {
 }
 
 /// All rows in the order in which they are tried.
-pub const ORDER: [u8; 15] = [1, 2, 3, 4, 5, 6, 7, 8, 9, 10, 11, 15, 12, 13, 14];
+pub const ORDER: [u8; 16] = [1, 2, 3, 4, 5, 6, 7, 8, 9, 10, 18, 11, 15, 12, 13, 14];
+
+/// Where faults put a row: the row, and the row after which it is then tried; none
+/// where it is tried before all others.
+const MOVED: [(Fault, u8, Option<u8>); 5] = [
+    (Fault::RanksTriedFirst, 15, None),
+    (Fault::RanksTriedLast, 15, Some(13)),
+    (Fault::RouteBufferTriedFirst, 11, Some(9)),
+    (Fault::TableTriedAfterRanks, 18, Some(15)),
+    (Fault::TableTriedLast, 18, Some(13)),
+];
 
 /// The row that is tried after this one, if there is one.
 pub fn next(row: u8) -> Option<u8> {
@@ -160,11 +173,10 @@ pub fn order(ctx: &Context) -> Vec<u8> {
             rows.swap(place - 1, place);
         }
     }
-    for (fault, place) in [(Fault::RanksTriedFirst, 0), (Fault::RanksTriedLast, known_before - 1)] {
-        if ctx.has(fault) {
-            rows.retain(|row| *row != 15);
-            rows.insert(place, 15);
-        }
+    for (_, row, after) in MOVED.into_iter().filter(|(fault, _, _)| ctx.has(*fault)) {
+        rows.retain(|other| *other != row);
+        let place = rows.iter().position(|other| Some(*other) == after);
+        rows.insert(place.map_or(0, |place| place + 1), row);
     }
     let late = ctx.has(Fault::RanksTriedForPair);
     rows.retain(|row| !ctx.has(Fault::RowDropped(*row)) && !(late && *row == 15));
@@ -177,6 +189,8 @@ pub fn order(ctx: &Context) -> Vec<u8> {
 pub struct Inputs<'a> {
     /// Cells of the work area.
     pub work: Option<usize>,
+    /// The cells of a second call's table.
+    pub table: Option<&'a [u32]>,
     /// Bytes of the route buffer.
     pub route: Option<usize>,
     /// The ranks of the classes.
@@ -190,7 +204,10 @@ pub struct Inputs<'a> {
 /// One of the rows 10 to 13 and 15.
 pub fn question_row(ctx: &Context, row: u8, head: &Head, inputs: &Inputs) -> Option<Refusal> {
     match row {
-        10 => inputs.work.and_then(|cells| work_area(ctx, head, cells)),
+        10 => {
+            let work = inputs.work.and_then(|cells| work_area(ctx, head, cells));
+            work.or_else(|| inputs.table.and_then(|cells| table_length(ctx, head, cells.len())))
+        }
         11 => inputs.route.and_then(|bytes| route_buffer(ctx, head, bytes)),
         15 => inputs.ranks.and_then(|table| ranks::row(ctx, table)),
         12 => inputs.link_end.and_then(|(link, end)| link_and_end(ctx, head, link, end)),
@@ -204,6 +221,15 @@ fn work_area(ctx: &Context, head: &Head, cells: usize) -> Option<Refusal> {
     let needed = head.routers * head.routers;
     let short = cells < ctx.least(Limit::WorkArea, needed);
     let cause = first_cause(ctx, &[(Cause::WorkAreaShort, short)])?;
+    Some(Refusal::new(cause, needed))
+}
+
+/// Row 10 of a second call: the table, counted in 32-bit cells too.
+fn table_length(ctx: &Context, head: &Head, cells: usize) -> Option<Refusal> {
+    let needed = head.routers * head.routers;
+    let short = cells < ctx.least(Limit::Table, needed);
+    let long = cells > needed && ctx.has(Fault::TableLengthExact);
+    let cause = first_cause(ctx, &[(Cause::TableShort, short || long)])?;
     Some(Refusal::new(cause, needed))
 }
 

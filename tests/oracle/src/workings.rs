@@ -22,6 +22,11 @@ impl Workings {
     pub fn of(ctx: &Context, network: Network) -> Workings {
         let hops = Hops::of(ctx, &network);
         let distances = Distances::over(ctx, &hops);
+        Workings::by(ctx, network, hops, distances)
+    }
+
+    /// The workings of a network by these numbers for its distances.
+    pub fn by(ctx: &Context, network: Network, hops: Hops, distances: Distances) -> Workings {
         let to_router = vec![OnceCell::new(); hops.routers() + 1];
         let to_prefix = vec![OnceCell::new(); network.prefixes.len() + 1];
         Workings { ctx: ctx.clone(), network, hops, distances, to_router, to_prefix }

@@ -62,9 +62,9 @@ unfolding searched hasInput inputsOf inputNumber memberOf anyOf
 searches q load o e = cc
 searches q fill o e = cc
 searches q (space s) o e = cc
-searches q linkRepair o e = refl
-searches q prefixRepair o e = refl
-searches q route o e = refl
+searches q (linkRepair from) o e = refl
+searches q (prefixRepair from) o e = refl
+searches q (route from) o e = refl
 
 -- a call that nothing turns away does not answer with a refusal
 not-refused : (q : Question) (k v : ℕ) → refusalOf q ≡ none → computed q (q .call) ≡ refused k v → ⊥
@@ -87,9 +87,9 @@ not-refused q k v r e = go (q .call) refl e
     go load p e = let z : _≡_ {A = ℕ} 0 1 = cc in omega arith
     go fill p e = let z : _≡_ {A = ℕ} 0 1 = cc in omega arith
     go (space s) p e = let z : _≡_ {A = ℕ} 0 1 = cc in omega arith
-    go linkRepair p e = served linkRepair (linkFound q) p refl (repair-refused (linkFound q) k v e)
-    go prefixRepair p e = served prefixRepair (prefixFound q) p refl (repair-refused (prefixFound q) k v e)
-    go route p e = served route (prefixFound q) p refl (route-refused (prefixFound q) (length (routePlayed q)) k v e)
+    go (linkRepair from) p e = served (linkRepair from) (linkFound q) p refl (repair-refused (linkFound q) k v e)
+    go (prefixRepair from) p e = served (prefixRepair from) (prefixFound q) p refl (repair-refused (prefixFound q) k v e)
+    go (route from) p e = served (route from) (prefixFound q) p refl (route-refused (prefixFound q) (length (routePlayed q)) k v e)
 
 pub refusal-stated : (q : Question) (k v : ℕ) → answerTo q ≡ refused k v → (r : Row) × (entryOf r .number ≡ k) × Decides q r v
 unfolding answerTo refusal

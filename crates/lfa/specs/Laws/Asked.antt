@@ -10,7 +10,7 @@ use lib.ListN.{length, drop}
 use Rattle.lfa.specs.Lists.{select}
 use Rattle.lfa.specs.Distance.{filled}
 use Rattle.lfa.specs.Repair.{Told, Outcome, prefixUnreachable, prefixUntouched, noneServes, serving}
-use Rattle.lfa.specs.Question.{Question, Call, load, fill, space, linkRepair, prefixRepair, route, networkAsked, linkFound, prefixFound, searched, ifNone}
+use Rattle.lfa.specs.Question.{Question, Source, Call, load, fill, space, linkRepair, prefixRepair, route, networkAsked, linkFound, prefixFound, searched, ifNone}
 use Rattle.lfa.specs.Refusal.{early, noPair, leavesRoute, entryOf, earlyRows, questionRows, tries, decided, firstRow, returned, refusalOf, Posed}
 use Rattle.lfa.specs.Answer.{refused, repair, refusal, repairAnswer, routeAnswer, routeFor, routePlayed, computed, answerTo, writtenTo, leave, exitBy, exitOf, workAfter, routeAfter}
 use Rattle.lfa.specs.Laws.Rows.{nothing, also, none-apply, passed-over}
@@ -55,9 +55,9 @@ unfolding searched computed repairAnswer routeAnswer
 computes-none q load e = cc
 computes-none q fill e = cc
 computes-none q (space s) e = cc
-computes-none q linkRepair e = let f : linkFound q ≡ noneServes = cc in rw f
-computes-none q prefixRepair e = let f : prefixFound q ≡ noneServes = cc in rw f
-computes-none q route e = let f : prefixFound q ≡ noneServes = cc in rw f
+computes-none q (linkRepair from) e = let f : linkFound q ≡ noneServes = cc in rw f
+computes-none q (prefixRepair from) e = let f : prefixFound q ≡ noneServes = cc in rw f
+computes-none q (route from) e = let f : prefixFound q ≡ noneServes = cc in rw f
 
 module _ (q : Question) (p : Posed q) where
   -- Such a question is answered with what its call computes, 14 among it.
@@ -79,12 +79,12 @@ module _ (q : Question) (p : Posed q) where
       go (not-refused s r) = rw r
 
   -- The route buffer holds the routers of the route, of which there are none where there is no pair.
-  pub posed-route : q .call ≡ route → (buffer : List ℕ) → routeAfter q buffer ≡ routePlayed q ++ drop (length (routePlayed q)) buffer
+  pub posed-route : {from : Source} → q .call ≡ route from → (buffer : List ℕ) → routeAfter q buffer ≡ routePlayed q ++ drop (length (routePlayed q)) buffer
   unfolding exitOf exitBy writtenTo entryOf leavesRoute leave routePlayed routeFor searched
-  posed-route c buffer = go (last-row q p)
+  posed-route {from} c buffer = go (last-row q p)
     where
       found : searched q (q .call) ≡ some noneServes → prefixFound q ≡ noneServes
-      found s = let t : searched q route ≡ some noneServes = subst (λ (d : Call). searched q d ≡ some noneServes) c s in cc
+      found s = let t : searched q (route from) ≡ some noneServes = subst (λ (d : Call). searched q d ≡ some noneServes) c s in cc
 
       go : Searched q → routeAfter q buffer ≡ routePlayed q ++ drop (length (routePlayed q)) buffer
       go (none-serves s r) = rw (r) (rw (found s))

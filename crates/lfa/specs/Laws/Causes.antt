@@ -12,12 +12,14 @@ use lib.ListN.{length}
 use borrow.Author.Tests.{ltb-false, le-ltb, leb-false, lt-leb, eqb-true, eqb-false, eq-eqb, ne-eqb}
 use Rattle.lfa.specs.Lists.{unless, firstFailing, FirstFails}
 use Rattle.lfa.specs.File.{Bytes, routersOf, linksOf, prefixesOf, blocksIn, blocksNeeded, lengthGood, checkGood, headGood, blockCountGood, blockGood, linkGood, linkNew, prefixGood, routersNew}
+use Rattle.lfa.specs.Distance.{holdsDistances}
 use Rattle.lfa.specs.Ranks.{isArrangement}
 use Rattle.lfa.specs.Repair.{Outcome, prefixUnreachable, prefixUntouched, noneServes, serving}
-use Rattle.lfa.specs.Question.{Question, Call, sameNumbers, searched, ifNone}
-use Rattle.lfa.specs.Refusal.{FileRow, badLength, badCheck, badHead, badBlockCount, badBlock, badLink, parallelLink, badPrefix, routerTwice, FileApplies, fileReturned, EarlyRow, shortArea, shortBuffer, badRanks, noSuchLink, noSuchPrefix, EarlyApplies, Row, ofFile, early, noPair, Applies, returned, rowsTried, Decides, decided, refusalOf, sizedReturned}
+use Rattle.lfa.specs.Question.{Question, Call, sameNumbers, networkAsked, searched, ifNone}
+use Rattle.lfa.specs.Refusal.{FileRow, badLength, badCheck, badHead, badBlockCount, badBlock, badLink, parallelLink, badPrefix, routerTwice, FileApplies, fileReturned, EarlyRow, shortArea, wrongTable, shortBuffer, badRanks, noSuchLink, noSuchPrefix, EarlyApplies, Row, ofFile, early, noPair, Applies, returned, rowsTried, Decides, decided, refusalOf, sizedReturned}
 use Rattle.lfa.specs.Laws.Test.{and-fails, fails-left, fails-right, not-fails}
 use Rattle.lfa.specs.Laws.Ranks.{no-arrangement}
+use Rattle.lfa.specs.Laws.Holds.{holds-not}
 use Rattle.lfa.specs.Laws.FirstFailing.{first-failing, failing-first}
 use Rattle.lfa.specs.Laws.Rows.{FirstFound, first-found, found-first}
 
@@ -90,22 +92,24 @@ file-row-applies b parallelLink v = tested-each (linkNew b) 0 (linksOf b) v
 file-row-applies b badPrefix v = tested-each (prefixGood b) 0 (prefixesOf b) v
 file-row-applies b routerTwice v = tested-each (routersNew b) 0 (prefixesOf b) v
 
-pub early-row-applies : (q : Question) (r : EarlyRow) (v : ℕ) → (sizedReturned (routersOf (q .file)) (linksOf (q .file)) (prefixesOf (q .file)) q r ≡ some v) ↔ EarlyApplies q r v
+pub early-row-applies : (q : Question) (r : EarlyRow) (v : ℕ) → (sizedReturned (routersOf (q .file)) (linksOf (q .file)) (prefixesOf (q .file)) (holdsDistances (networkAsked q) (q .table)) q r ≡ some v) ↔ EarlyApplies q r v
 unfolding sizedReturned
-early-row-applies q shortArea v = tested (leb (routersOf (q .file) * routersOf (q .file)) (q .area)) _ v (λ e. leb-false _ _ e) (λ h. lt-leb _ _ h)
+early-row-applies q shortArea v = tested (leb (routersOf (q .file) * routersOf (q .file)) (q .cells)) _ v (λ e. leb-false _ _ e) (λ h. lt-leb _ _ h)
+early-row-applies q wrongTable v = tested (holdsDistances (networkAsked q) (q .table)) 0 v (holds-not (networkAsked q) (q .table) .0) (holds-not (networkAsked q) (q .table) .1)
 early-row-applies q shortBuffer v = tested (leb (2 * routersOf (q .file)) (q .buffer)) _ v (λ e. leb-false _ _ e) (λ h. lt-leb _ _ h)
 early-row-applies q badRanks v = tested (isArrangement (q .ranks)) 0 v (no-arrangement (q .ranks) .0) (no-arrangement (q .ranks) .1)
 early-row-applies q noSuchLink v = tested (ltb (q .link) (linksOf (q .file)) && leb (q .end) 1) _ v (link-fails (q .link) (q .end) (linksOf (q .file))) (fails-link (q .link) (q .end) (linksOf (q .file)))
 early-row-applies q noSuchPrefix v = tested (ltb (q .prefix) (prefixesOf (q .file))) _ v (λ e. ltb-false _ _ e) (λ h. le-ltb _ _ h)
 
 -- these look at the numbers alone
-pub early-numbers : (n l p : ℕ) (q : Question) (c : Call) (b : Bytes) (choices : List ℕ) (m : ℕ) (r : EarlyRow) → sizedReturned n l p (sameNumbers q c b choices m) r ≡ sizedReturned n l p q r
+pub early-numbers : (n l p : ℕ) (right : Bool) (q : Question) (c : Call) (b : Bytes) (choices : List ℕ) (m : ℕ) (r : EarlyRow) → sizedReturned n l p right (sameNumbers q c b choices m) r ≡ sizedReturned n l p right q r
 unfolding sizedReturned
-early-numbers n l p q c b choices m shortArea = refl
-early-numbers n l p q c b choices m shortBuffer = refl
-early-numbers n l p q c b choices m badRanks = refl
-early-numbers n l p q c b choices m noSuchLink = refl
-early-numbers n l p q c b choices m noSuchPrefix = refl
+early-numbers n l p right q c b choices m shortArea = refl
+early-numbers n l p right q c b choices m wrongTable = refl
+early-numbers n l p right q c b choices m shortBuffer = refl
+early-numbers n l p right q c b choices m badRanks = refl
+early-numbers n l p right q c b choices m noSuchLink = refl
+early-numbers n l p right q c b choices m noSuchPrefix = refl
 
 pub row-applies : (q : Question) (r : Row) (v : ℕ) → (returned q r ≡ some v) ↔ Applies q r v
 unfolding returned

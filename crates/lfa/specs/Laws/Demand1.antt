@@ -8,10 +8,11 @@ use Rattle.lfa.specs.Lists.{countUp, select, memberOf, anyOf}
 use borrow.Author.Tests.{lt-ltb, le-ltb}
 use lib.Dec.{ltb}
 use Rattle.lfa.specs.File.{Bytes, linksOf, prefixesOf, linkEntry, prefixEntry}
-use Rattle.lfa.specs.Question.{Question, loading, inputsOf, inputNumber, hasInput}
+use Rattle.lfa.specs.Question.{Question, loading, inputsOf, cellsFrom, inputNumber, hasInput}
 use Rattle.lfa.specs.Refusal.{FileRow, Row, ofFile, entryOf, fileNumber, fileRows, earlyRows, questionRows, allRows, Decides, Decided, decided, inFile, fileRefusal, tries, rowsTried}
 use Rattle.lfa.specs.Answer.{partIf, linkPart, prefixPart, computed}
 use Rattle.lfa.specs.Demands.{ByTheTable, PartGiven, EachCallTries, FilesAndNetworks, Demand1}
+use Rattle.lfa.specs.Laws.Lent.{each-question, each-is-lent}
 use Rattle.lfa.specs.Laws.FileRows.{refused-file, load-passes}
 use Rattle.lfa.specs.Laws.Causes.{decides-found, found-decides}
 use Rattle.lfa.specs.Laws.Answers.{refusal-given, refusal-stated, row-leaves, no-row-leaves, no-row-computes}
@@ -52,13 +53,16 @@ part-given b k count entry = go (fileRefusal b) refl
 
 -- the rows of each call, by computing them
 each-call-tries : EachCallTries
-unfolding rowsTried allRows fileRows questionRows earlyRows tries entryOf fileNumber select hasInput inputsOf inputNumber memberOf anyOf countUp
+unfolding rowsTried allRows fileRows questionRows earlyRows tries entryOf fileNumber select hasInput inputsOf cellsFrom inputNumber memberOf anyOf countUp
 each-call-tries = record {
   load = refl;
   distances = refl;
   space = λ s. refl;
   link-repair = refl;
   prefix-repair = refl;
+  link-repair-with = refl;
+  prefix-repair-with = refl;
+  route-with = refl;
   route = refl;
 }
 
@@ -72,6 +76,8 @@ pub the-demand-1 : Demand1
 unfolding linkPart prefixPart
 the-demand-1 = record {
   rows = each-call-tries;
+  buffers = each-is-lent;
+  questions = each-question;
   files = files-and-networks;
   by-the-table = by-the-table;
   link-given = λ b k. part-given b k (linksOf b) (linkEntry b k);

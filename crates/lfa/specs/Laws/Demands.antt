@@ -8,7 +8,7 @@ use lib.ListN.{getD, length}
 use Rattle.lfa.specs.Network.{router}
 use Rattle.lfa.specs.Space.{spaceOf}
 use Rattle.lfa.specs.Repair.{MayCross, prefixUnreachable, prefixUntouched}
-use Rattle.lfa.specs.Question.{Question, linkRepair, aLink, HasInput, networkAsked, linkAsked, prefixAsked, withDistances, linkFound, prefixFound}
+use Rattle.lfa.specs.Question.{Question, Source, linkRepair, aLink, HasInput, networkAsked, linkAsked, prefixAsked, withDistances, linkFound, prefixFound}
 use Rattle.lfa.specs.Refusal.{Posed}
 use Rattle.lfa.specs.Answer.{untouched, unreached, computed, answerTo}
 use Rattle.lfa.specs.Demands.{N, Hops, D, HasThis, Demand2, Repaired, Demand3, Demands}
@@ -26,6 +26,7 @@ use Rattle.lfa.specs.Laws.Point1.{put-at-65535, point-1}
 use Rattle.lfa.specs.Laws.Ranks.{eight-ranks}
 use Rattle.lfa.specs.Laws.Point2.{ranks-lent, point-2}
 use Rattle.lfa.specs.Laws.Point4.{point-4}
+use Rattle.lfa.specs.Laws.Point7.{point-7}
 use Rattle.lfa.specs.Laws.Failures.{several-failures}
 use Rattle.lfa.specs.Laws.Point5.{point-5}
 use Rattle.lfa.specs.Laws.Point13.{point-13}
@@ -53,7 +54,7 @@ the-demand-2 q p = record {
       (f .0, first-repair q p (prefix-has-link q p h) _ (f .1));
   unreachable-when = λ h. both (prefix-tells q p h .is-unreached) (unreachable-when (q .ranks) (N q) (Hops q) (D q) (linkAsked q) (prefixAsked q) (prefixFound q) (prefix-meaning q p h));
   untouched-when = λ h. both (prefix-tells q p h .is-untouched) (untouched-when (q .ranks) (N q) (Hops q) (D q) (linkAsked q) (prefixAsked q) (prefixFound q) (prefix-meaning q p h));
-  write-nothing = λ h a. nothing-written q p (has-buffer (q .call) h) (either (prefix-tells q p (route-has-prefix (q .call) (has-buffer (q .call) h))) a);
+  write-nothing = λ h a. nothing-written q p (has-buffer (q .call) h .1) (either (prefix-tells q p (route-has-prefix (q .call) (has-buffer (q .call) h .1))) a);
   options-are = λ to x. are-options (N q) (Hops q) (D q) to (sound q p .within) x;
   route-14 = λ c. both (prefix-tells q p (route-has-prefix (q .call) c) .is-14) (turned (prefix-tells-same q p c .is-14));
   route-named = λ c t r.
@@ -93,10 +94,10 @@ the-demand-3 q p = record {
       (f .has-this, also-for-prefix q p (link-has-link q p c) (rw (f .tells .first-is) (sound q p .within .to (f .candidate .first-hop .joined))) (rw (f .tells .endpoint-is) (f .candidate .end-in)) (f .has-this));
 }
   where
-    link : q .call ≡ linkRepair → Repaired q (router (linkAsked q .far)) (answerTo q)
+    link : {from : Source} → q .call ≡ linkRepair from → Repaired q (router (linkAsked q .far)) (answerTo q)
     link c = rw (link-answer q p c) (repaired q p (link-has-link q p c) _ (linkFound q) (link-meaning q p c))
 
 -- ---- the demands
 
 pub demands : Demands
-demands = record { demand-1 = the-demand-1; demand-2 = the-demand-2; demand-3 = the-demand-3; put-at-65535 = put-at-65535; point-1 = point-1; ranks-lent = ranks-lent; eight-ranks = eight-ranks; point-2 = λ q. point-2 q (the-demand-3 q); point-4 = λ q p. point-4 q p (the-demand-2 q p) (the-demand-3 q p); point-5 = λ q p. point-5 q p (the-demand-2 q p); point-9 = λ b a p. several-failures b a p the-demand-2; point-13 = point-13; posed-when = posed-when }
+demands = record { demand-1 = the-demand-1; demand-2 = the-demand-2; demand-3 = the-demand-3; put-at-65535 = put-at-65535; point-1 = point-1; ranks-lent = ranks-lent; eight-ranks = eight-ranks; point-2 = λ q. point-2 q (the-demand-3 q); point-4 = λ q p. point-4 q p (the-demand-2 q p) (the-demand-3 q p); point-5 = λ q p. point-5 q p (the-demand-2 q p); point-7 = point-7; point-9 = λ b a p. several-failures b a p the-demand-2; point-13 = point-13; posed-when = posed-when }

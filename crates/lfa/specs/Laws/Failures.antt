@@ -4,19 +4,19 @@
 use Prim.Native.Nat.{ℕ, _<_}
 use mathlib.Core.Path.{_≡_, refl, sym, subst, _∙_}
 use mathlib.Core.Logic.{inl, inr}
-use mathlib.Core.List.{List}
+use mathlib.Core.List.{List, []}
 use native.Mathlib.Omega.{arith}
+use lib.ListN.{length}
 use Rattle.lfa.specs.Lists.{anyOf, memberOf}
 use Rattle.lfa.specs.Network.{Arc, Target}
 use Rattle.lfa.specs.File.{Bytes, networkOf}
 use Rattle.lfa.specs.Distance.{towards}
-use Rattle.lfa.specs.Space.{Protected}
-use Rattle.lfa.specs.Repair.{Pair, IsPair, Serves, HasBaseClass, neighbour-downstream, neighbour-other, tunnel-downstream, tunnel-other, HasClass, node-protecting, any-other, classOf, Told}
-use Rattle.lfa.specs.Question.{Question, askPrefix, aLink, inputsOf, inputNumber, hasInput, HasInput, networkAsked, linkAsked, prefixAsked}
+use Rattle.lfa.specs.Space.{underMaintenance, Protected}
+use Rattle.lfa.specs.Repair.{Pair, IsPair, Serves, HasBaseClass, neighbour-downstream, neighbour-other, tunnel-downstream, tunnel-other, HasClass, node-protecting, any-other, classOf}
+use Rattle.lfa.specs.Question.{Question, Source, ownFill, lentTable, prefixRepair, askPrefix, askPrefixWith, aLink, inputsOf, inputNumber, hasInput, HasInput, networkAsked, linkAsked, prefixAsked}
 use Rattle.lfa.specs.Refusal.{Accepted, Posed}
-use Rattle.lfa.specs.Answer.{repair, answerTo}
 use Rattle.lfa.specs.Demands.{Demand2}
-use Rattle.lfa.specs.Failures.{hopsOf, costsOf, prefixOf, linkOf, NeighbourRepair, Downstream, DownstreamRepair, MaySend, Sends, SeveralFailures}
+use Rattle.lfa.specs.Failures.{hopsOf, costsOf, prefixOf, linkOf, NeighbourRepair, Downstream, DownstreamRepair, MaySend, Sends, AnswerSends, SeveralFailures}
 use Rattle.lfa.specs.Laws.Class.{class-base, class-has}
 use Rattle.lfa.specs.Laws.Walk.{level, measure, step-lowers}
 use Rattle.lfa.specs.Laws.Arrive.{WithinBy, FallsBy, walk-few-by, never-twice-by}
@@ -87,18 +87,16 @@ module _ (b : Bytes) (a : Accepted b) (p : ℕ) where
         downstream = nearer-downstream has refl (rw (r .near-is) low);
       }
 
-  names-link : (area link end : ℕ) (ranks : List ℕ) → HasInput (askPrefix b area ranks link end p) aLink
-  unfolding askPrefix hasInput inputsOf inputNumber memberOf anyOf
-  names-link area link end ranks = refl
+  -- the prefix repair question about the file and the prefix
+  about : (from : Source) (cells link end : ℕ) (table ranks : List ℕ) → Question
+  about from cells link end table ranks = record { call = prefixRepair from; file = b; cells = cells; table = table; buffer = 0; ranks = ranks; link = link; end = end; prefix = p; choices = []; maintenance = underMaintenance }
 
   -- what a call tells is of a candidate that has this, and so serves
-  answered : ((q : Question) → Posed q → Demand2 q) → (area link end : ℕ) (ranks : List ℕ) (t : Told) → Posed (askPrefix b area ranks link end p) →
-      answerTo (askPrefix b area ranks link end p) ≡ repair t → Downstream (t .class) →
-      (t .endpoint ≡ t .first) × ((l : ℕ) × DownstreamRepair b p (linkOf b link end .near) (t .first) l)
-  unfolding askPrefix networkAsked linkAsked prefixAsked
-  answered demand-2 area link end ranks t posed e downstream =
-      let q = askPrefix b area ranks link end p in
-      let named = names-link area link end ranks in
+  answered : ((q : Question) → Posed q → Demand2 q) → (from : Source) (cells link end : ℕ) (table ranks : List ℕ) → AnswerSends b p link end (about from cells link end table ranks)
+  unfolding about networkAsked linkAsked prefixAsked hasInput inputsOf inputNumber memberOf anyOf
+  answered demand-2 from cells link end table ranks t posed e downstream =
+      let q = about from cells link end table ranks in
+      let named : HasInput q aLink = refl in
       let first = demand-2 q posed .prefix-repair-first refl t e .1 in
       let tells = first .tells in
       let pair = first .pair in
@@ -127,6 +125,7 @@ module _ (b : Bytes) (a : Accepted b) (p : ℕ) where
       )
 
   pub several-failures : ((q : Question) → Posed q → Demand2 q) → SeveralFailures b p
+  unfolding askPrefix askPrefixWith about
   several-failures demand-2 =
       let within : (failed : List ℕ) → WithinBy (Sends b p failed) (networkOf b .routers) = λ failed. record { to = λ s. inside (s .way) } in
       let falls : (failed : List ℕ) → FallsBy (Sends b p failed) far = λ failed. record { fall = λ s. nearer (s .way) } in
@@ -135,5 +134,6 @@ module _ (b : Bytes) (a : Accepted b) (p : ℕ) where
         fewer-hops = λ failed x u k i w. walk-few-by (Sends b p failed) (networkOf b .routers) far (within failed) (falls failed) i w;
         each-step = λ failed x z l up s. record { is-up = up; way = inl s };
         each-repair = λ failed x z l up r low. record { is-up = up; way = inr (repair-downstream r low) };
-        answer-sends = answered demand-2;
+        answer-sends = λ area link end ranks. answered demand-2 ownFill area link end [] ranks;
+        answer-sends-with = λ link end table ranks. answered demand-2 lentTable (length table) link end table ranks;
       }

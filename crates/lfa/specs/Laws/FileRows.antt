@@ -2,16 +2,17 @@
 -- call's rows are selected; and a file is accepted exactly when each test passes everywhere.
 -- Assumes nothing.
 use Prim.Native.Nat.{ℕ, _-_, _<_}
-use mathlib.Core.Path.{_≡_, refl, ap, _∙_}
+use mathlib.Core.Path.{_≡_, refl, sym, ap, _∙_}
 use mathlib.Core.Logic.{_⊎_, inl, inr, _↔_}
 use mathlib.Core.Bool.{true}
 use mathlib.Core.Option.{Option, none, some}
 use mathlib.Core.List.{List, [], _∷_, _++_, map, List·Memᴰ, List·Memᴰ·head, List·Memᴰ·tail, List·Memᴰ·cases-cons, List·Memᴰ·not-nil, Memᴰ·append-left, Memᴰ·append-right}
 use native.Mathlib.Omega.{arith}
+use lib.Dec.{eqb}
 use Rattle.lfa.specs.Lists.{select, anyOf, memberOf}
 use Rattle.lfa.specs.File.{Bytes, byteAt, blocksIn, blocksNeeded, linksOf, prefixesOf, checkGood, blockGood, linkGood, linkNew, prefixGood, routersNew}
 use Rattle.lfa.specs.Question.{Question, Call, load, fill, space, linkRepair, prefixRepair, route, aFile, inputsOf, inputNumber, hasInput, loading}
-use Rattle.lfa.specs.Refusal.{FileApplies, FileRow, badLength, badCheck, badHead, badBlockCount, badBlock, badLink, parallelLink, badPrefix, routerTwice, fileReturned, fileRows, EarlyRow, shortArea, shortBuffer, badRanks, noSuchLink, noSuchPrefix, Row, ofFile, early, noPair, returned, entryOf, questionRows, allRows, tries, rowsTried, Decided, decided, firstRow, inFile, orLater, earlyRows, fileRefusal, refusalOf, Accepted}
+use Rattle.lfa.specs.Refusal.{FileApplies, FileRow, badLength, badCheck, badHead, badBlockCount, badBlock, badLink, parallelLink, badPrefix, routerTwice, fileReturned, fileNumber, fileRows, EarlyRow, shortArea, wrongTable, shortBuffer, badRanks, noSuchLink, noSuchPrefix, Row, ofFile, early, noPair, returned, entryOf, questionRows, allRows, tries, rowsTried, Decided, decided, firstRow, inFile, orLater, earlyRows, fileRefusal, refusalOf, Accepted}
 use Rattle.lfa.specs.Laws.List.{select-gives, select-make}
 use Rattle.lfa.specs.Laws.FirstFailing.{none-failing, all-passing, unless-none, unless-good}
 use Rattle.lfa.specs.Laws.File.Passes.{AreBytes, Passes}
@@ -26,9 +27,9 @@ unfolding hasInput inputsOf inputNumber memberOf anyOf
 has-file load = refl
 has-file fill = refl
 has-file (space s) = refl
-has-file linkRepair = refl
-has-file prefixRepair = refl
-has-file route = refl
+has-file (linkRepair f) = refl
+has-file (prefixRepair f) = refl
+has-file (route f) = refl
 
 pub tries-file : (c : Call) (r : FileRow) → tries c (ofFile r) ≡ true
 unfolding tries entryOf
@@ -91,6 +92,7 @@ file-row-listed routerTwice = search (first-listed, List·Memᴰ·tail) depth 12
 early-row-listed : (r : EarlyRow) → List·Memᴰ r earlyRows
 unfolding earlyRows
 early-row-listed shortArea = search (first-listed, List·Memᴰ·tail) depth 8
+early-row-listed wrongTable = search (first-listed, List·Memᴰ·tail) depth 8
 early-row-listed shortBuffer = search (first-listed, List·Memᴰ·tail) depth 8
 early-row-listed badRanks = search (first-listed, List·Memᴰ·tail) depth 8
 early-row-listed noSuchLink = search (first-listed, List·Memᴰ·tail) depth 8
@@ -112,6 +114,35 @@ unfolding allRows questionRows
 row-listed (ofFile r) = Memᴰ·append-left questionRows (listed-as ofFile r fileRows (file-row-listed r))
 row-listed (early r) = Memᴰ·append-right (map ofFile fileRows) (Memᴰ·append-left (noPair ∷ []) (early-listed r))
 row-listed noPair = Memᴰ·append-right (map ofFile fileRows) (Memᴰ·append-right (map early earlyRows) first-listed)
+
+-- ---- every row has a number of its own
+
+-- the rows with a number
+numbered : ℕ → List Row
+numbered k = select (λ r. eqb (entryOf r .number) k) allRows
+
+numbered-once : (r : Row) → numbered (entryOf r .number) ≡ r ∷ []
+unfolding numbered select allRows fileRows questionRows earlyRows entryOf fileNumber
+numbered-once (ofFile badLength) = refl
+numbered-once (ofFile badCheck) = refl
+numbered-once (ofFile badHead) = refl
+numbered-once (ofFile badBlockCount) = refl
+numbered-once (ofFile badBlock) = refl
+numbered-once (ofFile badLink) = refl
+numbered-once (ofFile parallelLink) = refl
+numbered-once (ofFile badPrefix) = refl
+numbered-once (ofFile routerTwice) = refl
+numbered-once (early shortArea) = refl
+numbered-once (early wrongTable) = refl
+numbered-once (early shortBuffer) = refl
+numbered-once (early badRanks) = refl
+numbered-once (early noSuchLink) = refl
+numbered-once (early noSuchPrefix) = refl
+numbered-once noPair = refl
+
+-- the rows with the number of a row are that row alone, so that rows with the same number are the same
+pub same-number : (r s : Row) → entryOf r .number ≡ entryOf s .number → r ≡ s
+same-number r s e = let one : r ∷ [] ≡ s ∷ [] = sym (numbered-once r) ∙ ap numbered e ∙ numbered-once s in cc
 
 -- A call tries just the rows that it has inputs for: no row is left out of the list from which they are selected.
 pub tried-rows : (c : Call) (r : Row) → List·Memᴰ r (rowsTried c) ↔ (hasInput c (entryOf r .input) ≡ true)

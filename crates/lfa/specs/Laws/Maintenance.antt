@@ -140,9 +140,9 @@ module _ (q : Question) (at : q .maintenance ≡ underMaintenance) where
   searched-same load small = refl
   searched-same fill small = refl
   searched-same (space s) small = refl
-  searched-same linkRepair small = ap some (link-found-same (small tt))
-  searched-same prefixRepair small = ap some (prefix-found-same (small tt))
-  searched-same route small = ap some (prefix-found-same (small tt))
+  searched-same (linkRepair from) small = ap some (link-found-same (small tt))
+  searched-same (prefixRepair from) small = ap some (prefix-found-same (small tt))
+  searched-same (route from) small = ap some (prefix-found-same (small tt))
 
   -- the route of a pair depends on S, not on the limit
   route-for-same : (o : Outcome) → routeFor q o ≡ routeFor other o
@@ -165,15 +165,15 @@ module _ (q : Question) (at : q .maintenance ≡ underMaintenance) where
       go pSpace small = both-same _ _ _ _ .0
       go extendedP small = extended-same (q .ranks) _ _ _ (linkAsked q) (same-hops (small tt))
       go qSpace small = both-same _ _ _ _ .1
-  computed-same linkRepair small = unfold computed in ap repairAnswer (link-found-same (small tt))
-  computed-same prefixRepair small = unfold computed in ap repairAnswer (prefix-found-same (small tt))
-  computed-same route small = unfold computed in ap₂ routeAnswer (prefix-found-same (small tt)) (ap length (route-same (small tt)))
+  computed-same (linkRepair from) small = unfold computed in ap repairAnswer (link-found-same (small tt))
+  computed-same (prefixRepair from) small = unfold computed in ap repairAnswer (prefix-found-same (small tt))
+  computed-same (route from) small = unfold computed in ap₂ routeAnswer (prefix-found-same (small tt)) (ap length (route-same (small tt)))
 
   -- the rows of the table: only row 14 looks at what is found
   returned-same : (LooksAtFirstHops (q .call) → InService) → (r : Row) → returned q r ≡ returned other r
-  unfolding returned withoutMaintenance
+  unfolding returned networkAsked withoutMaintenance
   returned-same small (ofFile r) = refl
-  returned-same small (early r) = sym (early-numbers _ _ _ q (q .call) (q .file) (q .choices) 65536 r)
+  returned-same small (early r) = sym (early-numbers _ _ _ _ q (q .call) (q .file) (q .choices) 65536 r)
   returned-same small noPair = ap (λ (o : Option Outcome). ifNone o 0) (searched-same (q .call) small)
 
   refusal-same : (LooksAtFirstHops (q .call) → InService) → refusalOf q ≡ refusalOf other
@@ -190,4 +190,4 @@ module _ (q : Question) (at : q .maintenance ≡ underMaintenance) where
     where
       written-same : (x : Buffer) → HasInput q (lent x) → (before : List ℕ) → writtenTo q x before ≡ writtenTo other x before
       written-same workArea h before = unfold writtenTo networkAsked withoutMaintenance in refl
-      written-same routeBuffer h before = unfold writtenTo in ap (λ (rs : List ℕ). rs ++ drop (length rs) before) (route-same (small (subst LooksAtFirstHops (sym (has-buffer (q .call) h)) tt)))
+      written-same routeBuffer h before = unfold writtenTo in ap (λ (rs : List ℕ). rs ++ drop (length rs) before) (route-same (small (subst LooksAtFirstHops (sym (has-buffer (q .call) h .1)) tt)))

@@ -9,7 +9,7 @@ use mathlib.Core.List.{List, _∷_, map, List·Memᴰ, List·Memᴰ·cases-cons,
 use native.Mathlib.Omega.{arith}
 use Rattle.lfa.specs.File.{byteAt}
 use Rattle.lfa.specs.Space.{underMaintenance, Protected, FirstHop, IsFirstHop}
-use Rattle.lfa.specs.Question.{Question, loading, filling, askSpace, askLink, askPrefix, askRoute, withoutMaintenance, LooksAtFirstHops, Buffer, workArea, routeBuffer, lent, HasInput, networkAsked, linkAsked}
+use Rattle.lfa.specs.Question.{Question, loading, filling, askSpace, askLink, askPrefix, askRoute, askLinkWith, askPrefixWith, askRouteWith, withoutMaintenance, LooksAtFirstHops, Buffer, workArea, routeBuffer, lent, HasInput, networkAsked, linkAsked}
 use Rattle.lfa.specs.Refusal.{Row, early, Decided, earlyRows, tries, returned, fileRefusal, orLater, earlyRefusal, Accepted, Posed}
 use Rattle.lfa.specs.Answer.{exitOf}
 use Rattle.lfa.specs.Demands.{Hops, IsNeighbour, PutAt65535, SameReply, Point1}
@@ -30,9 +30,9 @@ one-more {q} {head} {rest} at others member = either (List·Memᴰ·cases-cons m
     either (inr m) = others m
 
 pub put-at-65535 : PutAt65535
-unfolding loading filling askSpace askLink askPrefix askRoute
-put-at-65535 b area buffer l e p ranks choices s q =
-    one-more refl (one-more refl (one-more refl (one-more refl (one-more refl (one-more refl (λ n. absurd (List·Memᴰ·not-nil n)))))))
+unfolding loading filling askSpace askLink askPrefix askRoute askLinkWith askPrefixWith askRouteWith
+put-at-65535 b area buffer l e p table ranks choices s q =
+    one-more refl (one-more refl (one-more refl (one-more refl (one-more refl (one-more refl (one-more refl (one-more refl (one-more refl (λ n. absurd (List·Memᴰ·not-nil n))))))))))
 
 module _ (q : Question) (at : q .maintenance ≡ underMaintenance) (bytes : (i : ℕ) → byteAt (q .file) i < 256) where
   first-hop : (f : FirstHop) → IsFirstHop (Hops q) (linkAsked q) f ↔ (IsNeighbour q f × (f .cost < 65535))
@@ -49,10 +49,10 @@ module _ (q : Question) (at : q .maintenance ≡ underMaintenance) (bytes : (i :
 
   -- the rows before 14 do not look at first hops
   same-on : (r : Row) → List·Memᴰ r (map early earlyRows) → returned (withoutMaintenance q) r ≡ returned q r
-  unfolding returned withoutMaintenance
+  unfolding returned networkAsked withoutMaintenance
   same-on r m =
       let g = map-gives early earlyRows m in
-      subst (λ (r : Row). returned (withoutMaintenance q) r ≡ returned q r) (sym (g .2)) (early-numbers _ _ _ q (q .call) (q .file) (q .choices) 65536 (g .0))
+      subst (λ (r : Row). returned (withoutMaintenance q) r ≡ returned q r) (sym (g .2)) (early-numbers _ _ _ _ q (q .call) (q .file) (q .choices) 65536 (g .0))
 
   early-same : earlyRefusal (withoutMaintenance q) ≡ earlyRefusal q
   unfolding earlyRefusal withoutMaintenance

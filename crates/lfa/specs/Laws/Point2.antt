@@ -5,15 +5,15 @@ use mathlib.Core.Path.{_≡_, refl, sym, ap, ap₂, _∙_, subst}
 use mathlib.Core.Bool.{true}
 use mathlib.Core.Option.{Option, none, some}
 use mathlib.Core.List.{List}
-use native.Mathlib.Omega.{arith}
 use Rattle.lfa.specs.Lists.{memberOf, anyOf}
 use Rattle.lfa.specs.Network.{Target}
 use Rattle.lfa.specs.Ranks.{rankOf, Arrangement, ascending, isArrangement}
 use Rattle.lfa.specs.Repair.{Pair, Told, keysAt}
-use Rattle.lfa.specs.Question.{Question, Call, load, fill, space, linkRepair, prefixRepair, route, askLink, askPrefix, askRoute, withRanks, Buffer, workArea, routeBuffer, aRankTable, lent, HasInput, inputsOf, inputNumber, hasInput, networkAsked, linkAsked, withDistances}
-use Rattle.lfa.specs.Refusal.{badLength, badCheck, badHead, badBlockCount, badBlock, badLink, parallelLink, badPrefix, routerTwice, shortArea, shortBuffer, badRanks, noSuchLink, noSuchPrefix, Row, ofFile, early, noPair, Decided, Decides, leavesAll, fileNumber, entryOf, returned, tries, allRows, rowsTried, refusalOf, Posed}
-use Rattle.lfa.specs.Answer.{Answer, refused, refusal, computed, answerTo, writtenTo, leave, exitBy, exitOf}
-use Rattle.lfa.specs.Demands.{D, HasThis, keysByClass, keys, IsFirst, IsRepair, TellsOf, RepairedBy, Repaired, Demand3By, Demand3, SameReply, RanksLent, SameKind, one-answer, Point2}
+use Rattle.lfa.specs.Question.{Question, Source, Call, load, fill, space, linkRepair, prefixRepair, route, askLink, askPrefix, askRoute, withRanks, withTable, Buffer, workArea, routeBuffer, aRankTable, lent, HasInput, inputsOf, inputNumber, hasInput, networkAsked, linkAsked, withDistances}
+use Rattle.lfa.specs.Refusal.{EarlyRow, badRanks, EarlyApplies, earlyNumber, Row, early, Decided, Decides, leavesAll, entryOf, returned, tries, allRows, rowsTried, refusalOf, Posed}
+use Rattle.lfa.specs.Laws.FileRows.{same-number}
+use Rattle.lfa.specs.Answer.{Answer, refusal, computed, answerTo, writtenTo, leave, exitBy, exitOf}
+use Rattle.lfa.specs.Demands.{D, HasThis, keysByClass, keys, IsFirst, IsRepair, TellsOf, RepairedBy, Repaired, Demand3By, Demand3, SameReply, RanksLent, WritesNothing, SameKind, one-answer, Point2}
 use Rattle.lfa.specs.Laws.Ranks.{arrangement-make, ascending-rank}
 use Rattle.lfa.specs.Laws.Class.{class-few}
 use Rattle.lfa.specs.Laws.OnlyOne.{only-one}
@@ -58,11 +58,11 @@ module _ (q : Question) (ranks : List ℕ) where
     computed-same load n = refl
     computed-same fill n = refl
     computed-same (space s) n = refl
-    computed-same linkRepair n = absurd (n refl)
-    computed-same prefixRepair n = absurd (n refl)
-    computed-same route n = absurd (n refl)
+    computed-same (linkRepair from) n = absurd (n refl)
+    computed-same (prefixRepair from) n = absurd (n refl)
+    computed-same (route from) n = absurd (n refl)
 
-    route-takes : (c : Call) → c ≡ route → hasInput c aRankTable ≡ true
+    route-takes : (c : Call) {from : Source} → c ≡ route from → hasInput c aRankTable ≡ true
     unfolding hasInput inputsOf inputNumber memberOf anyOf
     route-takes c e = ap (λ c. hasInput c aRankTable) e
 
@@ -78,36 +78,17 @@ module _ (q : Question) (ranks : List ℕ) where
       where
         exit : (x : Buffer) → HasInput q (lent x) → (before : List ℕ) → exitOf q x before ≡ exitOf other x before
         exit workArea h before = work-alike no-row before
-        exit routeBuffer h before = absurd (no (route-takes (q .call) (has-buffer (q .call) h)))
+        exit routeBuffer h before = absurd (no (route-takes (q .call) (has-buffer (q .call) h .1)))
 
--- ---- row 15
+-- ---- rows of value 0
 
-module _ (q : Question) where
-  -- only one row has its number
-  row-15 : (r : Row) → entryOf r .number ≡ 15 → r ≡ early badRanks
-  unfolding entryOf fileNumber
-  row-15 (ofFile badLength) e = absurd (omega arith)
-  row-15 (ofFile badCheck) e = absurd (omega arith)
-  row-15 (ofFile badHead) e = absurd (omega arith)
-  row-15 (ofFile badBlockCount) e = absurd (omega arith)
-  row-15 (ofFile badBlock) e = absurd (omega arith)
-  row-15 (ofFile badLink) e = absurd (omega arith)
-  row-15 (ofFile parallelLink) e = absurd (omega arith)
-  row-15 (ofFile badPrefix) e = absurd (omega arith)
-  row-15 (ofFile routerTwice) e = absurd (omega arith)
-  row-15 (early shortArea) e = absurd (omega arith)
-  row-15 (early shortBuffer) e = absurd (omega arith)
-  row-15 (early badRanks) e = refl
-  row-15 (early noSuchLink) e = absurd (omega arith)
-  row-15 (early noSuchPrefix) e = absurd (omega arith)
-  row-15 noPair e = absurd (omega arith)
-
-  writes-nothing : (v : ℕ) → answerTo q ≡ refused 15 v → (v ≡ 0) × ((x : Buffer) → HasInput q (lent x) → (before : List ℕ) → exitOf q x before ≡ before)
-  unfolding entryOf leavesAll leave
-  writes-nothing v e =
-      let s = refusal-stated q 15 v e in
-      let decides = subst (λ (r : Row). Decides q r v) (row-15 (s .0) (s .1)) (s .2) in
-      (decides .applies .1, λ x h before. row-leaves q (early badRanks) v decides x before)
+-- an early row writes nothing, and none of these returns another value than 0
+pub writes-nothing : (q : Question) (r : EarlyRow) → ((v : ℕ) → EarlyApplies q r v → v ≡ 0) → WritesNothing q (earlyNumber r)
+unfolding entryOf leavesAll leave
+writes-nothing q r zero v e =
+    let s = refusal-stated q (earlyNumber r) v e in
+    let decides = subst (λ (r : Row). Decides q r v) (same-number (s .0) (early r) (s .1)) (s .2) in
+    (zero v (decides .applies), λ x h before. row-leaves q (early r) v decides x before)
 
 -- ---- ascending ranks
 
@@ -139,21 +120,19 @@ module _ (q : Question) (e : q .ranks ≡ ascending) where
 -- ---- the Point
 
 pub ranks-lent : RanksLent
-unfolding askLink askPrefix askRoute withRanks
+unfolding askLink askPrefix askRoute withRanks withTable
 ranks-lent = record {
-  link = λ b area l e ranks. refl;
   link-other = λ b area l e ranks others. refl;
-  prefix = λ b area l e p ranks. refl;
   prefix-other = λ b area l e p ranks others. refl;
-  route = λ b area buffer l e p ranks choices. refl;
   route-other = λ b area buffer l e p ranks others choices. refl;
+  with-table = λ table others q. refl;
 }
 
 pub point-2 : (q : Question) → (Posed q → Demand3 q (answerTo q)) → Point2 q
 point-2 q demand-3 = record {
   same-who = λ a ranks b. same-who q ranks a b;
   same-work = λ a ranks b h area. work-alike q ranks (both-pass q ranks a b) area;
-  writes-nothing = writes-nothing q;
+  writes-nothing = writes-nothing q badRanks (λ v h. h .1);
   as-before = λ e p. as-before q e (demand-3 p);
   one-by-class = λ to. only-one q (λ t. t .class) (HasThis q to) to;
   one-by-rank = λ to. only-one q (λ t. rankOf (q .ranks) (t .class)) (HasThis q to) to;

@@ -11,9 +11,10 @@ use borrow.Author.Tests.{leb-true, leb-false}
 use Rattle.lfa.specs.File.{byteAt, linksOf, networkOf}
 use Rattle.lfa.specs.Ranks.{Arrangement, isArrangement}
 use Rattle.lfa.specs.Question.{Question, networkAsked}
-use Rattle.lfa.specs.Refusal.{EarlyRow, shortArea, shortBuffer, badRanks, noSuchLink, noSuchPrefix, EarlyApplies, Row, ofFile, early, noPair, Applies, entryOf, tries, triesEarly, rowsTried, Accepted, Posed}
+use Rattle.lfa.specs.Refusal.{EarlyRow, shortArea, wrongTable, shortBuffer, badRanks, noSuchLink, noSuchPrefix, EarlyApplies, Row, ofFile, early, noPair, Applies, entryOf, tries, triesEarly, rowsTried, Accepted, Posed}
 use Rattle.lfa.specs.Laws.Test.{decide}
 use Rattle.lfa.specs.Laws.Ranks.{arrangement-gives, no-arrangement}
+use Rattle.lfa.specs.Laws.Holds.{holds-stable}
 use Rattle.lfa.specs.Laws.FileRows.{tries-file, tried-rows}
 use Rattle.lfa.specs.Laws.Accepted.{link-count, prefix-count}
 
@@ -41,7 +42,8 @@ NoEarlyRow q = (r : EarlyRow) (v : ℕ) → triesEarly (q .call) r ≡ true → 
 
 pub posed-passes : (q : Question) → Posed q → NoEarlyRow q
 unfolding tries entryOf networkAsked networkOf
-posed-passes q p shortArea v t a = let h = p .area t in omega (arith, a .0)
+posed-passes q p shortArea v t a = let h = p .cells t in omega (arith, a .0)
+posed-passes q p wrongTable v t a = a .0 (p .table t)
 posed-passes q p shortBuffer v t a = let h = p .buffer t in omega (arith, a .0)
 posed-passes q p badRanks v t a = a .0 (p .ranks t)
 posed-passes q p noSuchLink v t a = go (a .0)
@@ -55,7 +57,8 @@ pub passes-posed : (q : Question) → Accepted (q .file) → NoEarlyRow q → Po
 unfolding tries entryOf networkAsked networkOf
 passes-posed q accepted passes = record {
   file = accepted;
-  area = λ t. at-most _ _ (λ s. passes shortArea _ t (s, refl));
+  cells = λ t. at-most _ _ (λ s. passes shortArea _ t (s, refl));
+  table = λ t. holds-stable (networkAsked q) (q .table) (λ no. passes wrongTable _ t (no, refl));
   buffer = λ t. at-most _ _ (λ s. passes shortBuffer _ t (s, refl));
   ranks = λ t. stable (q .ranks) (λ no. passes badRanks _ t (no, refl));
   link = λ t. rw (link-count (q .file) accepted) (at-most _ _ (λ s. passes noSuchLink _ t (inl (omega (arith, s)), refl)));

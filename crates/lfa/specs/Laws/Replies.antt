@@ -11,8 +11,8 @@ use Rattle.lfa.specs.Network.{router}
 use Rattle.lfa.specs.Space.{Space}
 use Rattle.lfa.specs.Repair.{Serves, Told, Outcome, prefixUnreachable, prefixUntouched, noneServes, serving}
 use Rattle.lfa.specs.Route.{routeOf}
-use Rattle.lfa.specs.Question.{Question, Call, load, fill, space, linkRepair, prefixRepair, route, askPrefix, toPrefixRepair, routeBuffer, aLink, aPrefix, lent, Input, inputsOf, inputNumber, hasInput, HasInput, networkAsked, linkAsked, prefixAsked, withDistances, linkFound, prefixFound}
-use Rattle.lfa.specs.Refusal.{EarlyRow, shortArea, shortBuffer, badRanks, noSuchLink, noSuchPrefix, EarlyApplies, entryOf, tries, triesEarly, Posed}
+use Rattle.lfa.specs.Question.{Question, Source, ownFill, lentTable, cellsFrom, Call, load, fill, space, linkRepair, prefixRepair, route, askPrefix, toPrefixRepair, routeBuffer, aLink, aPrefix, lent, Input, inputsOf, inputNumber, hasInput, HasInput, networkAsked, linkAsked, prefixAsked, withDistances, linkFound, prefixFound}
+use Rattle.lfa.specs.Refusal.{EarlyRow, shortArea, wrongTable, shortBuffer, badRanks, noSuchLink, noSuchPrefix, EarlyApplies, entryOf, tries, triesEarly, Posed}
 use Rattle.lfa.specs.Answer.{refused, Answer, untouched, unreached, repair, repairAnswer, routeAnswer, routeFor, routePlayed, computed, answerTo, routeAfter}
 use Rattle.lfa.specs.Demands.{N, Hops, D, RouteNamed}
 use Rattle.lfa.specs.Laws.PosedWhen.{posed-passes, passes-posed}
@@ -31,30 +31,30 @@ module _ (q : Question) (p : Posed q) where
   has i c h = ap (λ c. hasInput c i) c ∙ h
 
   -- the link repair
-  pub link-answer : q .call ≡ linkRepair → answerTo q ≡ repairAnswer (linkFound q)
+  pub link-answer : {from : Source} → q .call ≡ linkRepair from → answerTo q ≡ repairAnswer (linkFound q)
   unfolding computed
   link-answer c = computes c
 
-  pub link-has-link : q .call ≡ linkRepair → HasInput q aLink
-  unfolding hasInput inputsOf inputNumber memberOf anyOf
+  pub link-has-link : {from : Source} → q .call ≡ linkRepair from → HasInput q aLink
+  unfolding hasInput inputsOf cellsFrom inputNumber memberOf anyOf
   link-has-link c = has aLink c refl
 
-  pub link-meaning : q .call ≡ linkRepair → SearchMeans (N q) (Hops q) (D q) (linkAsked q) (q .ranks) (router (linkAsked q .far)) (linkFound q)
+  pub link-meaning : {from : Source} → q .call ≡ linkRepair from → SearchMeans (N q) (Hops q) (D q) (linkAsked q) (q .ranks) (router (linkAsked q .far)) (linkFound q)
   unfolding linkFound withDistances
   link-meaning c = link-means (N q) (Hops q) (D q) (linkAsked q) (sound q p) (named q p (link-has-link c)) (q .ranks)
 
   -- the prefix repair, and the route
   pub prefix-has-link : HasInput q aPrefix → HasInput q aLink
-  unfolding hasInput inputsOf inputNumber memberOf anyOf
+  unfolding hasInput inputsOf cellsFrom inputNumber memberOf anyOf
   prefix-has-link h = go (q .call) h
     where
       go : (c : Call) → hasInput c aPrefix ≡ true → hasInput c aLink ≡ true
       go load h = cc
       go fill h = cc
       go (space s) h = cc
-      go linkRepair h = cc
-      go prefixRepair h = refl
-      go route h = refl
+      go (linkRepair from) h = cc
+      go (prefixRepair from) h = refl
+      go (route from) h = refl
 
   pub prefix-meaning : HasInput q aPrefix → PrefixMeans (N q) (Hops q) (D q) (linkAsked q) (q .ranks) (prefixAsked q) (prefixFound q)
   unfolding prefixFound withDistances
@@ -82,51 +82,57 @@ route-tells (serving t) count = record { is-unreached = (λ e. cc, λ e. cc); is
 
 module _ (q : Question) (p : Posed q) where
   pub prefix-tells : HasInput q aPrefix → Tells (answerTo q) (prefixFound q)
-  unfolding computed hasInput inputsOf inputNumber memberOf anyOf
+  unfolding computed hasInput inputsOf cellsFrom inputNumber memberOf anyOf
   prefix-tells h = rw (posed-answer q p) (go (q .call) h)
     where
       go : (c : Call) → hasInput c aPrefix ≡ true → Tells (computed q c) (prefixFound q)
       go load h = absurd (false≢true h)
       go fill h = absurd (false≢true h)
       go (space s) h = absurd (false≢true h)
-      go linkRepair h = absurd (false≢true h)
-      go prefixRepair h = repair-tells (prefixFound q)
-      go route h = route-tells (prefixFound q) (length (routePlayed q))
+      go (linkRepair ownFill) h = absurd (false≢true h)
+      go (linkRepair lentTable) h = absurd (false≢true h)
+      go (prefixRepair from) h = repair-tells (prefixFound q)
+      go (route from) h = route-tells (prefixFound q) (length (routePlayed q))
 
 -- ---- routes
 
 -- only the route call has a route buffer
-pub has-buffer : (c : Call) → hasInput c (lent routeBuffer) ≡ true → c ≡ route
-unfolding hasInput inputsOf inputNumber memberOf anyOf
-has-buffer load h = cc
-has-buffer fill h = cc
-has-buffer (space s) h = cc
-has-buffer linkRepair h = cc
-has-buffer prefixRepair h = cc
-has-buffer route h = refl
+pub has-buffer : (c : Call) → hasInput c (lent routeBuffer) ≡ true → (from : Source) × (c ≡ route from)
+unfolding hasInput inputsOf cellsFrom inputNumber memberOf anyOf
+has-buffer load h = absurd (false≢true h)
+has-buffer fill h = absurd (false≢true h)
+has-buffer (space s) h = absurd (false≢true h)
+has-buffer (linkRepair ownFill) h = absurd (false≢true h)
+has-buffer (linkRepair lentTable) h = absurd (false≢true h)
+has-buffer (prefixRepair ownFill) h = absurd (false≢true h)
+has-buffer (prefixRepair lentTable) h = absurd (false≢true h)
+has-buffer (route from) h = (from, refl)
 
 pub space-has-link : (c : Call) (s : Space) → c ≡ space s → hasInput c aLink ≡ true
-unfolding hasInput inputsOf inputNumber memberOf anyOf
+unfolding hasInput inputsOf cellsFrom inputNumber memberOf anyOf
 space-has-link c s e = ap (λ c. hasInput c aLink) e
 
-pub prefix-has-prefix : (c : Call) → c ≡ prefixRepair → hasInput c aPrefix ≡ true
-unfolding hasInput inputsOf inputNumber memberOf anyOf
+pub prefix-has-prefix : (c : Call) → {from : Source} → c ≡ prefixRepair from → hasInput c aPrefix ≡ true
+unfolding hasInput inputsOf cellsFrom inputNumber memberOf anyOf
 prefix-has-prefix c e = ap (λ c. hasInput c aPrefix) e
 
-pub route-has-prefix : (c : Call) → c ≡ route → hasInput c aPrefix ≡ true
-unfolding hasInput inputsOf inputNumber memberOf anyOf
+pub route-has-prefix : (c : Call) → {from : Source} → c ≡ route from → hasInput c aPrefix ≡ true
+unfolding hasInput inputsOf cellsFrom inputNumber memberOf anyOf
 route-has-prefix c e = ap (λ c. hasInput c aPrefix) e
 
 -- an early row that the prefix repair tries is one that the route tries, and looks at the same of the question
-prefix-row : (q : Question) (r : EarlyRow) (v : ℕ) → triesEarly prefixRepair r ≡ true → EarlyApplies (toPrefixRepair q) r v → (triesEarly route r ≡ true) × EarlyApplies q r v
-unfolding toPrefixRepair tries entryOf hasInput inputsOf inputNumber memberOf anyOf
-prefix-row q shortArea v t a = (refl, a)
-prefix-row q shortBuffer v t a = absurd (false≢true t)
-prefix-row q badRanks v t a = (refl, a)
-prefix-row q noSuchLink v t a = (refl, a)
-prefix-row q noSuchPrefix v t a = (refl, a)
+prefix-row : (from : Source) (q : Question) (r : EarlyRow) (v : ℕ) → triesEarly (prefixRepair from) r ≡ true → EarlyApplies (toPrefixRepair from q) r v → (triesEarly (route from) r ≡ true) × EarlyApplies q r v
+unfolding toPrefixRepair networkAsked tries entryOf hasInput inputsOf cellsFrom inputNumber memberOf anyOf
+prefix-row from q shortArea v t a = (refl, a)
+prefix-row ownFill q wrongTable v t a = absurd (false≢true t)
+prefix-row lentTable q wrongTable v t a = (refl, a)
+prefix-row ownFill q shortBuffer v t a = absurd (false≢true t)
+prefix-row lentTable q shortBuffer v t a = absurd (false≢true t)
+prefix-row from q badRanks v t a = (refl, a)
+prefix-row from q noSuchLink v t a = (refl, a)
+prefix-row from q noSuchPrefix v t a = (refl, a)
 
-module _ (q : Question) (p : Posed q) (c : q .call ≡ route) where
+module _ (q : Question) (p : Posed q) {from : Source} (c : q .call ≡ route from) where
   -- where no pair is found, nothing is written
   pub nothing-written : (prefixFound q ≡ prefixUnreachable) ⊎ (prefixFound q ≡ prefixUntouched) → (buffer : List ℕ) → routeAfter q buffer ≡ buffer
   unfolding routePlayed routeFor
@@ -134,18 +140,18 @@ module _ (q : Question) (p : Posed q) (c : q .call ≡ route) where
   nothing-written (inr e) buffer = posed-route q p c buffer ∙ rw e
 
   -- no early row applies to the prefix repair question, since none applies to the route question
-  pub prefix-posed : Posed (toPrefixRepair q)
+  pub prefix-posed : Posed (toPrefixRepair from q)
   unfolding toPrefixRepair
-  prefix-posed = passes-posed (toPrefixRepair q) (p .file) (λ r v t a. let s = prefix-row q r v t a in posed-passes q p r v (ap (λ c. triesEarly c r) c ∙ s .0) (s .1))
+  prefix-posed = passes-posed (toPrefixRepair from q) (p .file) (λ r v t a. let s = prefix-row from q r v t a in posed-passes q p r v (ap (λ c. triesEarly c r) c ∙ s .0) (s .1))
 
   -- the prefix repair tells of the same search
-  pub prefix-tells-same : Tells (answerTo (toPrefixRepair q)) (prefixFound q)
-  unfolding toPrefixRepair askPrefix prefixFound networkAsked linkAsked prefixAsked hasInput inputsOf inputNumber memberOf anyOf
-  prefix-tells-same = prefix-tells (toPrefixRepair q) prefix-posed refl
+  pub prefix-tells-same : Tells (answerTo (toPrefixRepair from q)) (prefixFound q)
+  unfolding toPrefixRepair askPrefix prefixFound networkAsked linkAsked prefixAsked hasInput inputsOf cellsFrom inputNumber memberOf anyOf
+  prefix-tells-same = prefix-tells (toPrefixRepair from q) prefix-posed refl
 
-  pub pair-found : {t : Told} → answerTo (toPrefixRepair q) ≡ repair t → prefixFound q ≡ serving t
+  pub pair-found : {t : Told} → answerTo (toPrefixRepair from q) ≡ repair t → prefixFound q ≡ serving t
   unfolding computed toPrefixRepair askPrefix prefixFound networkAsked linkAsked prefixAsked
-  pair-found {t} r = answer-chosen (prefixFound q) t (sym (posed-answer (toPrefixRepair q) prefix-posed) ∙ r)
+  pair-found {t} r = answer-chosen (prefixFound q) t (sym (posed-answer (toPrefixRepair from q) prefix-posed) ∙ r)
 
   module _ {t : Told} (found : prefixFound q ≡ serving t) where
     pub searched-first : IsFirstPair (N q) (Hops q) (D q) (linkAsked q) (q .ranks) (prefixAsked q) t
@@ -170,7 +176,7 @@ module _ (q : Question) (p : Posed q) (c : q .call ≡ route) where
     told-endpoint-in = of-told (λ n y. y < N q) (searched-first .is-pair .end-in)
 
     pub played-named : RouteNamed q (t .first) (t .endpoint)
-    unfolding computed routeAnswer hasInput inputsOf inputNumber memberOf anyOf
+    unfolding computed routeAnswer hasInput inputsOf cellsFrom inputNumber memberOf anyOf
     played-named =
         let serves = of-told (Serves (Hops q) (D q) (linkAsked q) (prefixAsked q)) (searched-first .serves) in
         let named =

@@ -119,19 +119,36 @@ module _ {R : Type 0} (value : R → Option ℕ) (tried : R → Bool) where
   unfolding select firstRow
   decides-after after r v passed t a = passed-over (r ∷ after) passed ∙ rw (t) (rw (a, firstRow))
 
--- two ways to compute what rows return decide alike, where they are alike on the rows that are tried
-module _ {R : Type 0} (v w : R → Option ℕ) (tried : R → Bool) where
-  pub same-decides : (rows : List R) → ((r : R) → List·Memᴰ r rows → tried r ≡ true → v r ≡ w r) → firstRow v (select tried rows) ≡ firstRow w (select tried rows)
+-- Two ways to try rows and to compute what they return decide alike: each row is tried by both or by neither, and returns the same where it
+-- is tried; or one finds nothing where the other does not try.
+module _ {R : Type 0} (v w : R → Option ℕ) (tried also-tried : R → Bool) where
+  abbrev pub Alike : R → Type 0
+  Alike r = ((tried r ≡ also-tried r) × (tried r ≡ true → v r ≡ w r)) ⊎ ((v r ≡ none) × (also-tried r ≡ false))
+
+  pub alike-decides : (rows : List R) → ((r : R) → List·Memᴰ r rows → Alike r) → firstRow v (select tried rows) ≡ firstRow w (select also-tried rows)
   unfolding select firstRow
-  same-decides [] same = refl
-  same-decides (r ∷ rows) same = go (tried r) refl (same-decides rows (λ s m. same s (List·Memᴰ·tail m)))
+  alike-decides [] alike = refl
+  alike-decides (r ∷ rows) alike = go (alike r (List·Memᴰ·head refl)) (alike-decides rows (λ s m. alike s (List·Memᴰ·tail m)))
     where
-      here : (o : Option ℕ) → firstRow v (select tried rows) ≡ firstRow w (select tried rows) →
+      here : (o : Option ℕ) → firstRow v (select tried rows) ≡ firstRow w (select also-tried rows) →
           _≡_ {A = Option (Decided R)} (elim o as (λ _. Option (Decided R)) [ some x ↦ some (decided r x) | none ↦ firstRow v (select tried rows) ])
-          (elim o as (λ _. Option (Decided R)) [ some x ↦ some (decided r x) | none ↦ firstRow w (select tried rows) ])
+          (elim o as (λ _. Option (Decided R)) [ some x ↦ some (decided r x) | none ↦ firstRow w (select also-tried rows) ])
       here (some x) f = refl
       here none f = f
 
-      go : (b : Bool) → tried r ≡ b → firstRow v (select tried rows) ≡ firstRow w (select tried rows) → firstRow v (keepIf b r (select tried rows)) ≡ firstRow w (keepIf b r (select tried rows))
-      go true t f = rw (same r (List·Memᴰ·head refl) t) (here (w r) f)
-      go false t f = f
+      both : (b : Bool) → tried r ≡ b → (tried r ≡ true → v r ≡ w r) → firstRow v (select tried rows) ≡ firstRow w (select also-tried rows) →
+          firstRow v (keepIf b r (select tried rows)) ≡ firstRow w (keepIf b r (select also-tried rows))
+      both true t same f = rw (same t) (here (w r) f)
+      both false t same f = f
+
+      left : (b : Bool) → v r ≡ none → firstRow v (select tried rows) ≡ firstRow w (select also-tried rows) → firstRow v (keepIf b r (select tried rows)) ≡ firstRow w (select also-tried rows)
+      left true n f = rw (n, firstRow) f
+      left false n f = f
+
+      go : Alike r → firstRow v (select tried rows) ≡ firstRow w (select also-tried rows) → firstRow v (keepIf (tried r) r (select tried rows)) ≡ firstRow w (keepIf (also-tried r) r (select also-tried rows))
+      go (inl (e, same)) f = rw (← e) (both (tried r) refl same f)
+      go (inr (n, e)) f = rw (e) (left (tried r) n f)
+
+-- with the same rows tried
+pub same-decides : {R : Type 0} (v w : R → Option ℕ) (tried : R → Bool) (rows : List R) → ((r : R) → List·Memᴰ r rows → tried r ≡ true → v r ≡ w r) → firstRow v (select tried rows) ≡ firstRow w (select tried rows)
+same-decides v w tried rows same = alike-decides v w tried tried rows (λ r m. inl (refl, same r m))

@@ -14,7 +14,7 @@ use Rattle.lfa.specs.Space.{Protected}
 use Rattle.lfa.specs.Ranks.{isArrangement}
 use Rattle.lfa.specs.Repair.{Pair, serves, pairs, mayCross, noLater, earlier, choose, pairKey, firstPair, Told, Outcome, prefixUnreachable, prefixUntouched, noneServes, serving, outcomeOf, linkOutcome, prefixOutcome}
 use Rattle.lfa.specs.Question.{Question, Call, load, fill, space, linkRepair, prefixRepair, route, withRanks, networkAsked, linkAsked, prefixAsked, withDistances, linkFound, prefixFound, searched, ifNone}
-use Rattle.lfa.specs.Refusal.{shortArea, shortBuffer, badRanks, noSuchLink, noSuchPrefix, Row, ofFile, early, noPair, returned, sizedReturned}
+use Rattle.lfa.specs.Refusal.{shortArea, wrongTable, shortBuffer, badRanks, noSuchLink, noSuchPrefix, Row, ofFile, early, noPair, returned, sizedReturned}
 use Rattle.lfa.specs.Answer.{repairAnswer, routeAnswer, computed}
 use Rattle.lfa.specs.Demands.{SameKind, one-answer, two-repairs, two-routes}
 
@@ -107,23 +107,24 @@ module _ (q : Question) (ranks : List ℕ) where
   last-alike load = refl
   last-alike fill = refl
   last-alike (space s) = refl
-  last-alike linkRepair = none-alike link-found-alike
-  last-alike prefixRepair = none-alike prefix-found-alike
-  last-alike route = none-alike prefix-found-alike
+  last-alike (linkRepair from) = none-alike link-found-alike
+  last-alike (prefixRepair from) = none-alike prefix-found-alike
+  last-alike (route from) = none-alike prefix-found-alike
 
   pub computed-alike : (c : Call) → SameKind (computed q c) (computed other c)
   computed-alike load = unfold computed in one-answer refl
   computed-alike fill = unfold computed in one-answer refl
   computed-alike (space s) = unfold computed withDistances networkAsked linkAsked withRanks in one-answer refl
-  computed-alike linkRepair = unfold computed in repairs-alike link-found-alike
-  computed-alike prefixRepair = unfold computed in repairs-alike prefix-found-alike
-  computed-alike route = unfold computed in routes-alike _ _ prefix-found-alike
+  computed-alike (linkRepair from) = unfold computed in repairs-alike link-found-alike
+  computed-alike (prefixRepair from) = unfold computed in repairs-alike prefix-found-alike
+  computed-alike (route from) = unfold computed in routes-alike _ _ prefix-found-alike
 
   -- only row 15 looks at the ranks
   pub returned-alike : (r : Row) → (r ≡ early badRanks → isArrangement (q .ranks) ≡ isArrangement ranks) → returned q r ≡ returned other r
-  unfolding returned sizedReturned withRanks
+  unfolding returned sizedReturned networkAsked withRanks
   returned-alike (ofFile r) same = refl
   returned-alike (early shortArea) same = refl
+  returned-alike (early wrongTable) same = refl
   returned-alike (early shortBuffer) same = refl
   returned-alike (early badRanks) same = ap (λ (b : Bool). unless b 0) (same refl)
   returned-alike (early noSuchLink) same = refl

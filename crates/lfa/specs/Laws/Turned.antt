@@ -9,7 +9,8 @@ use mathlib.Core.List.{List, [], _∷_, _++_, map, map-append, List·Memᴰ}
 use native.Mathlib.Omega.{arith}
 use Rattle.lfa.specs.Lists.{select, keepIf}
 use Rattle.lfa.specs.File.{Bytes, byteAt, routersOf, linksOf, prefixesOf}
-use Rattle.lfa.specs.Question.{Question, Buffer, workArea, routeBuffer, loading}
+use Rattle.lfa.specs.Question.{Question, Buffer, workArea, routeBuffer, loading, networkAsked}
+use Rattle.lfa.specs.Distance.{holdsDistances}
 use Rattle.lfa.specs.Refusal.{FileRow, EarlyRow, EarlyApplies, Row, ofFile, early, noPair, asLent, leavesAll, earlyNumber, entryOf, earlyRows, questionRows, tries, triesEarly, returned, Decided, decided, firstRow, inFile, inEarly, orLater, earlyRefusal, fileRefusal, refusalOf, Posed, sizedReturned}
 use Rattle.lfa.specs.Answer.{Answer, refused, accepted, refusal, earlyAnswer, computed, answerTo, leave, exitBy, exitOf, workAfter, routeAfter}
 use Rattle.lfa.specs.Laws.List.{select-make}
@@ -74,7 +75,7 @@ load-accepts b e = go (fileRefusal b) refl (sym (load-answer b) ∙ e)
 
 -- what the early rows return of a question
 abbrev EarlyReturned : Question → EarlyRow → Option ℕ
-EarlyReturned q = sizedReturned (routersOf (q .file)) (linksOf (q .file)) (prefixesOf (q .file)) q
+EarlyReturned q = sizedReturned (routersOf (q .file)) (linksOf (q .file)) (prefixesOf (q .file)) (holdsDistances (networkAsked q) (q .table)) q
 
 -- among the rows of the table the early rows decide as they do among themselves
 early-decides : (q : Question) (rows : List EarlyRow) → firstRow (returned q) (select (tries (q .call)) (map early rows)) ≡ inEarly (firstRow (EarlyReturned q) (select (triesEarly (q .call)) rows))

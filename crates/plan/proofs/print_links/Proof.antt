@@ -1,4 +1,4 @@
--- The invariant: `link` is at most the number of links, and the work area keeps its length. The measure is the number of links left.
+-- The invariant: `link` is at most the number of links, and the table keeps its length. The measure is the number of links left.
 -- Assumes nothing.
 use mathlib.Core.Path.{_≡_}
 use Prim.Native.Nat.{_-_, _≤_}
@@ -8,10 +8,16 @@ use Rattle.plan.proofs.print_links.Statement.{statement}
 use Rattle.plan.proofs.print_links.Tie as tie
 
 abbrev Inv-loop : tie.InvT-loop
-Inv-loop file network work₀ links link₀ work link = (link ≤ links) × (4096 ≡ length work)
+Inv-loop file network table links link₀ link = (link ≤ links) × (4096 ≡ length table)
 
 abbrev μ-loop : tie.MeasureT-loop
-μ-loop file network work₀ links link₀ work link = links - link
+μ-loop file network table links link₀ link = links - link
+
+slice-aggregate-distances : tie.Need-slice-aggregate-distances Inv-loop μ-loop
+slice-aggregate-distances c = search needs
+
+distances-requires : tie.Need-distances-requires Inv-loop μ-loop
+distances-requires c κs = search needs
 
 loop-holds : tie.Need-loop-holds Inv-loop μ-loop
 loop-holds c = search needs
@@ -46,6 +52,8 @@ print-links-spec =
     (tie.spec
     Inv-loop
     μ-loop
+    slice-aggregate-distances
+    distances-requires
     loop-holds
     slice-aggregate-print-ends
     element-copy-out-print-ends

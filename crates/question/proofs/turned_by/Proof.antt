@@ -27,6 +27,9 @@ enum-told c = search needs
 enum-told-2 : tie.Need-enum-told-2
 enum-told-2 c = search needs
 
+enum-told-3 : tie.Need-enum-told-3
+enum-told-3 c = search needs
+
 returns : tie.Need-returns
 unfolding rowDecided inEarly rowOf turnedRow
 returns c = sym (ap (λ (r : Row). inEarly (rowDecided r)) (c .before .row .given .1))
@@ -51,6 +54,10 @@ returns-6 : tie.Need-returns-6
 unfolding rowDecided inEarly rowOf turnedRow
 returns-6 c = sym (ap (λ (r : Row). inEarly (rowDecided r)) (c .enum-told2 .given .1))
 
+returns-7 : tie.Need-returns-7
+unfolding rowDecided inEarly rowOf turnedRow
+returns-7 c = sym (ap (λ (r : Row). inEarly (rowDecided r)) (c .enum-told3 .given .1))
+
 pub turned-by-spec : {M : Type 1} → statement M
 turned-by-spec =
     tie.close
@@ -61,9 +68,11 @@ turned-by-spec =
     enum-known-row-4
     enum-told
     enum-told-2
+    enum-told-3
     returns
     returns-2
     returns-3
     returns-4
     returns-5
-    returns-6)
+    returns-6
+    returns-7)

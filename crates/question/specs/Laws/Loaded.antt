@@ -18,7 +18,6 @@ use Rattle.metric.specs.Fit.{ColumnsWithin}
 use Rattle.metric.specs.Columns.{InColumns}
 use Rattle.metric.specs.Laws.Columns.{limits-columns}
 use Rattle.network_file.specs.declared.Loaded.{Loaded}
-use Rattle.network_file.specs.declared.Verdict.the-variants as verdict
 use Rattle.network_file.specs.Load.{answerOf}
 use Rattle.lfa.specs.Question.{loading}
 use Rattle.lfa.specs.Laws.FileRows.{load-accepted}

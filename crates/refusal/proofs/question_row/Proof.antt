@@ -50,6 +50,12 @@ enum-told-2 c = search needs
 numbered-requires-6 : tie.Need-numbered-requires-6
 numbered-requires-6 c κs = search needs
 
+enum-told-3 : tie.Need-enum-told-3
+enum-told-3 c = search needs
+
+numbered-requires-7 : tie.Need-numbered-requires-7
+numbered-requires-7 c κs = search needs
+
 returns : tie.Need-returns
 unfolding refusalAnswer rowOf faultOf
 returns c = rw (c .before .before .refusal .given .1) (c .file-row .ensures)
@@ -78,6 +84,10 @@ returns-7 : tie.Need-returns-7
 unfolding refusalAnswer rowOf refusal entryOf
 returns-7 c = rw (c .before .enum-told2 .given .1) (c .numbered6 .ensures)
 
+returns-8 : tie.Need-returns-8
+unfolding refusalAnswer rowOf refusal entryOf
+returns-8 c = rw (c .before .enum-told3 .given .1) (c .numbered7 .ensures)
+
 pub question-row-spec : {M : Type 1} → statement M
 question-row-spec =
     tie.close
@@ -96,10 +106,13 @@ question-row-spec =
     numbered-requires-5
     enum-told-2
     numbered-requires-6
+    enum-told-3
+    numbered-requires-7
     returns
     returns-2
     returns-3
     returns-4
     returns-5
     returns-6
-    returns-7)
+    returns-7
+    returns-8)

@@ -1,19 +1,20 @@
 -- `repair::ask_space` meets its contract. The rows decide in their order, then the search part answers.
 -- Assumes nothing.
 use Prim.Native.Nat.{ℕ, _<_}
-use mathlib.Core.Path.{refl}
+use mathlib.Core.Path.{refl, ap, _∙_}
 use mathlib.Core.List.{[]}
 use native.Mathlib.Omega.{arith}
 use lib.ListN.{length}
 use Rattle.lfa.specs.File.{byteAt}
 use Rattle.lfa.specs.Ranks.{isArrangement}
 use Rattle.lfa.specs.Question.{Question, askSpace}
+use Rattle.lfa.specs.Answer.{set}
 use Rattle.search.specs.Spaces.{spaceNamed}
 use Rattle.rows.specs.Rows.{callOf, questionAbout}
-use Rattle.question.specs.Turning.{Judges}
+use Rattle.question.specs.Turning.{workCells, Poses}
 use Rattle.answers.specs.Answer.{spaceAnswer}
 use Rattle.question.specs.Laws.Posed.{refused-answered}
-use Rattle.repair.specs.Laws.Answered.{space-answered}
+use Rattle.repair.specs.Laws.Answered.{space-answered, area-left}
 use borrow.Author.Needs.{needs}
 use Rattle.repair.proofs.ask_space.Statement.{statement}
 use Rattle.repair.proofs.ask_space.Tie as tie
@@ -25,8 +26,8 @@ pose-requires c κs = search needs
 abbrev asked : tie.After-pose → Question
 asked l = let a = l .before .before .before .before .args in askSpace (spaceNamed (a .which)) (a .file .now) (length (a .work .now)) (a .link) (a .end)
 
-judged : (l : tie.After-pose) → Judges (asked l) (l .pose .result .turned) (l .pose .result .network) (l .before .before .before .before .args .work .now) (l .pose .last .1 .1 .0)
-unfolding askSpace questionAbout callOf isArrangement
+judged : (l : tie.After-pose) → Poses (asked l) (l .pose .result .turned) (l .pose .result .network) (l .before .before .before .before .args .work .now) (l .pose .last .1 .1 .0)
+unfolding askSpace questionAbout callOf workCells isArrangement
 judged l = l .pose .ensures _ [] [] refl
 
 bytes : (l : tie.After-pose) (i : ℕ) → byteAt (asked l .file) i < 256
@@ -57,7 +58,7 @@ unfolding spaceAnswer askSpace
 returns-2 c =
     let told = c .before .before .before in
     let l = told .before .before .before .before in
-    space-answered (judged l) (bytes l) (told .enum-told .given .1) _ refl (c .space-in .ensures)
+    record { answer-is = ap set (c .space-in .ensures) ∙ space-answered (judged l) (bytes l) (told .enum-told .given .1) _ refl; area-is = area-left (judged l) (bytes l) }
 
 pub ask-space-spec : {M : Type 1} → statement M
 ask-space-spec =

@@ -10,10 +10,10 @@ use Rattle.lfa.specs.Space.{pSpace}
 use Rattle.lfa.specs.Ranks.{isArrangement}
 use Rattle.lfa.specs.Question.{Question, filling}
 use Rattle.rows.specs.Rows.{callOf, questionAbout}
-use Rattle.question.specs.Turning.{Judges}
+use Rattle.question.specs.Turning.{workCells, Poses}
 use Rattle.answers.specs.Answer.{filledAnswer}
 use Rattle.question.specs.Laws.Posed.{refused-answered}
-use Rattle.repair.specs.Laws.Answered.{done-answered}
+use Rattle.repair.specs.Laws.Answered.{done-answered, area-left}
 use borrow.Author.Needs.{needs}
 use Rattle.repair.proofs.distances.Statement.{statement}
 use Rattle.repair.proofs.distances.Tie as tie
@@ -25,8 +25,8 @@ pose-requires c κs = search needs
 abbrev asked : tie.After-pose → Question
 asked l = let a = l .before .before .before .before .args in filling (a .file .now) (length (a .work .now))
 
-judged : (l : tie.After-pose) → Judges (asked l) (l .pose .result .turned) (l .pose .result .network) (l .before .before .before .before .args .work .now) (l .pose .last .1 .1 .0)
-unfolding filling questionAbout callOf isArrangement
+judged : (l : tie.After-pose) → Poses (asked l) (l .pose .result .turned) (l .pose .result .network) (l .before .before .before .before .args .work .now) (l .pose .last .1 .1 .0)
+unfolding filling questionAbout callOf workCells isArrangement
 judged l = l .pose .ensures pSpace [] [] refl
 
 bytes : (l : tie.After-pose) (i : ℕ) → byteAt (asked l .file) i < 256
@@ -51,7 +51,7 @@ same-length-2 c = search needs
 
 returns-2 : tie.Need-returns-2
 unfolding filledAnswer filling
-returns-2 c = let l = c .before .before .before .before in done-answered (judged l) (bytes l) (c .enum-told .given .1) refl
+returns-2 c = let l = c .before .before .before .before in record { answer-is = done-answered (judged l) (bytes l) (c .enum-told .given .1) refl; area-is = area-left (judged l) (bytes l) }
 
 pub distances-spec : {M : Type 1} → statement M
 distances-spec =

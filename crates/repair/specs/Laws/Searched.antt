@@ -12,7 +12,7 @@ use Rattle.lfa.specs.File.{networkOf}
 use Rattle.lfa.specs.Distance.{distances, distanceIn, filled}
 use Rattle.lfa.specs.Space.{underMaintenance, Protected, protected, Space, spaceOf}
 use Rattle.lfa.specs.Repair.{linkOutcome, prefixOutcome}
-use Rattle.lfa.specs.Question.{Question, workArea, aLink, aPrefix, lent, HasInput, networkAsked, linkAsked, prefixAsked, withDistances, linkFound, prefixFound}
+use Rattle.lfa.specs.Question.{Question, someCells, aLink, aPrefix, HasInput, networkAsked, linkAsked, prefixAsked, withDistances, linkFound, prefixFound}
 use Rattle.lfa.specs.Refusal.{Posed}
 use Rattle.lfa.specs.Laws.Accepted.{link-count, prefix-count}
 use Rattle.lfa.specs.Laws.Network.{LinksSound, limits-links, limits-sound, limits-distances, limits-named}
@@ -42,22 +42,22 @@ known-filled net links-sound area long l e h = record {
 same-known : {n n′ : ℕ} {hops hops′ : List Arc} {q q′ : Protected} {area area′ : List ℕ} → n ≡ n′ → hops ≡ hops′ → q ≡ q′ → area ≡ area′ → Known n′ hops′ q′ area′ → Known n hops q area
 same-known e₁ e₂ e₃ e₄ known = rw (e₁, e₂, e₃, e₄) known
 
-module _ {q : Question} (p : Posed q) {network : Network} (t : Taken (q .file) network) (area : List ℕ) (cells-are : q .area ≡ length area) (limit-is : q .maintenance ≡ underMaintenance) {after : List ℕ} (full : after ≡ filled (networkOf (q .file)) area) (h : HasInput q aLink) where
+module _ {q : Question} (p : Posed q) {network : Network} (t : Taken (q .file) network) (area : List ℕ) (cells-are : q .cells ≡ length area) (limit-is : q .maintenance ≡ underMaintenance) {after : List ℕ} (full : after ≡ filled (networkOf (q .file)) area) (h : HasInput q aLink) where
   link-there : q .link < length (networkOf (q .file) .links)
   unfolding networkAsked
   link-there = p .link h
 
-  enough : HasInput q (lent workArea) → networkOf (q .file) .routers * networkOf (q .file) .routers ≤ length area
+  enough : HasInput q someCells → networkOf (q .file) .routers * networkOf (q .file) .routers ≤ length area
   unfolding networkAsked
-  enough has-area = omega (arith, cells-are, p .area has-area)
+  enough has-cells = omega (arith, cells-are, p .cells has-cells)
 
   -- the search part's test passes
-  asking : HasInput q (lent workArea) → Asking network (q .link) (q .end) after
-  asking has-area = record {
+  asking : HasInput q someCells → Asking network (q .link) (q .end) after
+  asking has-cells = record {
     link-in = rw (links-are t, ← link-count (q .file) (t .is-accepted)) link-there;
     within = columns-within t;
     known = same-known (routers-same t) (hops-are t) (protected-is t (q .link) (q .end) link-there) full
-        (known-filled (networkOf (q .file)) (limits-links (limits t)) area (enough has-area) (q .link) (q .end) link-there);
+        (known-filled (networkOf (q .file)) (limits-links (limits t)) area (enough has-cells) (q .link) (q .end) link-there);
   }
 
   -- what is computed over the columns and the area is computed over the network and its distances
@@ -73,15 +73,15 @@ module _ {q : Question} (p : Posed q) {network : Network} (t : Taken (q .file) n
           n ≡ n′ → hops ≡ hops′ → d ≡ d′ → r ≡ r′ → F n hops d r ≡ F n′ hops′ d′ r′
       same F e₁ e₂ e₃ e₄ = rw (e₁, e₂, e₃, e₄)
 
-  module _ (has-area : HasInput q (lent workArea)) where
+  module _ (has-cells : HasInput q someCells) where
     -- The space, the pair of a link and the pair of a prefix are document 01's.
     pub space-searched : (s : Space) → spaceBy s network (q .link) (q .end) after ≡ withDistances (networkAsked q) (λ d. spaceOf s (networkAsked q .routers) (arcs (networkAsked q)) d (linkAsked q))
     unfolding withDistances
-    space-searched s = space-found (asking has-area) s ∙ of-network (λ n hops d r. spaceOf s n hops d r)
+    space-searched s = space-found (asking has-cells) s ∙ of-network (λ n hops d r. spaceOf s n hops d r)
 
     pub link-searched : linkBy network (q .ranks) (q .link) (q .end) after ≡ linkFound q
     unfolding linkFound withDistances
-    link-searched = link-found (asking has-area) (q .ranks) ∙ of-network (λ n hops d r. linkOutcome (q .ranks) n hops d r)
+    link-searched = link-found (asking has-cells) (q .ranks) ∙ of-network (λ n hops d r. linkOutcome (q .ranks) n hops d r)
 
     pub prefix-searched : HasInput q aPrefix → prefixBy network (q .ranks) (q .link) (q .end) (q .prefix) after ≡ prefixFound q
     unfolding prefixFound withDistances prefixAsked networkAsked
@@ -89,6 +89,6 @@ module _ {q : Question} (p : Posed q) {network : Network} (t : Taken (q .file) n
         let x-in : q .prefix < network .prefixes = rw (prefixes-are t, ← prefix-count (q .file) (t .is-accepted)) (p .prefix has-prefix) in
         let to = slotsIn (network .at) (network .own) (8 * q .prefix) (getD (network .attached) (q .prefix) 0) in
         let net = networkOf (q .file) in
-        prefix-found (asking has-area) (q .ranks) (q .prefix) (prefix-cell t (q .prefix) x-in) (prefix-slots t (q .prefix) x-in refl)
+        prefix-found (asking has-cells) (q .ranks) (q .prefix) (prefix-cell t (q .prefix) x-in) (prefix-slots t (q .prefix) x-in refl)
         ∙ of-network (λ n hops d r. prefixOutcome (q .ranks) n hops d r to)
         ∙ ap (λ (to : lfa.Target). prefixOutcome (q .ranks) (net .routers) (arcs net) (distanceIn (distances net)) (linkAsked q) to) (prefix-target t (q .prefix) x-in refl)

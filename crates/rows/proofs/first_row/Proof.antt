@@ -10,7 +10,7 @@ use Rattle.lfa.specs.Lists.{unless}
 use Rattle.lfa.specs.Refusal.{entryOf, earlyRows, tries, sizedReturned}
 use Rattle.rows.specs.declared.Inputs.{Inputs}
 use Rattle.rows.specs.Rows.{questionAbout, inputsIn, rowDecided}
-use Rattle.rows.specs.Laws.{has-area}
+use Rattle.rows.specs.Laws.{has-cells}
 use Rattle.rows.proofs.RowLaws.{no-row, row-before, found-first}
 use borrow.Author.Needs.{needs}
 use Rattle.rows.proofs.first_row.Statement.{statement}
@@ -22,8 +22,8 @@ inputs-of-requires c κs = search needs
 wide-requires : tie.Need-wide-requires
 wide-requires c κs = search needs
 
-mul-cells : tie.Need-mul-cells
-mul-cells c =
+mul-square : tie.Need-mul-square
+mul-square c =
     let few : c .wide .result ≤ 255 = omega (arith, c .wide .ensures) in
     record { fits = omega (arith, mul-le-mul few few) }
 
@@ -48,10 +48,14 @@ or-row-requires-4 c κs = search needs
 or-row-requires-5 : tie.Need-or-row-requires-5
 or-row-requires-5 c κs = search needs
 
+or-row-requires-6 : tie.Need-or-row-requires-6
+or-row-requires-6 c κs = search needs
+
 returns : tie.Need-returns
 unfolding rowDecided questionAbout inputsIn earlyRows tries entryOf sizedReturned
-returns c = λ b s choices ranks e.
-    let row11 = c .before in
+returns c = λ b s table choices ranks e.
+    let row18 = c .before .before in
+    let row11 = row18 .before in
     let row15 = row11 .before .before in
     let row12 = row15 .before in
     let row13 = row12 .before in
@@ -59,11 +63,12 @@ returns c = λ b s choices ranks e.
     let a = w .before .before .args in
     let has = w .before .inputs-of .ensures s in
     found-first _ _
-    (row-before _ _ _ (c .or-row5 .ensures) (sym (has-area (a .asked .call) s)) (ap (λ (k : ℕ). unless (leb (k * k) (a .area)) (k * k)) (w .wide .ensures)) refl
+    (row-before _ _ _ (c .or-row6 .ensures) (sym (has-cells (a .asked .call) (a .cells .given) s)) (ap (λ (k : ℕ). unless (leb (k * k) (a .cells .count)) (k * k)) (w .wide .ensures)) refl
+    (row-before _ _ _ (row18 .or-row5 .ensures) (ap (λ (i : Inputs). i .table) has) refl refl
     (row-before _ _ _ (row11 .or-row4 .ensures) (ap (λ (i : Inputs). i .buffer) has) (ap (λ (k : ℕ). unless (leb (2 * k) (a .asked .buffer)) (2 * k)) (w .wide .ensures)) refl
     (row-before _ _ _ (row15 .or-row3 .ensures) (ap (λ (i : Inputs). i .ranks) has) (ap (λ (t : Bool). unless t 0) (sym e)) refl
     (row-before _ _ _ (row12 .or-row2 .ensures) (ap (λ (i : Inputs). i .link) has) (ap (λ (t : Bool). unless t (a .links)) (row13 .before .before .named .ensures)) refl
-    (row-before _ _ _ (row13 .or-row .ensures) (ap (λ (i : Inputs). i .prefix) has) refl refl no-row)))))
+    (row-before _ _ _ (row13 .or-row .ensures) (ap (λ (i : Inputs). i .prefix) has) refl refl no-row))))))
 
 pub first-row-spec : {M : Type 1} → statement M
 first-row-spec =
@@ -71,7 +76,7 @@ first-row-spec =
     (tie.spec
     inputs-of-requires
     wide-requires
-    mul-cells
+    mul-square
     mul-bytes
     named-requires
     or-row-requires
@@ -79,4 +84,5 @@ first-row-spec =
     or-row-requires-3
     or-row-requires-4
     or-row-requires-5
+    or-row-requires-6
     returns)

@@ -72,8 +72,35 @@ fn number(number: u64) -> usize {
     number.try_into().unwrap()
 }
 
+/// The planner's answer to a second call, which has a table in place of the work area.
+fn second(
+    file: &[u8],
+    table: &[u32],
+    question: &Question,
+    route: &mut [u8],
+) -> Result<Answer, Refusal> {
+    match *question {
+        Question::LinkRepair { ref ranks, link, end, .. } => {
+            planner::link_repair_with(file, table, ranks, number(link), number(end)).map(pair)
+        }
+        Question::PrefixRepair { ref ranks, link, end, prefix, .. } => {
+            let (link, end, prefix) = (number(link), number(end), number(prefix));
+            planner::prefix_repair_with(file, table, ranks, link, end, prefix).map(repair)
+        }
+        Question::Route { ref ranks, link, end, prefix, ref choices, .. } => {
+            let (link, end, prefix) = (number(link), number(end), number(prefix));
+            planner::route_with(file, table, ranks, link, end, prefix, choices, route).map(played)
+        }
+        _ => panic!("repairs and routes alone have a table"),
+    }
+}
+
 /// The planner's answer to a question, or none where it has no such call.
 fn asked(file: &[u8], question: &Question, lent: &mut Buffers) -> Option<Answer> {
+    if let Some(table) = question.table() {
+        let answer = second(file, table, question, &mut lent.route);
+        return Some(answer.unwrap_or_else(refused));
+    }
     let work = &mut lent.work;
     let answer = match *question {
         Question::Load => planner::load(file).map(accepted),
@@ -89,14 +116,14 @@ fn asked(file: &[u8], question: &Question, lent: &mut Buffers) -> Option<Answer>
             call(file, work, number(link), number(end)).map(|set| Answer::Set(set.0))
         }
         Question::Size { set } => Ok(Answer::Size(Set(set).size())),
-        Question::LinkRepair { ref ranks, link, end } => {
+        Question::LinkRepair { ref ranks, link, end, .. } => {
             planner::link_repair(file, work, ranks, number(link), number(end)).map(pair)
         }
-        Question::PrefixRepair { ref ranks, link, end, prefix } => {
+        Question::PrefixRepair { ref ranks, link, end, prefix, .. } => {
             let (link, end, prefix) = (number(link), number(end), number(prefix));
             planner::prefix_repair(file, work, ranks, link, end, prefix).map(repair)
         }
-        Question::Route { ref ranks, link, end, prefix, ref choices } => {
+        Question::Route { ref ranks, link, end, prefix, ref choices, .. } => {
             let (link, end, prefix) = (number(link), number(end), number(prefix));
             let route = &mut lent.route;
             planner::route(file, work, ranks, link, end, prefix, choices, route).map(played)

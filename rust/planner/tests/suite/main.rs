@@ -11,5 +11,6 @@ mod outputs;
 mod pages;
 mod ranks;
 mod refusals;
+mod tables;
 mod texts;
 mod worked;

@@ -74,17 +74,12 @@ impl Fault {
         Fault::SendsByTwoFiles,
     ];
 
-    /// The faults that no call shows. Each leg of a pair starts at n or y, and neither
+    /// Whether no call shows the fault. Each leg of a pair starts at n or y, and neither
     /// is E, so that the first shows in the visits of a walk alone. The others show in
     /// the trails of packets.
-    pub const IN_NO_CALL: [Fault; 6] = [
-        Fault::StartNotVisited,
-        Fault::NotDownstreamSent,
-        Fault::TunnelSentPlain,
-        Fault::OtherPrefixStepSent,
-        Fault::LinkRepairSent,
-        Fault::SendsByTwoFiles,
-    ];
+    pub fn is_in_no_call(self) -> bool {
+        self == Fault::StartNotVisited || Fault::OF_FAILURES.contains(&self)
+    }
 
     /// The ways to add the check up wrongly.
     pub const OF_CHECK: [Fault; 7] = [
@@ -137,6 +132,35 @@ impl Fault {
         Fault::LimitTight(Limit::LeastRanks),
         Fault::LimitTight(Limit::MostRanks),
         Fault::LimitTight(Limit::Rank),
+    ];
+
+    /// The ways to take tables wrongly: in a second call, and where a single call fills
+    /// its work area as the two calls one after the other would.
+    pub const OF_TABLES: [Fault; 24] = [
+        Fault::TableDiagonalNotCompared,
+        Fault::TableLastRowNotCompared,
+        Fault::TableUnreachableNotCompared,
+        Fault::TableOnlyRowOfS,
+        Fault::TableOnlySlack,
+        Fault::TableOnlyTight,
+        Fault::TableDiagonalFree,
+        Fault::TableBeyondCompared,
+        Fault::TableByDestination,
+        Fault::TableIgnored,
+        Fault::TableTriedAfterRanks,
+        Fault::TableTriedLast,
+        Fault::TableLengthExact,
+        Fault::EighteenReturnsCell,
+        Fault::EighteenWritesRoute,
+        Fault::RowDropped(18),
+        Fault::RowsSwapped(10),
+        Fault::RowsSwapped(18),
+        Fault::CauseIgnored(Cause::TableShort),
+        Fault::CauseIgnored(Cause::TableOther),
+        Fault::LimitLoose(Limit::Table),
+        Fault::LimitTight(Limit::Table),
+        Fault::RouteBufferTriedFirst,
+        Fault::FilledBeforeQuestion,
     ];
 
     /// The ways to make a drill wrongly.

@@ -22,6 +22,7 @@ listed! {
         Attachments: "at most 8 attachments",
         AttachedRouter: "an attached router is below N",
         WorkArea: "the work area has at least N x N cells",
+        Table: "the table has at least N x N cells",
         RouteBuffer: "the route buffer has at least 2 x N bytes",
         LinkNumber: "a question's link is below L",
         EndNumber: "a question's end is at most 1",
@@ -44,7 +45,7 @@ macro_rules! faults {
         #[derive(Clone, Copy, Debug, PartialEq, Eq, PartialOrd, Ord, Hash)]
         pub enum Fault {
             $(#[doc = $words] $value,)+
-            /// The row of this number (1 to 15) is not tried.
+            /// The row of this number (1 to 15, or 18) is not tried.
             RowDropped(u8),
             /// This row (any but 14) and the one tried next are tried in the
             /// other order.
@@ -241,6 +242,28 @@ faults! {
     RanksTriedForPair: "row 15 is tried only where there is a pair to tell",
     FifteenFills: "15 leaves the distances in the work area",
     FifteenReturnsEight: "15 returns 8, the ranks needed",
+
+    // Second calls: which tables row 18 takes. The answer then goes by the numbers of the
+    // table, but for the last of these. That the row is not tried is said by `RowDropped`.
+    TableDiagonalNotCompared: "row 18 does not look at the cells from a router to itself",
+    TableLastRowNotCompared: "row 18 does not look at the row of the last router",
+    TableUnreachableNotCompared: "row 18 does not look at cells whose distance is unreachable",
+    TableOnlyRowOfS: "row 18 looks at the row of the repairing router S only",
+    TableOnlySlack: "row 18 asks for a diagonal of 0 and that no cell is above a cost plus the cell one hop on",
+    TableOnlyTight: "row 18 asks for a diagonal of 0 and that each finite cell is some cost plus the cell one hop on",
+    TableDiagonalFree: "row 18 asks that each finite cell is the least cost plus cell one hop on, not for a diagonal of 0",
+    TableBeyondCompared: "row 18 asks that each cell after the first N x N is 0",
+    TableByDestination: "a second call reads the table with row = destination",
+    TableIgnored: "a second call takes any table, and goes by the file's distances",
+
+    // Second calls: the order of the rows, the table's length, what 18 returns and writes.
+    // That row 18 is tried before row 10, or row 11 before row 18, is said by `RowsSwapped`.
+    TableTriedAfterRanks: "row 18 is tried after row 15",
+    TableTriedLast: "row 18 is tried after row 13",
+    RouteBufferTriedFirst: "row 11 is tried before row 10",
+    TableLengthExact: "row 10 refuses a table of more than N x N cells too",
+    EighteenReturnsCell: "18 returns the number of the first cell that is not the distance",
+    EighteenWritesRoute: "18 clears the first 2 x N bytes of the route buffer",
 
     // Played routes.
     OptionsDescending: "next routers stand in descending order",

@@ -51,6 +51,39 @@ pub fn answered(opened: &Opened, lent: &Buffers, label: &str, question: &Questio
     format!("{label} {}", words::short(&opened.ask(question, lent)))
 }
 
+/// The line of a route question: its name, its numbers, its answer, and whether the
+/// bytes after the written ones are kept.
+pub fn played(opened: &Opened, lent: &Buffers, label: &str, question: &Question) -> String {
+    let outcome = opened.ask(question, lent);
+    let written = match outcome.answer {
+        Answer::Count(count) => count,
+        _ => 0,
+    };
+    let later = outcome.left.route.iter().skip(written);
+    let later = kept(later.eq(lent.route.iter().skip(written)));
+    format!("{label} {} {later}", words::short(&outcome))
+}
+
+/// The sum of answers that stand as numbers, in their order.
+pub fn summed(codes: impl Iterator<Item = u64>) -> u64 {
+    codes.fold(0, |sum: u64, code| sum.wrapping_mul(33).wrapping_add(code))
+}
+
+/// An answer to a repair question as a number.
+pub fn code(answer: &Answer) -> u64 {
+    match answer {
+        Answer::Unreachable => 1,
+        Answer::Untouched => 2,
+        Answer::Pair(pair) => {
+            let (hop, endpoint) = (pair.first_hop as u64, pair.endpoint as u64);
+            let (class, cost) = (pair.class as u64, pair.tunnel_cost as u64);
+            3 + hop * 0x100 + endpoint * 0x1_0000 + class * 0x100_0000 + cost * 0x1_0000_0000
+        }
+        Answer::Refused { number: 14, .. } => 0,
+        _ => 4,
+    }
+}
+
 /// The word for what a call leaves of a buffer that it is not to change.
 pub fn kept(as_before: bool) -> &'static str {
     if as_before { "kept" } else { "changed" }

@@ -21,6 +21,7 @@ pub mod programs;
 mod reading;
 mod repairs;
 mod routes;
+mod tables;
 
 use crate::answer::plan_text;
 use crate::fault::Context;

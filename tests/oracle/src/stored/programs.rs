@@ -8,7 +8,7 @@
 //! module. Every line ends with a newline.
 
 use super::cases::{Case, Cases};
-use super::{distances, drills, reading, repairs, routes};
+use super::{distances, drills, reading, repairs, routes, tables};
 use crate::answer::plan_text;
 use crate::fault::Context;
 
@@ -42,16 +42,18 @@ const READING: Section = Section { name: "reading", lines: reading::lines };
 const DISTANCES: Section = Section { name: "distances", lines: distances::lines };
 const REPAIRS: Section = Section { name: "repairs", lines: repairs::lines };
 const ROUTES: Section = Section { name: "routes", lines: routes::lines };
+const TABLES: Section = Section { name: "tables", lines: tables::lines };
 const PLAN: Section = Section { name: "plan", lines: plan_text };
 const DRILLS: Section = Section { name: "drills", lines: drills::lines };
 
 /// The sections about a stored case.
-pub const SECTIONS: &[Section] = &[READING, DISTANCES, REPAIRS, ROUTES];
+pub const SECTIONS: &[Section] = &[READING, DISTANCES, REPAIRS, ROUTES, TABLES];
 
 /// All programs.
 pub const PROGRAMS: &[Program] = &[
     Program { name: "stored_answers", reads: Reads::Cases, sections: &[READING, REPAIRS] },
     Program { name: "stored_buffers", reads: Reads::Cases, sections: &[DISTANCES, ROUTES] },
+    Program { name: "stored_tables", reads: Reads::Cases, sections: &[TABLES] },
     Program { name: "stored_drills", reads: Reads::Drills, sections: &[DRILLS] },
     Program { name: "plan", reads: Reads::Example("ring4"), sections: &[PLAN] },
 ];

@@ -50,8 +50,10 @@
 //! `untouched` or `pair HOP ENDPOINT CLASS COST`. The work area has 4,096
 //! cells.
 
-use super::common::{FARTHER_FIRST, TUNNELS_FIRST, answered, asked_whole, network, text};
-use crate::answer::{Answer, Buffers, Opened, Question};
+use super::common::{
+    FARTHER_FIRST, TUNNELS_FIRST, answered, asked_whole, code, network, summed, text,
+};
+use crate::answer::{Buffers, Opened, Question};
 use crate::batch::enough;
 use crate::fault::Context;
 use crate::ranks::{ASCENDING, WRONG};
@@ -118,10 +120,10 @@ fn prefix_repairs(
     (link, end): (u64, u64),
     prefixes: u64,
 ) -> u64 {
-    (0..prefixes).fold(0u64, |sum, prefix| {
+    summed((0..prefixes).map(|prefix| {
         let question = Question::prefix_repair(link, end, prefix).with_ranks(ranks);
-        sum.wrapping_mul(33).wrapping_add(code(&opened.ask(&question, lent).answer))
-    })
+        code(&opened.ask(&question, lent).answer)
+    }))
 }
 
 fn ranked_link_repair(opened: &Opened, lent: &Buffers, link: u64, end: u64) -> String {
@@ -137,19 +139,4 @@ fn wrong_link_ranks(opened: &Opened, lent: &Buffers, links: u64) -> Vec<String> 
         answered(opened, lent, &format!("wrong-link-ranks {table}"), &question)
     };
     WRONG.iter().enumerate().map(line).collect()
-}
-
-/// An answer as a number.
-fn code(answer: &Answer) -> u64 {
-    match answer {
-        Answer::Unreachable => 1,
-        Answer::Untouched => 2,
-        Answer::Pair(pair) => {
-            let (hop, endpoint) = (pair.first_hop as u64, pair.endpoint as u64);
-            let (class, cost) = (pair.class as u64, pair.tunnel_cost as u64);
-            3 + hop * 0x100 + endpoint * 0x1_0000 + class * 0x100_0000 + cost * 0x1_0000_0000
-        }
-        Answer::Refused { number: 14, .. } => 0,
-        _ => 4,
-    }
 }

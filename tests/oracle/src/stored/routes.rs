@@ -37,12 +37,11 @@
 //! if every byte after the written ones is 255 still, otherwise `changed`; no
 //! byte is to be written unless the answer is a count.
 
-use super::common::{TUNNELS_FIRST, kept, link_ends, network, route_prefixes, text};
-use crate::answer::{Answer, Buffers, Opened, Question};
+use super::common::{TUNNELS_FIRST, kept, link_ends, network, played, route_prefixes, text};
+use crate::answer::{Buffers, Opened, Question};
 use crate::batch::{choice_strings, enough};
 use crate::fault::Context;
 use crate::ranks::WRONG;
-use crate::words;
 
 /// The choice string that is asked once more with other ranks.
 const RANKED: usize = 3;
@@ -81,17 +80,4 @@ fn wrong_ranks(opened: &Opened, lent: &Buffers, links: u64) -> [String; 2] {
     let line = played(opened, lent, &format!("wrong-ranks {links} 0 0 0"), &question);
     let outcome = opened.ask(&question, lent);
     [line, kept(outcome.left.work == lent.work).to_string()]
-}
-
-/// The line of a question: its name, its numbers, its answer, and whether the
-/// bytes after the written ones are kept.
-fn played(opened: &Opened, lent: &Buffers, label: &str, question: &Question) -> String {
-    let outcome = opened.ask(question, lent);
-    let written = match outcome.answer {
-        Answer::Count(count) => count,
-        _ => 0,
-    };
-    let later = outcome.left.route.iter().skip(written);
-    let later = kept(later.eq(lent.route.iter().skip(written)));
-    format!("{label} {} {later}", words::short(&outcome))
 }

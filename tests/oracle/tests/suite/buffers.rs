@@ -1,4 +1,5 @@
-//! The rows 10 to 15, their order, and what every call leaves in every buffer.
+//! The rows 10 to 15, their order, and what every call leaves in every buffer. Second
+//! calls are in `tables`.
 
 use crate::common::{random_networks, refused};
 use oracle::answer::{Answer, Buffers, Opened, Question, ask};
@@ -97,6 +98,19 @@ fn untouched_and_unreachable_leave_the_distances_and_the_route_buffer() {
     }
 }
 
+/// Whether a call that is not turned away leaves the distances in the work area.
+fn fills(question: &Question) -> bool {
+    let looks_only = matches!(
+        question,
+        Question::Load
+            | Question::Plan
+            | Question::Size { .. }
+            | Question::LinkEntry { .. }
+            | Question::PrefixEntry { .. }
+    );
+    !looks_only && question.table().is_none()
+}
+
 /// What the table says of any outcome, without looking at how it came about.
 #[test]
 fn what_every_call_leaves() {
@@ -119,18 +133,10 @@ fn what_every_call_leaves() {
         let cells = distances.cells(&ctx);
         for (question, lent) in questions(&network, &mut random) {
             let outcome = opened.ask(&question, &lent);
-            let computes = !matches!(
-                question,
-                Question::Load
-                    | Question::Plan
-                    | Question::Size { .. }
-                    | Question::LinkEntry { .. }
-                    | Question::PrefixEntry { .. }
-            );
             let turned_away =
                 matches!(outcome.answer, Answer::Refused { number, .. } if number != 14);
             let mut work = lent.work.clone();
-            if computes && !turned_away {
+            if fills(&question) && !turned_away {
                 work[..cells.len()].copy_from_slice(&cells);
             }
             assert_eq!(outcome.left.work, work);

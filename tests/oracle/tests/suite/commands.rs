@@ -102,6 +102,35 @@ fn ranks() {
 }
 
 #[test]
+fn tables() {
+    let file = write(&ring_4_with_prefix());
+    let asks = |table, words: &[&str]| prints(&[&["--table", table, "ask"], words].concat(), &file);
+    let prefix = ["prefix-repair", "0", "0", "0"];
+    let right = "0,1,2,1,1,0,1,2,2,1,0,1,1,2,1,0";
+    let longer = format!("{right},4294967295");
+    for table in ["right", right, &longer] {
+        assert_eq!(asks(table, &prefix), "hop 3 endpoint 3 class 1 cost 1\n");
+        assert_eq!(asks(table, &["link-repair", "0", "0"]), "hop 3 endpoint 2 class 7 cost 2\n");
+        assert_eq!(asks(table, &["route", "0", "0", "0"]), "count 3 route 0 3 2\n");
+    }
+    assert_eq!(asks("0,1,2,1,1,0,1,2,2,1,0,1,1,2,1,1", &prefix), "refused 18 0\n");
+    assert_eq!(asks("0,1", &prefix), "refused 10 16\n");
+    // The distances, spaces and so on take no table.
+    assert_eq!(asks("0", &["q", "0", "0"]), "set 6 size 2 routers 1 2\n");
+    let words = ["--table", "right", "--work", "2", "--buffer", "2", "--left", "ask"];
+    let lone = write(&lone_router());
+    assert_eq!(
+        prints(&[&words[..], &["route", "0", "0", "0"]].concat(), &lone),
+        "refused 12 0\nwork area 4294967294 4294967294\nroute buffer 255 255\n"
+    );
+    assert_eq!(prints(&["--table", "right", "ask", "link-repair", "0", "0"], &[]), "refused 1 0\n");
+    for wrong in ["0,x", "", "0,,0", "4294967296", "Right"] {
+        let said = fails(&["--table", wrong, "ask", "load"], &file);
+        assert!(said.contains("is no number of 32 bits"), "{said}");
+    }
+}
+
+#[test]
 fn lent_buffers() {
     let file = write(&two_routers().prefix(&[(0, 3)]));
     let words = ["--work", "5", "--buffer", "4", "--left", "ask", "route", "0", "0", "0"];

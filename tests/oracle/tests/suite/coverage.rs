@@ -24,6 +24,9 @@ fn the_corpus_meets_everything() {
             let refusal = opened.refusal(&inputs(question, lent));
             met.extend(refusal.map(|refusal| format!("{:?}", refusal.cause)));
             met.insert(kind(&outcome.answer));
+            if question.table().is_some() {
+                met.insert(second(&kind(&outcome.answer)));
+            }
             met.extend(not_written(question));
             let extended = matches!(question, Question::Space { space: Space::ExtendedP, .. });
             if extended && half_blind.ask(question, lent).answer != outcome.answer {
@@ -71,6 +74,8 @@ fn everything() -> Vec<String> {
     ];
     let kinds = kinds.into_iter().map(str::to_string);
     let kinds = kinds.chain(Cause::OF_NETWORKS.map(outside_by));
+    let of_second = ["unreachable", "untouched", "pair", "count", "NoPair", "refused"];
+    let kinds = kinds.chain(of_second.map(second));
     let of_link = decisions(4..8).into_iter().flat_map(|decided| decision(&link, decided));
     let of_prefix = decisions(0..8).into_iter().flat_map(|decided| decision(&prefix, decided));
     let decisions = of_link.chain(of_prefix);
@@ -96,6 +101,11 @@ fn kind(answer: &Answer) -> String {
         Answer::Written(_) => "written",
     };
     kind.to_string()
+}
+
+/// What is met of a second call.
+fn second(kind: &str) -> String {
+    format!("second call: {kind}")
 }
 
 /// The causes that put a network outside the limits.

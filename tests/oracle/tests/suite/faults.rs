@@ -37,14 +37,13 @@ fn noticed(cases: &[(Case, Vec<Outcome>)], fault: Fault) -> Option<String> {
 #[test]
 fn every_fault_is_noticed() {
     let cases = with_expected();
-    let mut unnoticed = Vec::new();
     for fault in Fault::all() {
-        match noticed(cases, fault) {
-            Some(by) => println!("{} is noticed by {by}", fault.name()),
-            None => unnoticed.push(fault.name()),
+        let by = noticed(cases, fault);
+        if let Some(by) = &by {
+            println!("{} is noticed by {by}", fault.name());
         }
+        assert_eq!(by.is_none(), fault.is_in_no_call(), "{}", fault.name());
     }
-    assert_eq!(unnoticed, Fault::IN_NO_CALL.map(Fault::name));
 }
 
 /// While the ranks ascend these faults change no repair, and one of them extended

@@ -24,6 +24,8 @@ mod ranks;
 mod reader;
 mod remake;
 mod routes;
+mod table_faults;
+mod tables;
 mod texts;
 mod walks;
 mod worked;

@@ -209,7 +209,7 @@ fn all_eight_classes() {
 fn every_wrong_planner_is_noticed_by_hand() {
     for fault in Fault::OF_NODES {
         let by = noticed_by(fault, &nodes(), &|question| may_show(fault, question));
-        assert_eq!(by.is_empty(), Fault::IN_NO_CALL.contains(&fault), "{}", fault.name());
+        assert_eq!(by.is_empty(), fault.is_in_no_call(), "{}", fault.name());
     }
 }
 

@@ -21,8 +21,11 @@ fn prints(name: &str, file: &[u8]) -> String {
 }
 
 /// The programs that read the stored cases, with their sections in order.
-const OVER_CASES: [(&str, [&str; 2]); 2] =
-    [("stored_answers", ["reading", "repairs"]), ("stored_buffers", ["distances", "routes"])];
+const OVER_CASES: [(&str, &[&str]); 3] = [
+    ("stored_answers", &["reading", "repairs"]),
+    ("stored_buffers", &["distances", "routes"]),
+    ("stored_tables", &["tables"]),
+];
 
 #[test]
 fn an_input_holds_each_file_after_its_length() {
@@ -56,14 +59,14 @@ fn an_output_numbers_its_cases_and_has_the_sections_in_their_order() {
     let (one, two) = (case(write(&ring(3))), case(Vec::new()));
     for (name, sections) in OVER_CASES {
         let output = program(name).output(&Context::sound(), &[&one, &two]);
-        let all = |file: &[u8]| sections.map(|section| prints(section, file)).concat();
+        let all = |file: &[u8]| sections.iter().map(|name| prints(name, file)).collect::<String>();
         assert_eq!(output, format!("case 0\n{}case 1\n{}", all(&one.file), all(&two.file)));
     }
 }
 
 #[test]
 fn every_section_is_printed_by_one_program() {
-    let mut printed = OVER_CASES.map(|(_, sections)| sections).concat();
+    let mut printed = OVER_CASES.map(|(_, sections)| sections.to_vec()).concat();
     let mut named: Vec<&str> = SECTIONS.iter().map(|section| section.name).collect();
     printed.sort();
     named.sort();
@@ -247,22 +250,154 @@ fn the_section_of_routes_shows_bytes_that_are_not_kept() {
     assert_eq!(changed(Fault::LaterBytesTouched, &file), 12);
 }
 
+/// Two routers, of which no link has a repair. The sums are those of 14 three times and
+/// of untouched, and of four times 10, value 4, and 18: 3588 * 33 * (33^2 + 33 + 1) + 2,
+/// 264708 and 4612 times 33^3 + 33^2 + 33 + 1.
+#[test]
+fn the_section_of_tables() {
+    let network = two_routers().prefix(&[(1, 0)]);
+    let expected = "\
+link-repair 0 0 refused 14 0
+link-repair 0 1 refused 14 0
+prefix-repair 0 0 0 refused 14 0
+route 0 0 0 refused 14 0 kept
+prefix-repair 0 1 0 untouched
+route 0 1 0 untouched kept
+table 1 132967694
+table-route 1 refused 14 0 kept
+table 2 9810078480
+table-route 2 refused 10 4 kept
+table 3 170920720
+table-route 3 refused 18 0 kept
+table 4 170920720
+table-route 4 refused 18 0 kept
+table 5 170920720
+table-route 5 refused 18 0 kept
+table 6 170920720
+table-route 6 refused 18 0 kept
+table 7 132967694
+table-route 7 refused 14 0 kept
+table 8 170920720
+table-route 8 refused 18 0 kept
+table 9 170920720
+table-route 9 refused 18 0 kept
+";
+    assert_eq!(of_tables(&network).0, expected);
+}
+
+/// The lines of the section of tables for a network: those before its last lines, and
+/// the last, which are about the order of the rows.
+fn of_tables(network: &Network) -> (String, String) {
+    let text = prints("tables", &write(network));
+    let (tables, rows) = text.split_at(text.find("link-rows 0 ").expect("a step 0"));
+    (tables.to_string(), rows.to_string())
+}
+
+/// Each step mends one thing more.
+#[test]
+fn the_section_of_tables_about_the_order_of_the_rows() {
+    let network = two_routers().prefix(&[(1, 0)]);
+    let expected = "\
+link-rows 0 refused 10 4
+prefix-rows 0 refused 10 4
+route-rows 0 refused 10 4 kept
+single-rows 0 refused 10 4 kept kept
+link-rows 1 refused 18 0
+prefix-rows 1 refused 18 0
+route-rows 1 refused 18 0 kept
+single-rows 1 refused 11 4 kept kept
+link-rows 2 refused 15 0
+prefix-rows 2 refused 15 0
+route-rows 2 refused 11 4 kept
+single-rows 2 refused 11 4 kept kept
+link-rows 3 refused 15 0
+prefix-rows 3 refused 15 0
+route-rows 3 refused 15 0 kept
+single-rows 3 refused 15 0 kept kept
+link-rows 4 refused 12 1
+prefix-rows 4 refused 12 1
+route-rows 4 refused 12 1 kept
+single-rows 4 refused 12 1 kept kept
+link-rows 5 refused 14 0
+prefix-rows 5 refused 13 1
+route-rows 5 refused 13 1 kept
+single-rows 5 refused 13 1 kept kept
+";
+    assert_eq!(of_tables(&network).1, expected);
+}
+
+/// One router alone has no cell 1, and a refused file no table.
+#[test]
+fn the_section_of_tables_for_one_router_and_for_a_refused_file() {
+    let (tables, rows) = of_tables(&lone_router());
+    let expected = [
+        "table 1 0",
+        "table-route 1 refused 12 0 kept",
+        "table 2 0",
+        "table-route 2 refused 10 1 kept",
+        "table 3 0",
+        "table-route 3 refused 18 0 kept",
+        "table 4 0",
+        "table-route 4 refused 18 0 kept",
+        "table 7 0",
+        "table-route 7 refused 12 0 kept",
+        "table 8 0",
+        "table-route 8 refused 12 0 kept",
+        "table 9 0",
+        "table-route 9 refused 12 0 kept",
+    ];
+    assert_eq!(tables.lines().collect::<Vec<_>>(), expected);
+    assert_eq!(rows.lines().count(), 6 * 4);
+    assert!(rows.ends_with("single-rows 5 refused 12 0 kept kept\n"));
+    let expected = "\
+link-rows 0 refused 1 0
+prefix-rows 0 refused 1 0
+route-rows 0 refused 1 0 kept
+single-rows 0 refused 1 0 kept kept
+";
+    assert_eq!(prints("tables", &[]), expected);
+}
+
+#[test]
+fn the_section_of_tables_shows_bytes_and_cells_that_are_not_kept() {
+    let file = write(&two_routers().prefix(&[(1, 0)]));
+    let changed = |fault| {
+        let section = Section::named("tables").expect("a section");
+        let text = (section.lines)(&Context::with(&[fault]), &file);
+        text.lines().filter(|line| line.contains("changed")).count()
+    };
+    // The routes by the tables 3 to 6, 8 and 9, and at step 1.
+    assert_eq!(changed(Fault::EighteenWritesRoute), 7);
+    // The single calls from step 1 on.
+    assert_eq!(changed(Fault::FilledBeforeQuestion), 5);
+    assert_eq!(changed(Fault::FifteenFills), 1);
+}
+
 #[test]
 fn the_number_of_lines_of_each_network() {
     let cases = stored_cases();
     for case in &cases.networks {
         let network = load(&Context::sound(), &case.file).expect("accepted");
         let (links, prefixes) = (network.links.len(), network.prefixes.len());
-        let (repairs, routes) = match case.name.as_str() {
-            "largest" => (128 * 2 * 7 + 24, 4 * 2 * 8 * 6 + 4),
-            "ring_64" | "line_64_costs_65535" => (links * 2 * 7 + 24, 4 * 2 * 2 * 6 + 4),
-            _ => {
-                let sum = usize::from(prefixes > 0);
-                (links * 2 * (5 + prefixes + sum) + 24, links * 2 * prefixes * 6 + 4)
-            }
+        // The routes asked about, by link, end and prefix.
+        let asked = match case.name.as_str() {
+            "largest" => 4 * 2 * 8,
+            "ring_64" | "line_64_costs_65535" => 4 * 2 * 2,
+            _ => links * 2 * prefixes,
         };
-        assert_eq!(prints("repairs", &case.file).lines().count(), repairs, "{}", case.name);
-        assert_eq!(prints("routes", &case.file).lines().count(), routes, "{}", case.name);
+        let repairs = match case.name.as_str() {
+            "largest" | "ring_64" | "line_64_costs_65535" => links * 2 * 7 + 24,
+            _ => links * 2 * (5 + prefixes + usize::from(prefixes > 0)) + 24,
+        };
+        let tables = if network.routers > 1 { 9 } else { 7 };
+        for (section, lines) in [
+            ("repairs", repairs),
+            ("routes", asked * 6 + 4),
+            ("tables", links * 2 + asked * 2 + tables * 2 + 24),
+        ] {
+            let printed = prints(section, &case.file).lines().count();
+            assert_eq!(printed, lines, "{section} of {}", case.name);
+        }
     }
     let routes = prints("routes", stored_file(&cases, "largest"));
     let prefixes = routes.lines().filter(|line| line.starts_with("route 64 1 "));
@@ -395,6 +530,19 @@ fn lines_known_by_hand() {
         ("node_tunnel_or_neighbour", "repairs", "prefix-repair 0 0 0 pair 2 3 3 7"),
         // The packet visits E over another link.
         ("node_not_touched", "repairs", "prefix-repair 0 0 0 untouched"),
+        // By a table: a tunnel first, then class 1 first, and what is no table of the file.
+        ("ring_4_prefix", "tables", "link-repair 0 0 pair 3 2 7 2"),
+        ("ring_4_prefix", "tables", "prefix-repair 0 0 0 pair 3 3 1 1"),
+        ("ring_4_prefix", "tables", "route 0 0 0 count 3 route 0 3 2 kept"),
+        ("ring_4_prefix", "tables", "table-route 1 count 3 route 0 3 2 kept"),
+        ("ring_4_prefix", "tables", "table-route 7 count 3 route 0 3 2 kept"),
+        ("four_classes", "tables", "link-repair 0 0 pair 2 3 7 9"),
+        ("four_classes", "tables", "route 0 0 0 count 5 route 0 2 0 3 1 kept"),
+        ("node_eight_classes", "tables", "prefix-repair 0 0 0 pair 3 3 1 3"),
+        ("asymmetric", "tables", "table-route 7 refused 18 0 kept"),
+        ("disconnected", "tables", "table-route 6 refused 18 0 kept"),
+        ("ring_64", "tables", "table-route 2 refused 10 4096 kept"),
+        ("ring_64", "tables", "route-rows 2 refused 11 128 kept"),
         // From 4 on every step leads right or down, the lower number first.
         ("grid", "routes", "route 0 0 0 0 count 7 route 0 4 5 6 7 11 15 kept"),
         ("grid", "routes", "route 0 0 0 1 count 7 route 0 4 8 9 10 11 15 kept"),
@@ -453,7 +601,7 @@ fn what_stored_drills_prints() {
 
 /// Faults that no section and no stored plan shows, though calls do: none asks for
 /// what they change.
-const NOT_SHOWN: [Fault; 7] = [
+const NOT_SHOWN: [Fault; 6] = [
     // No section prints the work area after a repair call that is not refused.
     Fault::UntouchedLeavesWorkArea,
     Fault::FourteenLeavesWorkArea,
@@ -463,8 +611,6 @@ const NOT_SHOWN: [Fault; 7] = [
     // The plan of ring 4 has a pair in every line, and one class.
     Fault::PlanNoneOnce,
     Fault::PlanDescending,
-    // None lends a work area and a route buffer that are both too short.
-    Fault::RowsSwapped(10),
 ];
 
 #[test]
@@ -494,7 +640,7 @@ fn the_sections_notice_every_fault_that_they_can_show() {
     for fault in Fault::all().into_iter().filter(|fault| !of_files(fault)) {
         let ctx = Context::with(&[fault]);
         let noticed = sound.iter().any(|(lines, case, text)| lines(&ctx, &case.file) != *text);
-        let shown = !NOT_SHOWN.contains(&fault) && !Fault::IN_NO_CALL.contains(&fault);
+        let shown = !NOT_SHOWN.contains(&fault) && !fault.is_in_no_call();
         assert_eq!(noticed, shown, "{}", fault.name());
     }
 }

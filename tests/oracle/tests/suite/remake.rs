@@ -47,7 +47,7 @@ fn report(text: &str, success: bool) -> Result<Report, String> {
 
 #[test]
 fn all_files_are_written_once() {
-    let programs = ["stored_answers", "stored_buffers", "stored_drills", "plan"];
+    let programs = ["stored_answers", "stored_buffers", "stored_tables", "stored_drills", "plan"];
     let root = repository("written", &programs);
     let written = "\
 examples/ring4.net is written
@@ -56,6 +56,8 @@ crates/stored_answers/stdin is written
 crates/stored_answers/stdout is written
 crates/stored_buffers/stdin is written
 crates/stored_buffers/stdout is written
+crates/stored_tables/stdin is written
+crates/stored_tables/stdout is written
 crates/stored_drills/stdin is written
 crates/stored_drills/stdout is written
 crates/plan/stdin is written
@@ -73,16 +75,24 @@ crates/plan/stdout is written
     assert_eq!(input[..514], [&[0, 2], write(&lone_router()).as_slice()].concat());
     assert_eq!(input[514..518], [0, 0, 0, 4]);
     assert_eq!(stored(&root, "crates/stored_buffers/stdin"), input);
+    assert_eq!(stored(&root, "crates/stored_tables/stdin"), input);
     assert_eq!(stored(&root, "crates/stored_drills/stdin"), drills::case().file);
     assert!(stored(&root, "crates/stored_drills/stdout").starts_with(b"drill "));
-    let output = text(&root, "crates/stored_answers/stdout");
+    outputs_are_those_of_the_cases(&root);
+}
+
+fn outputs_are_those_of_the_cases(root: &Path) {
+    let output = text(root, "crates/stored_answers/stdout");
     assert!(output.starts_with("case 0\naccepted 1 0 0\nlink-entry 0\n"));
     assert!(output.contains("\nprefix-entry 4000000000\np 0 0 refused 12 0\n"));
     assert!(output.contains("\ncase 2\nrefused 4 1\nlink-entry 0\n"));
     assert!(output.contains("\nprefix-entry 4000000000\np 0 0 refused 4 1\n"));
-    let output = text(&root, "crates/stored_buffers/stdout");
+    let output = text(root, "crates/stored_buffers/stdout");
     assert!(output.starts_with("case 0\ndone\nrow 0 0\nlater 7 7\nrefused 10 1\nkept\n"));
     assert!(output.contains("\ncase 2\nrefused 4 1\nlater 7 7\nrefused 4 1\nkept\nshort-route "));
+    let output = text(root, "crates/stored_tables/stdout");
+    assert!(output.starts_with("case 0\ntable 1 0\ntable-route 1 refused 12 0 kept\ntable 2 0\n"));
+    assert!(output.contains("\ncase 2\nlink-rows 0 refused 4 1\nprefix-rows 0 refused 4 1\n"));
 }
 
 #[test]
@@ -133,6 +143,10 @@ stored_buffers 0 one
 stored_buffers 1 reader/length_0
 stored_buffers 2 reader/row_4_more
 stored_buffers 3 reader/row_9_next
+stored_tables 0 one
+stored_tables 1 reader/length_0
+stored_tables 2 reader/row_4_more
+stored_tables 3 reader/row_9_next
 stored_drills 0 drills
 plan 0 ring4
 ";

@@ -1,0 +1,4 @@
+pub mod CellLaws
+pub mod SumLaws
+pub mod TestLaws
+pub mod CallLaws

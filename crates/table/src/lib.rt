@@ -1,0 +1,37 @@
+// Whether a table that is lent holds the distances of a network, whoever filled it. `holds_distances` only reads the table, in one pass
+// over the links: it does not work the distances out.
+//
+// It takes any numbers. Where they are not those of a network, the answer is no.
+use costs::costs_fit;
+use fit::links_fit;
+use metric::read::cells_fit;
+use sums::agrees;
+ghost use mathlib.Core.Path.{_≡_};
+ghost use Rattle.table.specs.Calls.{tableHolds};
+
+mod costs;
+mod sums;
+
+// Whether the first routers * routers cells of the table are the distances, row by row, row = start.
+pub fn holds_distances<'a>(
+    routers: usize,
+    links: usize,
+    from: &'a [u8; 128],
+    to: &'a [u8; 128],
+    out: &'a [u16; 128],
+    back: &'a [u16; 128],
+    table: &[u32],
+) -> bool
+    ensures { λ r. ⌜ r ≡ tableHolds routers links (now (from .entry)) (now (to .entry)) (now (out .entry)) (now (back .entry)) (now (table .entry)) ⌝ }
+{
+    if !cells_fit(routers, table.len()) {
+        return false;
+    }
+    if !links_fit(routers, links, from, to) {
+        return false;
+    }
+    if !costs_fit(links, out, back) {
+        return false;
+    }
+    agrees(routers, links, from, to, out, back, table)
+}
