@@ -82,21 +82,8 @@ fn print_route(file: &[u8], table: &[u32], link: usize, side: usize, prefix: usi
     number(side);
     number(prefix);
     let ranks = [2u8, 6, 4, 7, 3, 5, 1, 0];
-    let mut choices = [0u8; 128];
-    count_up(&mut choices);
     let mut buffer = [255u8; 128];
-    let answer = route_with(
-        file,
-        table,
-        &ranks,
-        link,
-        side,
-        prefix,
-        &choices,
-        &mut buffer,
-    );
-    print_played(answer, &buffer);
-    end();
+    print_lent(file, table, &ranks, link, side, prefix, &mut buffer);
 }
 
 // The prefix repairs and routes of one link and end, for the prefixes that are asked about: of a whole network every prefix, otherwise every 16th.
