@@ -9,6 +9,7 @@ use Rattle.lfa.specs.Network.{Link, link, Attachment, at, Target}
 use Rattle.lfa.specs.File.{Bytes, linkOf, prefixOf}
 use Rattle.lfa.specs.FileOf.{pad}
 use Rattle.network_file.specs.declared.network.Network.{Network}
+use Rattle.network_file.specs.declared.network.Links.{Links}
 use Rattle.network_file.specs.declared.link.LinkColumns.{LinkColumns}
 use Rattle.network_file.specs.declared.prefix.PrefixColumns.{PrefixColumns}
 
@@ -78,6 +79,31 @@ structOf net =
       attached = attachedColumn (net .prefixes);
       at = slotColumn routerOf (net .prefixes);
       own = slotColumn costOf (net .prefixes);
+    }
+
+-- all of it but the attachments of prefixes
+unfoldable pub linksStructOf : lfa.Network → Links
+linksStructOf net =
+    record {
+      routers = net .routers;
+      links = length (net .links);
+      prefixes = length (net .prefixes);
+      from = linkColumn fromOf (net .links);
+      to = linkColumn toOf (net .links);
+      out = linkColumn outOf (net .links);
+      back = linkColumn backOf (net .links);
+    }
+
+abbrev pub linkPart : Network → Links
+linkPart network =
+    record {
+      routers = network .routers;
+      links = network .links;
+      prefixes = network .prefixes;
+      from = network .from;
+      to = network .to;
+      out = network .out;
+      back = network .back;
     }
 
 -- ---- what a file holds

@@ -5,6 +5,7 @@ use entry::judge_links;
 use entry::judge_prefixes;
 use entry::network_of;
 use field::word_at;
+use network::Links;
 use network::Network;
 use network::blank;
 ghost use mathlib.Core.Path.{_≡_};
@@ -14,7 +15,7 @@ ghost use Rattle.lfa.specs.Question.{loading};
 ghost use Rattle.lfa.specs.Refusal.{fileReturned, fileRefusal, firstRow};
 ghost use Rattle.lfa.specs.Answer.{answerTo, networkLoaded};
 ghost use Rattle.block.specs.Judged.{blocksDecided, Sized};
-ghost use Rattle.network_file.specs.Struct.{structOf};
+ghost use Rattle.network_file.specs.Struct.{structOf, linksStructOf};
 ghost use Rattle.network_file.specs.Entry.{entryRows};
 ghost use Rattle.network_file.specs.Load.{faultRow, answerOf, verdictDecided, undecided};
 
@@ -116,4 +117,33 @@ pub fn load(file: &[u8]) -> Loaded
     let verdict = judge(file);
     let network = network_if(is_accepted(verdict), file);
     Loaded { verdict, network }
+}
+
+// The verdict on a file, and beside it the links that the file holds; of a refused file those of the network with nothing in it.
+pub struct LoadedLinks {
+    pub verdict: Verdict,
+    pub links: Links,
+}
+
+// Judges a file and hands over its links.
+pub fn load_links(file: &[u8]) -> LoadedLinks
+    ensures { λ r. ⌜ (answerOf (r .verdict) ≡ answerTo (loading (now (file .entry)))) × (r .links ≡ linksStructOf (networkLoaded (now (file .entry)))) ⌝ }
+{
+    let loaded = load(file);
+    let verdict = loaded.verdict;
+    let network = loaded.network;
+    let from = network.from;
+    let to = network.to;
+    let out = network.out;
+    let back = network.back;
+    let links = Links {
+        routers: network.routers,
+        links: network.links,
+        prefixes: network.prefixes,
+        from,
+        to,
+        out,
+        back,
+    };
+    LoadedLinks { verdict, links }
 }

@@ -18,6 +18,17 @@ pub struct Network {
     pub own: [u16; 1024],
 }
 
+// The counts of a network, and its links in columns as above: all of it but the attachments of its prefixes.
+pub struct Links {
+    pub routers: usize,
+    pub links: usize,
+    pub prefixes: usize,
+    pub from: [u8; 128],
+    pub to: [u8; 128],
+    pub out: [u16; 128],
+    pub back: [u16; 128],
+}
+
 // The network with nothing in it, which goes with a refusal.
 pub(crate) fn blank() -> Network
     ensures { λ r. ⌜ r ≡ structOf (record { routers = 0; links = []; prefixes = [] }) ⌝ }

@@ -2,8 +2,8 @@
 // repair. A refused file has one line, which says why.
 use answers::Repair;
 use network_file::Verdict;
-use network_file::load;
-use network_file::network::Network;
+use network_file::load_links;
+use network_file::network::Links;
 use order::Pair;
 use print::end;
 use print::number;
@@ -16,11 +16,11 @@ ghost use Prim.Native.Nat.{_≤_};
 mod print;
 
 // Prints the head line: how many routers, links and prefixes there are.
-fn print_head(network: Network) {
+fn print_head(held: Links) {
     io::write_all(1, b"plan");
-    number(network.routers);
-    number(network.links);
-    number(network.prefixes);
+    number(held.routers);
+    number(held.links);
+    number(held.prefixes);
     end();
 }
 
@@ -63,30 +63,30 @@ fn print_ends(file: &[u8], table: &[u32], link: usize, a: u8, b: u8) {
 }
 
 // Prints the lines of every link. The distances are worked out once, in a table that is enough for 64 routers.
-fn print_links(file: &[u8], network: Network)
-    requires { ⌜ network .links ≤ 128 ⌝ }
+fn print_links(file: &[u8], held: Links)
+    requires { ⌜ held .links ≤ 128 ⌝ }
 {
     let mut table = [0u32; 4096];
     distances(file, &mut table);
-    let links = network.links;
+    let links = held.links;
     let mut link = 0;
     while link < links {
-        print_ends(file, &table, link, network.from[link], network.to[link]);
+        print_ends(file, &table, link, held.from[link], held.to[link]);
         link += 1;
     }
 }
 
 // Prints the plan of a file, or why it is refused.
 fn print_plan(file: &[u8]) {
-    let loaded = load(file);
+    let loaded = load_links(file);
     let verdict = loaded.verdict;
     if let Verdict::Refused(fault) = verdict {
         refused(file_row(fault));
         return;
     }
-    let network = loaded.network;
-    print_head(network);
-    print_links(file, network);
+    let held = loaded.links;
+    print_head(held);
+    print_links(file, held);
 }
 
 // Reads to one byte past the largest file, so that a longer input is seen to be longer. The input may come in pieces.

@@ -1,11 +1,11 @@
--- What the repair part takes from the file part: an accepted file, and its network by value.
+-- What the repair part takes from the file part: an accepted file, and the links of its network by value.
 -- Assumes nothing.
 use mathlib.Core.Path.{_≡_}
 use Rattle.lfa.specs.File.{Bytes, networkOf}
 use Rattle.lfa.specs.Refusal.{Accepted}
-use Rattle.network_file.specs.declared.network.Network.{Network}
-use Rattle.network_file.specs.Struct.{structOf}
+use Rattle.network_file.specs.declared.network.Links.{Links}
+use Rattle.network_file.specs.Struct.{linksStructOf}
 
-pub record Taken (b : Bytes) (network : Network) : Type 0 where
+pub record Taken (b : Bytes) (links : Links) : Type 0 where
   pub is-accepted : Accepted b
-  pub network-is : network ≡ structOf (networkOf b)
+  pub links-is : links ≡ linksStructOf (networkOf b)

@@ -13,10 +13,10 @@ use Rattle.lfa.specs.Space.{underMaintenance}
 use Rattle.lfa.specs.Question.{Question, loading, aTable, HasInput, networkAsked}
 use Rattle.lfa.specs.Refusal.{Row, early, shortArea, wrongTable, shortBuffer, badRanks, noSuchLink, noSuchPrefix, noPair, Decided, decided, inFile, Accepted}
 use Rattle.lfa.specs.Answer.{Answer, refusal, earlyAnswer, answerTo, networkLoaded}
-use Rattle.network_file.specs.declared.Loaded.{Loaded}
+use Rattle.network_file.specs.declared.Verdict.{Verdict}
 use Rattle.network_file.specs.Load.{faultRow, answerOf}
-use Rattle.network_file.specs.Struct.{structOf}
-use Rattle.network_file.specs.declared.network.Network as struct
+use Rattle.network_file.specs.Struct.{linksStructOf}
+use Rattle.network_file.specs.declared.network.Links.{Links}
 use Rattle.rows.specs.declared.Cells.{Cells}
 use Rattle.question.specs.declared.Refusal.{Refusal}
 use Rattle.question.specs.declared.Refusal.the-variants.{File, ShortArea, ShortBuffer, NoSuchLink, NoSuchPrefix, NoPair, BadRanks, WrongTable}
@@ -58,23 +58,36 @@ unfoldable pub tableCells : lfa.Network → List ℕ → Cells
 tableCells net table = record { count = length table; given = true; right = holdsDistances net table }
 
 -- what is loaded is the file's
-pub record IsLoaded (b : Bytes) (loaded : Loaded) : Type 0 where
+pub record IsLoaded (b : Bytes) (verdict : Verdict) (links : Links) : Type 0 where
   pub bytes : (i : ℕ) → byteAt b i < 256
-  pub verdict-is : answerOf (loaded .verdict) ≡ answerTo (loading b)
-  pub network-is : loaded .network ≡ structOf (networkLoaded b)
+  pub verdict-is : answerOf verdict ≡ answerTo (loading b)
+  pub links-is : links ≡ linksStructOf (networkLoaded b)
+
+-- the counts of a network
+pub record Counts (held : Links) (routers links prefixes : ℕ) : Type 0 where
+  pub routers-are : routers ≡ held .routers
+  pub links-are : links ≡ held .links
+  pub prefixes-are : prefixes ≡ held .prefixes
+
+-- and the columns of its links
+pub record Columns (held : Links) (from to out back : List ℕ) : Type 0 where
+  pub from-is : from ≡ held .from
+  pub to-is : to ≡ held .to
+  pub out-is : out ≡ held .out
+  pub back-is : back ≡ held .back
 
 -- the lent table was judged rightly, where the call has one
 abbrev pub TableJudged : Question → Bool → Type 0
 TableJudged q right = Accepted (q .file) → HasInput q aTable → right ≡ holdsDistances (networkAsked q) (q .table)
 
--- What `pose` and `pose_with` tell of a question; links are under maintenance at 65,535.
-pub record Judges (q : Question) (turned : question.Turned) (network : struct.Network) : Type 0 where
+-- What the calls that put a question tell of it; links are under maintenance at 65,535.
+pub record Judges (q : Question) (turned : question.Turned) (links : Links) : Type 0 where
   pub limit-is : q .maintenance ≡ underMaintenance
   pub turned-is : turnedAnswer turned ≡ earlyAnswer q
-  pub network-is : network ≡ structOf (networkLoaded (q .file))
+  pub links-is : links ≡ linksStructOf (networkLoaded (q .file))
 
 -- and what is in the cells for distances, which the question counts, before and after
-pub record Poses (q : Question) (turned : question.Turned) (network : struct.Network) (area after : List ℕ) : Type 0 where
-  pub judges : Judges q turned network
+pub record Poses (q : Question) (turned : question.Turned) (links : Links) (area after : List ℕ) : Type 0 where
+  pub judges : Judges q turned links
   pub cells-are : q .cells ≡ length area
   pub area-is : after ≡ areaPosed turned (networkLoaded (q .file)) area

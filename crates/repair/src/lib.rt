@@ -6,8 +6,11 @@ use answers::Repair;
 use answers::SpaceAnswer;
 use answers::repair_answer;
 use question::Judged;
+use question::LinksJudged;
 use question::Turned;
 use question::pose;
+use question::pose_links;
+use question::pose_links_with;
 use question::pose_with;
 use rows::Asked;
 use rows::Call;
@@ -39,7 +42,7 @@ pub fn distances(file: &[u8], work: &mut [u32]) -> Filled
         end: 0,
         prefix: 0,
     };
-    let posed = pose(file, asked, work);
+    let posed = pose_links(file, asked, work);
     let turned = posed.turned;
     if let Turned::Refused(refusal) = turned {
         return Filled::Refused(refusal);
@@ -62,15 +65,15 @@ fn link_asked(ranked: bool, link: usize, end: usize) -> Asked
 }
 
 // The answer to such a question once the rows before 14 are tried, over a table of the network's distances.
-fn link_over(judged: Judged, ranks: &[u8], link: usize, end: usize, table: &[u32]) -> Repair
-    ensures { λ r. ⌜ repairOf r ≡ toldBy (judged .turned) (linkBy (judged .network) (now (ranks .entry)) link end (now (table .entry))) ⌝ }
+fn link_over(judged: LinksJudged, ranks: &[u8], link: usize, end: usize, table: &[u32]) -> Repair
+    ensures { λ r. ⌜ repairOf r ≡ toldBy (judged .turned) (linkBy (judged .links) (now (ranks .entry)) link end (now (table .entry))) ⌝ }
 {
     let turned = judged.turned;
     if let Turned::Refused(refusal) = turned {
         return Repair::Refused(refusal);
     }
-    let network = judged.network;
-    let serving = link_pair(network, ranks, link, end, table);
+    let links = judged.links;
+    let serving = link_pair(links, ranks, link, end, table);
     repair_answer(serving)
 }
 
@@ -79,7 +82,7 @@ pub fn link_repair(file: &[u8], work: &mut [u32], ranks: &[u8], link: usize, end
     ensures { λ r. ⌜ Answered (askLink (now (file .entry)) (length (now (work .entry))) (now (ranks .entry)) link end) (repairOf r) (now (work .entry)) (now (work .exit)) ⌝ }
 {
     let asked = link_asked(arranged(ranks), link, end);
-    let judged = pose(file, asked, work);
+    let judged = pose_links(file, asked, work);
     link_over(judged, ranks, link, end, work)
 }
 
@@ -88,7 +91,7 @@ pub fn link_repair_with(file: &[u8], table: &[u32], ranks: &[u8], link: usize, e
     ensures { λ r. ⌜ repairOf r ≡ answerTo (askLinkWith (now (file .entry)) (now (table .entry)) (now (ranks .entry)) link end) ⌝ }
 {
     let asked = link_asked(arranged(ranks), link, end);
-    let judged = pose_with(file, asked, table);
+    let judged = pose_links_with(file, asked, table);
     link_over(judged, ranks, link, end, table)
 }
 
@@ -170,13 +173,13 @@ fn ask_space(file: &[u8], work: &mut [u32], link: usize, end: usize, which: Whic
         end,
         prefix: 0,
     };
-    let posed = pose(file, asked, work);
+    let posed = pose_links(file, asked, work);
     let turned = posed.turned;
     if let Turned::Refused(refusal) = turned {
         return SpaceAnswer::Refused(refusal);
     }
-    let network = posed.network;
-    let set = space_in(which, network, link, end, work);
+    let links = posed.links;
+    let set = space_in(which, links, link, end, work);
     SpaceAnswer::Set(set)
 }
 

@@ -12,11 +12,12 @@ use Rattle.lfa.specs.Repair.{Told, Outcome, serving}
 use Rattle.lfa.specs.Route.{NamedRoute}
 use Rattle.lfa.specs.Question.{Question, Source, route, routeBuffer, someCells, aLink, aPrefix, lent, inputsOf, inputNumber, hasInput, networkAsked, linkAsked, prefixAsked, prefixFound}
 use Rattle.lfa.specs.Refusal.{Posed}
-use Rattle.lfa.specs.Answer.{played, answerTo, routeAfter}
-use Rattle.lfa.specs.Laws.Accepted.{accepted-descend, accepted-sound, accepted-named, prefix-count}
+use Rattle.lfa.specs.Answer.{played, answerTo, routeAfter, networkLoaded}
+use Rattle.lfa.specs.Laws.Accepted.{accepted-loaded, accepted-descend, accepted-sound, accepted-named, prefix-count}
 use Rattle.lfa.specs.Laws.Replies.{has, told-first-in, told-endpoint-in, played-named}
 use Rattle.lfa.specs.Laws.Work.{work-length}
 use Rattle.network_file.specs.declared.network.Network.{Network}
+use Rattle.network_file.specs.Struct.{structOf, linkPart}
 use Rattle.metric.specs.Columns.{arcsIn}
 use Rattle.metric.specs.Area.{held}
 use Rattle.metric.specs.Column.{slotsIn}
@@ -32,12 +33,15 @@ use Rattle.question.specs.Laws.Loaded.{limits, columns-within, routers-same, pr
 use Rattle.route.specs.Leg.{Playable}
 
 -- a route question that is posed and not turned away
-module _ {q : Question} {turned : Turned} {network : Network} {area after : List ℕ} (j : Poses q turned network area after) (bytes : (i : ℕ) → byteAt (q .file) i < 256) (ready : turned ≡ Ready) {from : Source} (c : q .call ≡ route from) where
+module _ {q : Question} {turned : Turned} (network : Network) {area after : List ℕ} (j : Poses q turned (linkPart network) area after) (loaded : network ≡ structOf (networkLoaded (q .file))) (bytes : (i : ℕ) → byteAt (q .file) i < 256) (ready : turned ≡ Ready) {from : Source} (c : q .call ≡ route from) where
   pub p : Posed q
   p = ready-posed j bytes ready
 
-  pub t : Taken (q .file) network
+  pub t : Taken (q .file) (linkPart network)
   t = ready-taken j bytes ready
+
+  whole : network ≡ structOf (networkOf (q .file))
+  whole = loaded ∙ ap structOf (accepted-loaded (q .file) (t .is-accepted))
 
   link-there : q .link < length (networkOf (q .file) .links)
   unfolding networkAsked hasInput inputsOf inputNumber memberOf anyOf
@@ -51,7 +55,7 @@ module _ {q : Question} {turned : Turned} {network : Network} {area after : List
   prefix-there = rw (prefixes-are t, ← prefix-count (q .file) (t .is-accepted)) (p .prefix (has q p aPrefix c refl))
 
   pub prefix-column : q .prefix < 128
-  prefix-column = prefix-cell t (q .prefix) prefix-there
+  prefix-column = prefix-cell t network whole (q .prefix) prefix-there
 
   cells-enough : networkOf (q .file) .routers * networkOf (q .file) .routers ≤ length area
   unfolding networkAsked hasInput inputsOf inputNumber memberOf anyOf
@@ -60,7 +64,7 @@ module _ {q : Question} {turned : Turned} {network : Network} {area after : List
   -- what the search finds is what the prefix repair finds
   pub route-searched : {o : Outcome} → o ≡ prefixBy network (q .ranks) (q .link) (q .end) (q .prefix) after → o ≡ prefixFound q
   unfolding hasInput inputsOf inputNumber memberOf anyOf
-  route-searched e = e ∙ prefix-searched p t area (j .cells-are) (j .judges .limit-is) (area-filled j bytes ready) (has q p aLink c refl) (has q p someCells c refl) (has q p aPrefix c refl)
+  route-searched e = e ∙ prefix-searched p network t whole area (j .cells-are) (j .judges .limit-is) (area-filled j bytes ready) (has q p aLink c refl) (has q p someCells c refl) (has q p aPrefix c refl)
 
   -- the pair that was found
   module _ {told : Told} (found : prefixFound q ≡ serving told) where
@@ -75,7 +79,7 @@ module _ {q : Question} {turned : Turned} {network : Network} {area after : List
     buffer-written buffer = sym (played-named q p c found .written buffer)
 
     -- what the play asks, where the repairing router and the number of attachments were read from the columns
-    module _ {near count : ℕ} (near-is : near ≡ protectedOf network (q .link) (q .end) .near) (count-is : count ≡ getD (network .attached) (q .prefix) 0) where
+    module _ {near count : ℕ} (near-is : near ≡ protectedOf (linkPart network) (q .link) (q .end) .near) (count-is : count ≡ getD (network .attached) (q .prefix) 0) where
       near-same : near ≡ protected (q .maintenance) (networkOf (q .file)) (q .link) (q .end) .near
       near-same =
           near-is ∙ ap (λ (r : Protected). r .near) (protected-is t (q .link) (q .end) link-there)
@@ -88,7 +92,7 @@ module _ {q : Question} {turned : Turned} {network : Network} {area after : List
 
       pub played-route : InColumns TheRoute
       unfolding networkAsked linkAsked prefixAsked
-      played-route = same (routers-same t) (hops-are t) (held-is t area (area-filled j bytes ready)) (prefix-target t (q .prefix) prefix-there count-is) near-same (played-named q p c found .named)
+      played-route = same (routers-same t) (hops-are t) (held-is t area (area-filled j bytes ready)) (prefix-target t network whole (q .prefix) prefix-there count-is) near-same (played-named q p c found .named)
         where
           same : {n n′ : ℕ} {hops hops′ : List _} {d d′ : ℕ → ℕ → ℕ} {to to′ : _} {s s′ : ℕ} {choices r : List ℕ} {m y : ℕ} → n ≡ n′ → hops ≡ hops′ → d ≡ d′ → to ≡ to′ → s ≡ s′ →
               NamedRoute n′ hops′ d′ to′ choices s′ m y r → NamedRoute n hops d to choices s m y r
@@ -103,7 +107,7 @@ module _ {q : Question} {turned : Turned} {network : Network} {area after : List
       playable = record {
         within = columns-within t;
         descends = rw (hops-are t) (accepted-descend (q .file) (t .is-accepted));
-        slots = prefix-slots t (q .prefix) prefix-there count-is;
+        slots = prefix-slots t network whole (q .prefix) prefix-there count-is;
         long = long;
       }
 

@@ -10,7 +10,9 @@ use Rattle.lfa.specs.Network.{Arc}
 use Rattle.lfa.specs.Distance.{unreachable}
 use Rattle.lfa.specs.Space.{Protected, Space}
 use Rattle.lfa.specs.Repair.{Outcome, prefixUnreachable, prefixUntouched, noneServes}
+use Rattle.network_file.specs.declared.network.Links.{Links}
 use Rattle.network_file.specs.declared.network.Network.{Network}
+use Rattle.network_file.specs.Struct.{linkPart}
 use Rattle.metric.specs.Columns.{arcsIn}
 use Rattle.column.specs.Calls.{routerColumn, prefixColumn, attachedSet}
 use Rattle.avoid.specs.Calls.{readable}
@@ -52,24 +54,24 @@ prefixFor ranks n hops q area ends column onward =
 unfoldable pub prefixIf : (ranks : List ℕ) → Bool → (n : ℕ) → List Arc → Protected → (area : List ℕ) → (ends : ℕ) → (column : List ℕ) → Onward → Outcome
 prefixIf ranks passes n hops q area ends column onward = elim passes [ true ↦ prefixFor ranks n hops q area ends column onward | false ↦ noneServes ]
 
--- ---- by a network and a question
+-- ---- by the links of a network, for a prefix by all of it, and a question
 
-abbrev pub hopsOf : Network → List Arc
-hopsOf network = arcsIn (network .from) (network .to) (network .out) (network .back) (network .links)
+abbrev pub hopsOf : Links → List Arc
+hopsOf columns = arcsIn (columns .from) (columns .to) (columns .out) (columns .back) (columns .links)
 
-abbrev pub protectedOf : Network → (link end : ℕ) → Protected
-protectedOf network link end = protectedIn (network .from) (network .to) (network .out) (network .back) link end
+abbrev pub protectedOf : Links → (link end : ℕ) → Protected
+protectedOf columns link end = protectedIn (columns .from) (columns .to) (columns .out) (columns .back) link end
 
-abbrev pub searches : Network → (link end : ℕ) → (area : List ℕ) → Bool
-searches network link end area = ltb link 128 && searchable (network .routers) (network .links) (protectedOf network link end) (length area)
+abbrev pub searches : Links → (link end : ℕ) → (area : List ℕ) → Bool
+searches columns link end area = ltb link 128 && searchable (columns .routers) (columns .links) (protectedOf columns link end) (length area)
 
 -- the space that is asked for, as the set of its routers
-unfoldable pub spaceBy : Space → Network → (link end : ℕ) → (area : List ℕ) → ℕ
-spaceBy s network link end area = spaceIf (searches network link end area) s (network .routers) (hopsOf network) (protectedOf network link end) area
+unfoldable pub spaceBy : Space → Links → (link end : ℕ) → (area : List ℕ) → ℕ
+spaceBy s columns link end area = spaceIf (searches columns link end area) s (columns .routers) (hopsOf columns) (protectedOf columns link end) area
 
 -- what a link repair finds
-unfoldable pub linkBy : Network → (ranks : List ℕ) → (link end : ℕ) → (area : List ℕ) → Outcome
-linkBy network ranks link end area = linkIf ranks (searches network link end area) (network .routers) (hopsOf network) (protectedOf network link end) area
+unfoldable pub linkBy : Links → (ranks : List ℕ) → (link end : ℕ) → (area : List ℕ) → Outcome
+linkBy columns ranks link end area = linkIf ranks (searches columns link end area) (columns .routers) (hopsOf columns) (protectedOf columns link end) area
 
 -- the distances to a prefix
 abbrev pub columnTo : Network → (prefix : ℕ) → (area : List ℕ) → List ℕ
@@ -80,12 +82,13 @@ abbrev pub endsTo : Network → (prefix : ℕ) → ℕ
 endsTo network prefix = attachedSet (network .at) (8 * prefix) (getD (network .attached) prefix 0)
 
 -- the routers from which the second leg avoids the link, and those from which it misses E
-abbrev pub onwardTo : Network → (link end ends : ℕ) → (column : List ℕ) → Onward
-onwardTo network link end ends column = onwardBySteps (network .routers) (network .links) (network .from) (network .to) (network .out) (network .back) (protectedOf network link end) ends column
+abbrev pub onwardTo : Links → (link end ends : ℕ) → (column : List ℕ) → Onward
+onwardTo columns link end ends column = onwardBySteps (columns .routers) (columns .links) (columns .from) (columns .to) (columns .out) (columns .back) (protectedOf columns link end) ends column
 
 -- what a prefix repair finds
 unfoldable pub prefixBy : Network → (ranks : List ℕ) → (link end prefix : ℕ) → (area : List ℕ) → Outcome
 prefixBy network ranks link end prefix area =
     let column = columnTo network prefix area in
     let ends = endsTo network prefix in
-    prefixIf ranks (ltb prefix 128 && searches network link end area) (network .routers) (hopsOf network) (protectedOf network link end) area ends column (onwardTo network link end ends column)
+    let columns = linkPart network in
+    prefixIf ranks (ltb prefix 128 && searches columns link end area) (columns .routers) (hopsOf columns) (protectedOf columns link end) area ends column (onwardTo columns link end ends column)

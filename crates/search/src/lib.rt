@@ -5,6 +5,7 @@
 use column::attached_routers;
 use column::towards_prefix;
 use metric::read::wide;
+use network_file::network::Links;
 use network_file::network::Network;
 use order::Pair;
 use pair::link_found;
@@ -37,19 +38,19 @@ pub enum Found {
 }
 
 // One of the three spaces, as the set of its routers: router r is the bit of weight 2 to the power r.
-pub fn space_in(which: Which, network: Network, link: usize, end: usize, dist: &[u32]) -> u64
-    ensures { λ r. ⌜ r ≡ spaceBy (spaceNamed which) network link end (now (dist .entry)) ⌝ }
+pub fn space_in(which: Which, columns: Links, link: usize, end: usize, dist: &[u32]) -> u64
+    ensures { λ r. ⌜ r ≡ spaceBy (spaceNamed which) columns link end (now (dist .entry)) ⌝ }
 {
     if 128 <= link {
         return 0;
     }
-    let n = network.routers;
-    let links = network.links;
+    let n = columns.routers;
+    let links = columns.links;
     let protected = protect(
-        &network.from,
-        &network.to,
-        &network.out,
-        &network.back,
+        &columns.from,
+        &columns.to,
+        &columns.out,
+        &columns.back,
         link,
         end,
     );
@@ -58,28 +59,28 @@ pub fn space_in(which: Which, network: Network, link: usize, end: usize, dist: &
         dist,
         n,
         links,
-        &network.from,
-        &network.to,
-        &network.out,
-        &network.back,
+        &columns.from,
+        &columns.to,
+        &columns.out,
+        &columns.back,
         protected,
     )
 }
 
 // The pair that repairs a link: around it, to its far router.
-pub fn link_pair(network: Network, ranks: &[u8], link: usize, end: usize, dist: &[u32]) -> Found
-    ensures { λ r. ⌜ outcomeIn r ≡ linkBy network (now (ranks .entry)) link end (now (dist .entry)) ⌝ }
+pub fn link_pair(columns: Links, ranks: &[u8], link: usize, end: usize, dist: &[u32]) -> Found
+    ensures { λ r. ⌜ outcomeIn r ≡ linkBy columns (now (ranks .entry)) link end (now (dist .entry)) ⌝ }
 {
     if 128 <= link {
         return Found::Nothing;
     }
-    let n = network.routers;
-    let links = network.links;
+    let n = columns.routers;
+    let links = columns.links;
     let protected = protect(
-        &network.from,
-        &network.to,
-        &network.out,
-        &network.back,
+        &columns.from,
+        &columns.to,
+        &columns.out,
+        &columns.back,
         link,
         end,
     );
@@ -88,10 +89,10 @@ pub fn link_pair(network: Network, ranks: &[u8], link: usize, end: usize, dist: 
         dist,
         n,
         links,
-        &network.from,
-        &network.to,
-        &network.out,
-        &network.back,
+        &columns.from,
+        &columns.to,
+        &columns.out,
+        &columns.back,
         protected,
     )
 }

@@ -18,6 +18,7 @@ use differential::tables::{things, unlike};
 use oracle::answer::{Opened, Question};
 use oracle::fault::{Context, Fault};
 use oracle::file::write;
+use oracle::network::Network;
 use oracle::random::Random;
 use oracle::table;
 use oracle::worked::ring_4_with_prefix;
@@ -113,6 +114,63 @@ fn a_table_is_of_every_file_with_its_distances() {
             assert_eq!(told(&cheaper), is_18);
         }
     }
+}
+
+/// A line of five routers, and one that no link joins, or that one joins at this cost. The
+/// distance along the line is the largest but one.
+fn line(largest: u32, joined: Option<u16>) -> Network {
+    let (third, rest) = ((largest / 3) as u16, (largest - largest / 3 * 2 - 1) as u16);
+    let line = Network::of_routers(6)
+        .link(0, 1, third, third)
+        .link(1, 2, third, 1)
+        .link(2, 3, 1, third)
+        .link(4, 3, 1, rest);
+    match joined {
+        Some(cost) => line.link(4, 5, cost, 1),
+        None => line,
+    }
+}
+
+/// Every cell in turn as another number, most of which are the same in their lower bits.
+fn tables_near(right: &[u32]) -> Vec<Vec<u32>> {
+    let others = [13, 14, 15, 16, 17, 22, 30, 31].map(|bit| 1u32 << bit);
+    let offsets = others.into_iter().chain([1, 2, u32::MAX, u32::MAX - 1]);
+    offsets
+        .flat_map(|offset| {
+            (0..right.len()).map(move |place| {
+                let mut cells = right.to_vec();
+                cells[place] = cells[place].wrapping_add(offset);
+                cells
+            })
+        })
+        .collect()
+}
+
+/// Small distances are checked as numbers of 16 bits, others as numbers of 32. On both
+/// sides of each power of two the right table is taken and every other refused.
+#[test]
+fn tables_about_the_bounds_of_16_bits() {
+    let mut asked = 0;
+    for bound in [1u32 << 13, 1 << 14, 1 << 15, 1 << 16, 1 << 17] {
+        for largest in bound - 4..bound + 4 {
+            for joined in [None, Some(1), Some(65_535)] {
+                let network = line(largest, joined);
+                let (file, right) = (write(&network), table::right(&network));
+                assert_eq!(right[4], largest);
+                let told = |cells: &[u32]| {
+                    let question = Question::link_repair(0, 0);
+                    ask(&Library, &file, &Asked::by_table(question, Kind::AtRandom, cells, 12)).told
+                };
+                let is_18 = Told::Refused { number: 18, value: 0 };
+                assert_ne!(told(&right), is_18, "{largest} {joined:?}");
+                for cells in tables_near(&right) {
+                    assert_eq!(told(&cells), is_18, "{largest} {joined:?} {cells:?}");
+                    asked += 1;
+                }
+            }
+        }
+    }
+    assert_eq!(asked, 5 * 8 * 3 * 12 * 36);
 }
 
 /// No call may write into its table: every cell of it is compared, and those around it.

@@ -17,7 +17,7 @@ use Rattle.metric.specs.Fit.{SlotsWithin}
 use Rattle.metric.specs.Columns.{linksIn, InColumns}
 use Rattle.metric.specs.Column.{slotsIn}
 use Rattle.metric.specs.Laws.Column.{pad-at}
-use Rattle.network_file.specs.Struct.{fromOf, toOf, outOf, backOf, routerOf, costOf, linkColumn, slotColumn, attachedColumn, structOf}
+use Rattle.network_file.specs.Struct.{fromOf, toOf, outOf, backOf, routerOf, costOf, linkColumn, slotColumn, attachedColumn, structOf, linksStructOf}
 use Rattle.network_file.specs.Held.{targetsIn, networkHeld}
 
 -- ---- links
@@ -34,9 +34,8 @@ same-link (link a b ab ba) = refl
 
 -- the columns hold link k
 pub struct-link : (net : Network) (k : ℕ) → k < length (net .links) →
-    link (getD (structOf net .from) k 0) (getD (structOf net .to) k 0) (getD (structOf net .out) k 0) (getD (structOf net .back) k 0)
-    ≡ getD (net .links) k (link 0 0 0 0)
-unfolding structOf
+    let s = linksStructOf net in link (getD (s .from) k 0) (getD (s .to) k 0) (getD (s .out) k 0) (getD (s .back) k 0) ≡ getD (net .links) k (link 0 0 0 0)
+unfolding linksStructOf
 struct-link net k h =
     rw (
       column-cell fromOf (net .links) k h,
@@ -46,10 +45,10 @@ struct-link net k h =
     )
     (same-link (getD (net .links) k (link 0 0 0 0)))
 
--- the network by value holds the network in its columns
+-- the links by value hold those of the network in their columns
 pub struct-columns : (net : Network) →
-    let s = structOf net in InColumns net (s .routers) (s .links) (s .from) (s .to) (s .out) (s .back)
-unfolding structOf linksIn
+    let s = linksStructOf net in InColumns net (s .routers) (s .links) (s .from) (s .to) (s .out) (s .back)
+unfolding linksStructOf linksIn
 struct-columns net = record {
   routers-are = refl;
   links-are = sym (made-again _ (net .links) (link 0 0 0 0) (struct-link net));
@@ -128,7 +127,8 @@ slots-within net limits p h =
 pub struct-held : (net : Network) → FewAttached net → networkHeld (structOf net) ≡ net
 unfolding networkHeld
 struct-held net few =
-    let links = struct-columns net .links-are in
+    let links : linksIn (structOf net .from) (structOf net .to) (structOf net .out) (structOf net .back) (structOf net .links) ≡ net .links =
+    unfold structOf linksStructOf in sym (struct-columns net .links-are) in
     let prefixes : targetsIn (structOf net .attached) (structOf net .at) (structOf net .own) (structOf net .prefixes) ≡ net .prefixes =
     unfold targetsIn structOf in made-again _ (net .prefixes) [] (slots-prefix net few) in
-    rw (← links, prefixes) (unfold structOf in refl)
+    rw (links, prefixes) (unfold structOf in refl)

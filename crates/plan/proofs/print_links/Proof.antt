@@ -8,10 +8,10 @@ use Rattle.plan.proofs.print_links.Statement.{statement}
 use Rattle.plan.proofs.print_links.Tie as tie
 
 abbrev Inv-loop : tie.InvT-loop
-Inv-loop file network table links link₀ link = (link ≤ links) × (4096 ≡ length table)
+Inv-loop file held table links link₀ link = (link ≤ links) × (4096 ≡ length table)
 
 abbrev μ-loop : tie.MeasureT-loop
-μ-loop file network table links link₀ link = links - link
+μ-loop file held table links link₀ link = links - link
 
 slice-aggregate-distances : tie.Need-slice-aggregate-distances Inv-loop μ-loop
 slice-aggregate-distances c = search needs

@@ -6,8 +6,8 @@ use borrow.Author.Needs.{needs}
 use Rattle.plan.proofs.print_plan.Statement.{statement}
 use Rattle.plan.proofs.print_plan.Tie as tie
 
-load-requires : tie.Need-load-requires
-load-requires c κs = search needs
+load-links-requires : tie.Need-load-links-requires
+load-links-requires c κs = search needs
 
 enum-known-verdict : tie.Need-enum-known-verdict
 enum-known-verdict c = search needs
@@ -32,8 +32,8 @@ print-links-requires c κs =
     columns-within
     (taken
     _
-    _
-    (c .before .before .before .before .load .ensures)
+    (c .before .before .before .before .load-links .ensures .0)
+    (c .before .before .before .before .load-links .ensures .1)
     (λ i. omega (arith, c .before .before .before .before .before .shared-slice-known .given i))
     (c .before .before .enum-told .given .1))
     .few-links
@@ -45,7 +45,7 @@ pub print-plan-spec : {M : Type 1} → statement M
 print-plan-spec =
     tie.close
     (tie.spec
-    load-requires
+    load-links-requires
     enum-known-verdict
     file-row-requires
     refused-requires

@@ -2,10 +2,8 @@
 -- Assumes nothing.
 use mathlib.Core.Path.{refl}
 use native.Mathlib.Omega.{arith}
-use Rattle.lfa.specs.Question.{loading}
 use Rattle.rows.specs.Rows.{questionAbout}
-use Rattle.question.specs.Laws.Loaded.{columns-within}
-use Rattle.question.proofs.QuestionLaws.{fault-early, took, row-early}
+use Rattle.question.proofs.QuestionLaws.{fault-early, row-early}
 use borrow.Author.Needs.{needs}
 use Rattle.question.proofs.judge.Statement.{statement}
 use Rattle.question.proofs.judge.Tie as tie
@@ -15,18 +13,15 @@ enum-known-verdict c = search needs
 
 returns : tie.Need-returns
 unfolding questionAbout
-returns c = λ b table s choices ranks is good judged.
-    let a = c .before .before .before .before .args in
-    record { limit-is = refl; turned-is = fault-early (questionAbout b (a .cells) table (a .asked) s choices ranks) _ is _ (c .before .verdict .given .1); network-is = is .network-is }
+returns c = λ b held table s choices ranks is counts good judged.
+    let a = c .before .before .before .args in
+    record { limit-is = refl; turned-is = fault-early (questionAbout b (a .cells) table (a .asked) s choices ranks) _ held is _ (c .before .verdict .given .1); links-is = is .links-is }
 
 enum-told : tie.Need-enum-told
 enum-told c = search needs
 
 narrow-requires : tie.Need-narrow-requires
-unfolding loading
-narrow-requires c κs =
-    let pre = c .before .before .before .pre in
-    omega (arith, columns-within (took (loading (pre .0)) _ (pre .1) (c .enum-told .given .1)) .few-routers)
+narrow-requires c κs = search needs
 
 first-row-requires : tie.Need-first-row-requires
 first-row-requires c κs = search needs
@@ -36,13 +31,13 @@ turned-by-requires c κs = search needs
 
 returns-2 : tie.Need-returns-2
 unfolding questionAbout
-returns-2 c = λ b table s choices ranks is good judged.
+returns-2 c = λ b held table s choices ranks is counts good judged.
     let told = c .before .before .before in
-    let a = told .before .before .before .args in
+    let a = told .before .before .args in
     record {
       limit-is = refl;
-      turned-is = row-early (questionAbout b (a .cells) table (a .asked) s choices ranks) _ is (told .enum-told .given .1) _ (c .before .before .narrow .ensures) _ judged _ (c .before .first-row .ensures b s table choices ranks good) _ (c .turned-by .ensures);
-      network-is = is .network-is;
+      turned-is = row-early (questionAbout b (a .cells) table (a .asked) s choices ranks) _ held is (told .enum-told .given .1) counts (c .before .before .narrow .ensures) judged _ (c .before .first-row .ensures b s table choices ranks good) _ (c .turned-by .ensures);
+      links-is = is .links-is;
     }
 
 pub judge-spec : {M : Type 1} → statement M

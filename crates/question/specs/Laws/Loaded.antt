@@ -11,54 +11,54 @@ use Rattle.lfa.specs.Refusal.{Posed}
 use Rattle.lfa.specs.Answer.{answerTo, networkLoaded}
 use Rattle.lfa.specs.Laws.Accepted.{accepted-limits, accepted-loaded, link-count, prefix-count}
 use Rattle.network_file.specs.declared.Verdict.the-variants as verdict
-use Rattle.network_file.specs.Struct.{structOf}
+use Rattle.network_file.specs.Struct.{linksStructOf}
 use Rattle.network_file.specs.Laws.Struct.{struct-columns}
-use Rattle.network_file.specs.declared.network.Network as struct
+use Rattle.network_file.specs.declared.network.Links.{Links}
 use Rattle.metric.specs.Fit.{ColumnsWithin}
 use Rattle.metric.specs.Columns.{InColumns}
 use Rattle.metric.specs.Laws.Columns.{limits-columns}
-use Rattle.network_file.specs.declared.Loaded.{Loaded}
+use Rattle.network_file.specs.declared.Verdict.{Verdict}
 use Rattle.network_file.specs.Load.{answerOf}
 use Rattle.lfa.specs.Question.{loading}
 use Rattle.lfa.specs.Laws.FileRows.{load-accepted}
 use Rattle.lfa.specs.Laws.Turned.{load-accepts}
 use Rattle.question.specs.Taken.{Taken}
 
--- ---- the network that the file part hands over
+-- ---- the links that the file part hands over
 
--- where it accepts the file, the network is the file's
-pub taken : (b : Bytes) (r : Loaded) → (answerOf (r .verdict) ≡ answerTo (loading b)) × (r .network ≡ structOf (networkLoaded b)) →
-    ((i : ℕ) → getD b i 0 < 256) → r .verdict ≡ verdict.Accepted → Taken b (r .network)
+-- where it accepts the file, they are the file's
+pub taken : (b : Bytes) {told : Verdict} {links : Links} → answerOf told ≡ answerTo (loading b) → links ≡ linksStructOf (networkLoaded b) →
+    ((i : ℕ) → getD b i 0 < 256) → told ≡ verdict.Accepted → Taken b links
 unfolding answerOf byteAt
-taken b r answered bytes v =
-    let a = load-accepted b bytes (load-accepts b (sym (answered .0) ∙ ap answerOf v)) in
-    record { is-accepted = a; network-is = answered .1 ∙ ap structOf (accepted-loaded b a) }
+taken b answered e bytes v =
+    let a = load-accepted b bytes (load-accepts b (sym answered ∙ ap answerOf v)) in
+    record { is-accepted = a; links-is = e ∙ ap linksStructOf (accepted-loaded b a) }
 
--- what is handed over is the network of an accepted file
-pub taken-posed : (q : Question) → Posed q → {network : struct.Network} → network ≡ structOf (networkLoaded (q .file)) → Taken (q .file) network
-taken-posed q p e = record { is-accepted = p .file; network-is = e ∙ ap structOf (accepted-loaded (q .file) (p .file)) }
+-- what is handed over are the links of an accepted file
+pub taken-posed : (q : Question) → Posed q → {links : Links} → links ≡ linksStructOf (networkLoaded (q .file)) → Taken (q .file) links
+taken-posed q p e = record { is-accepted = p .file; links-is = e ∙ ap linksStructOf (accepted-loaded (q .file) (p .file)) }
 
-module _ {b : Bytes} {network : struct.Network} (t : Taken b network) where
+module _ {b : Bytes} {links : Links} (t : Taken b links) where
   pub limits : WithinLimits (networkOf b)
   limits = accepted-limits b (t .is-accepted)
 
-  pub network-columns : InColumns (networkOf b) (network .routers) (network .links) (network .from) (network .to) (network .out) (network .back)
-  network-columns = rw (t .network-is) (struct-columns (networkOf b))
+  pub network-columns : InColumns (networkOf b) (links .routers) (links .links) (links .from) (links .to) (links .out) (links .back)
+  network-columns = rw (t .links-is) (struct-columns (networkOf b))
 
-  pub columns-within : ColumnsWithin (network .routers) (network .links) (network .from) (network .to)
+  pub columns-within : ColumnsWithin (links .routers) (links .links) (links .from) (links .to)
   columns-within = limits-columns limits network-columns
 
-  pub routers-same : network .routers ≡ networkOf b .routers
+  pub routers-same : links .routers ≡ networkOf b .routers
   routers-same = sym (network-columns .routers-are)
 
-  pub routers-are : network .routers ≡ routersOf b
-  unfolding networkOf structOf
-  routers-are = rw (t .network-is)
+  pub routers-are : links .routers ≡ routersOf b
+  unfolding networkOf linksStructOf
+  routers-are = rw (t .links-is)
 
-  pub links-are : network .links ≡ linksOf b
-  unfolding structOf
-  links-are = ap (λ (n : struct.Network). n .links) (t .network-is) ∙ link-count b (t .is-accepted)
+  pub links-are : links .links ≡ linksOf b
+  unfolding linksStructOf
+  links-are = ap (λ (l : Links). l .links) (t .links-is) ∙ link-count b (t .is-accepted)
 
-  pub prefixes-are : network .prefixes ≡ prefixesOf b
-  unfolding structOf
-  prefixes-are = ap (λ (n : struct.Network). n .prefixes) (t .network-is) ∙ prefix-count b (t .is-accepted)
+  pub prefixes-are : links .prefixes ≡ prefixesOf b
+  unfolding linksStructOf
+  prefixes-are = ap (λ (l : Links). l .prefixes) (t .links-is) ∙ prefix-count b (t .is-accepted)

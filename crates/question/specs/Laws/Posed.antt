@@ -13,7 +13,7 @@ use Rattle.lfa.specs.Answer.{networkLoaded}
 use Rattle.lfa.specs.Contract.{Answered}
 use Rattle.lfa.specs.Laws.Accepted.{accepted-loaded}
 use Rattle.lfa.specs.Laws.Turned.{TurnedAway, answer-turned-away, answer-posed}
-use Rattle.network_file.specs.declared.network.Network.{Network}
+use Rattle.network_file.specs.declared.network.Links.{Links}
 use Rattle.metric.specs.Laws.Area as metric
 use Rattle.question.specs.declared.Refusal.{Refusal}
 use Rattle.question.specs.declared.Turned.{Turned}
@@ -22,7 +22,7 @@ use Rattle.question.specs.Turning.{refusalAnswer, turnedRow, turnedAnswe
 use Rattle.question.specs.Taken.{Taken}
 use Rattle.question.specs.Laws.Loaded.{taken-posed}
 
-module _ {q : Question} {turned : Turned} {network : Network} {area after : List ℕ} (j : Poses q turned network area after) where
+module _ {q : Question} {turned : Turned} {links : Links} {area after : List ℕ} (j : Poses q turned links area after) where
   -- where it is turned away
   module _ {x : Refusal} (e : turned ≡ Refused x) where
     pub refused-away : TurnedAway q (refusalAnswer x)
@@ -42,8 +42,8 @@ module _ {q : Question} {turned : Turned} {network : Network} {area after : List
     unfolding turnedAnswer turnedRow
     ready-posed = answer-posed q bytes (sym (j .judges .turned-is) ∙ ap turnedAnswer e)
 
-    pub ready-taken : Taken (q .file) network
-    ready-taken = taken-posed q ready-posed (j .judges .network-is)
+    pub ready-taken : Taken (q .file) links
+    ready-taken = taken-posed q ready-posed (j .judges .links-is)
 
     pub area-filled : after ≡ filled (networkOf (q .file)) area
     unfolding areaPosed
@@ -51,10 +51,10 @@ module _ {q : Question} {turned : Turned} {network : Network} {area after : List
 
 -- A table that is lent is before and after as if it were filled: unless the question is turned away it holds the distances, so that a fill
 -- would change nothing.
-pub poses-table : {q : Question} {turned : Turned} {network : Network} → Judges q turned network → HasInput q aTable → ((i : ℕ) → byteAt (q .file) i < 256) → q .cells ≡ length (q .table) →
-    Poses q turned network (q .table) (q .table)
+pub poses-table : {q : Question} {turned : Turned} {links : Links} → Judges q turned links → HasInput q aTable → ((i : ℕ) → byteAt (q .file) i < 256) → q .cells ≡ length (q .table) →
+    Poses q turned links (q .table) (q .table)
 unfolding areaPosed turnedAnswer turnedRow networkAsked
-poses-table {q} {turned} {network} j has bytes count = record { judges = j; cells-are = count; area-is = go turned refl }
+poses-table {q} {turned} {links} j has bytes count = record { judges = j; cells-are = count; area-is = go turned refl }
   where
     go : (t : Turned) → turned ≡ t → q .table ≡ areaPosed turned (networkLoaded (q .file)) (q .table)
     go (Refused x) e = sym (ap (λ (t : Turned). areaPosed t (networkLoaded (q .file)) (q .table)) e)

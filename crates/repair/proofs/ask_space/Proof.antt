@@ -19,18 +19,18 @@ use borrow.Author.Needs.{needs}
 use Rattle.repair.proofs.ask_space.Statement.{statement}
 use Rattle.repair.proofs.ask_space.Tie as tie
 
-pose-requires : tie.Need-pose-requires
-pose-requires c κs = search needs
+pose-links-requires : tie.Need-pose-links-requires
+pose-links-requires c κs = search needs
 
--- the question, what `pose` tells of it, and its bytes
-abbrev asked : tie.After-pose → Question
+-- the question, what `pose_links` tells of it, and its bytes
+abbrev asked : tie.After-pose-links → Question
 asked l = let a = l .before .before .before .before .args in askSpace (spaceNamed (a .which)) (a .file .now) (length (a .work .now)) (a .link) (a .end)
 
-judged : (l : tie.After-pose) → Poses (asked l) (l .pose .result .turned) (l .pose .result .network) (l .before .before .before .before .args .work .now) (l .pose .last .1 .1 .0)
+judged : (l : tie.After-pose-links) → Poses (asked l) (l .pose-links .result .turned) (l .pose-links .result .links) (l .before .before .before .before .args .work .now) (l .pose-links .last .1 .1 .0)
 unfolding askSpace questionAbout callOf workCells isArrangement
-judged l = l .pose .ensures _ [] [] refl
+judged l = l .pose-links .ensures _ [] [] refl
 
-bytes : (l : tie.After-pose) (i : ℕ) → byteAt (asked l .file) i < 256
+bytes : (l : tie.After-pose-links) (i : ℕ) → byteAt (asked l .file) i < 256
 unfolding askSpace byteAt
 bytes l i = omega (arith, l .before .before .before .shared-slice-known .given i)
 
@@ -64,7 +64,7 @@ pub ask-space-spec : {M : Type 1} → statement M
 ask-space-spec =
     tie.close
     (tie.spec
-    pose-requires
+    pose-links-requires
     enum-known-turned
     same-length
     returns

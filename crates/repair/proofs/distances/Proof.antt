@@ -18,18 +18,18 @@ use borrow.Author.Needs.{needs}
 use Rattle.repair.proofs.distances.Statement.{statement}
 use Rattle.repair.proofs.distances.Tie as tie
 
-pose-requires : tie.Need-pose-requires
-pose-requires c κs = search needs
+pose-links-requires : tie.Need-pose-links-requires
+pose-links-requires c κs = search needs
 
--- the question, what `pose` tells of it, and its bytes
-abbrev asked : tie.After-pose → Question
+-- the question, what `pose_links` tells of it, and its bytes
+abbrev asked : tie.After-pose-links → Question
 asked l = let a = l .before .before .before .before .args in filling (a .file .now) (length (a .work .now))
 
-judged : (l : tie.After-pose) → Poses (asked l) (l .pose .result .turned) (l .pose .result .network) (l .before .before .before .before .args .work .now) (l .pose .last .1 .1 .0)
+judged : (l : tie.After-pose-links) → Poses (asked l) (l .pose-links .result .turned) (l .pose-links .result .links) (l .before .before .before .before .args .work .now) (l .pose-links .last .1 .1 .0)
 unfolding filling questionAbout callOf workCells isArrangement
-judged l = l .pose .ensures pSpace [] [] refl
+judged l = l .pose-links .ensures pSpace [] [] refl
 
-bytes : (l : tie.After-pose) (i : ℕ) → byteAt (asked l .file) i < 256
+bytes : (l : tie.After-pose-links) (i : ℕ) → byteAt (asked l .file) i < 256
 unfolding filling byteAt
 bytes l i = omega (arith, l .before .before .before .shared-slice-known .given i)
 
@@ -57,7 +57,7 @@ pub distances-spec : {M : Type 1} → statement M
 distances-spec =
     tie.close
     (tie.spec
-    pose-requires
+    pose-links-requires
     enum-known-turned
     same-length
     returns

@@ -22,18 +22,18 @@ arranged-requires c κs = search needs
 link-asked-requires : tie.Need-link-asked-requires
 link-asked-requires c κs = search needs
 
-pose-requires : tie.Need-pose-requires
-pose-requires c κs = search needs
+pose-links-requires : tie.Need-pose-links-requires
+pose-links-requires c κs = search needs
 
--- the question, what `pose` tells of it, and its bytes
-abbrev asked : tie.After-pose → Question
+-- the question, what `pose_links` tells of it, and its bytes
+abbrev asked : tie.After-pose-links → Question
 asked l = let a = l .before .before .before .before .before .before .before .args in askLink (a .file .now) (length (a .work .now)) (a .ranks .now) (a .link) (a .end)
 
-posed : (l : tie.After-pose) → Poses (asked l) (l .pose .result .turned) (l .pose .result .network) (l .before .before .before .before .before .before .before .args .work .now) (l .pose .last .1 .1 .0)
+posed : (l : tie.After-pose-links) → Poses (asked l) (l .pose-links .result .turned) (l .pose-links .result .links) (l .before .before .before .before .before .before .before .args .work .now) (l .pose-links .last .1 .1 .0)
 unfolding askLink questionAbout callOf sourceOf workCells linkNumbers
-posed l = let a = l .before .before .before .before .before .before .before .args in poses-numbers (a .file .now) (workCells (length (a .work .now))) [] [] (a .ranks .now) (l .before .before .link-asked .ensures) (sym (l .before .before .before .arranged .ensures)) (l .pose .ensures)
+posed l = let a = l .before .before .before .before .before .before .before .args in poses-numbers (a .file .now) (workCells (length (a .work .now))) [] [] (a .ranks .now) (l .before .before .link-asked .ensures) (sym (l .before .before .before .arranged .ensures)) (l .pose-links .ensures)
 
-bytes : (l : tie.After-pose) (i : ℕ) → byteAt (asked l .file) i < 256
+bytes : (l : tie.After-pose-links) (i : ℕ) → byteAt (asked l .file) i < 256
 unfolding askLink byteAt
 bytes l i = omega (arith, l .before .before .before .before .before .before .shared-slice-known .given i)
 
@@ -55,7 +55,7 @@ link-repair-spec =
     (tie.spec
     arranged-requires
     link-asked-requires
-    pose-requires
+    pose-links-requires
     link-over-requires
     same-length
     returns)

@@ -25,19 +25,19 @@ arranged-requires c κs = search needs
 link-asked-requires : tie.Need-link-asked-requires
 link-asked-requires c κs = search needs
 
-pose-with-requires : tie.Need-pose-with-requires
-pose-with-requires c κs = search needs
+pose-links-with-requires : tie.Need-pose-links-with-requires
+pose-links-with-requires c κs = search needs
 
--- the question, what `pose_with` tells of it, and its bytes
-abbrev asked : tie.After-pose-with → Question
+-- the question, what `pose_links_with` tells of it, and its bytes
+abbrev asked : tie.After-pose-links-with → Question
 asked l = let a = l .before .before .before .before .before .before .args in askLinkWith (a .file .now) (a .table .now) (a .ranks .now) (a .link) (a .end)
 
-judged : (l : tie.After-pose-with) → Judges (asked l) (l .pose-with .result .turned) (l .pose-with .result .network)
+judged : (l : tie.After-pose-links-with) → Judges (asked l) (l .pose-links-with .result .turned) (l .pose-links-with .result .links)
 unfolding askLinkWith questionAbout callOf sourceOf tableCells linkNumbers
 judged l = let a = l .before .before .before .before .before .before .args in
-    judges-numbers (a .file .now) (tableCells (networkLoaded (a .file .now)) (a .table .now)) (a .table .now) [] (a .ranks .now) (l .before .link-asked .ensures) (sym (l .before .before .arranged .ensures)) (l .pose-with .ensures)
+    judges-numbers (a .file .now) (tableCells (networkLoaded (a .file .now)) (a .table .now)) (a .table .now) [] (a .ranks .now) (l .before .link-asked .ensures) (sym (l .before .before .arranged .ensures)) (l .pose-links-with .ensures)
 
-bytes : (l : tie.After-pose-with) (i : ℕ) → byteAt (asked l .file) i < 256
+bytes : (l : tie.After-pose-links-with) (i : ℕ) → byteAt (asked l .file) i < 256
 unfolding askLinkWith byteAt
 bytes l i = omega (arith, l .before .before .before .before .before .shared-slice-known .given i)
 
@@ -53,4 +53,4 @@ returns c =
 pub link-repair-with-spec : {M : Type 1} → statement M
 link-repair-with-spec =
     tie.close
-    (tie.spec arranged-requires link-asked-requires pose-with-requires link-over-requires returns)
+    (tie.spec arranged-requires link-asked-requires pose-links-with-requires link-over-requires returns)

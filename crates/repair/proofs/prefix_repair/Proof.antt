@@ -8,6 +8,7 @@ use lib.ListN.{length}
 use Rattle.lfa.specs.File.{byteAt}
 use Rattle.lfa.specs.Question.{Question, askPrefix}
 use Rattle.rows.specs.Rows.{sourceOf, callOf, questionAbout}
+use Rattle.network_file.specs.Struct.{linkPart}
 use Rattle.question.specs.Turning.{workCells, Poses}
 use Rattle.repair.specs.Told.{prefixNumbers}
 use Rattle.repair.specs.Laws.Told.{poses-numbers}
@@ -29,9 +30,9 @@ pose-requires c κs = search needs
 abbrev asked : tie.After-pose → Question
 asked l = let a = l .before .before .before .before .before .before .before .args in askPrefix (a .file .now) (length (a .work .now)) (a .ranks .now) (a .link) (a .end) (a .prefix)
 
-posed : (l : tie.After-pose) → Poses (asked l) (l .pose .result .turned) (l .pose .result .network) (l .before .before .before .before .before .before .before .args .work .now) (l .pose .last .1 .1 .0)
+posed : (l : tie.After-pose) → Poses (asked l) (l .pose .result .turned) (linkPart (l .pose .result .network)) (l .before .before .before .before .before .before .before .args .work .now) (l .pose .last .1 .1 .0)
 unfolding askPrefix questionAbout callOf sourceOf workCells prefixNumbers
-posed l = let a = l .before .before .before .before .before .before .before .args in poses-numbers (a .file .now) (workCells (length (a .work .now))) [] [] (a .ranks .now) (l .before .before .prefix-asked .ensures) (sym (l .before .before .before .arranged .ensures)) (l .pose .ensures)
+posed l = let a = l .before .before .before .before .before .before .before .args in poses-numbers (a .file .now) (workCells (length (a .work .now))) [] [] (a .ranks .now) (l .before .before .prefix-asked .ensures) (sym (l .before .before .before .arranged .ensures)) (l .pose .ensures .1)
 
 bytes : (l : tie.After-pose) (i : ℕ) → byteAt (asked l .file) i < 256
 unfolding askPrefix byteAt
@@ -47,7 +48,7 @@ returns : tie.Need-returns
 unfolding askPrefix
 returns c =
     let l = c .before .before .before .before in
-    record { answer-is = c .prefix-over .ensures ∙ prefix-told (posed l) (bytes l) refl; area-is = area-left (posed l) (bytes l) }
+    record { answer-is = c .prefix-over .ensures ∙ prefix-told _ (posed l) (l .pose .ensures .0) (bytes l) refl; area-is = area-left (posed l) (bytes l) }
 
 pub prefix-repair-spec : {M : Type 1} → statement M
 prefix-repair-spec =

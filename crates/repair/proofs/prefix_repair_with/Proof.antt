@@ -10,6 +10,7 @@ use Rattle.lfa.specs.File.{byteAt}
 use Rattle.lfa.specs.Question.{Question, askPrefixWith, cellsFrom, inputsOf, inputNumber, hasInput}
 use Rattle.lfa.specs.Answer.{networkLoaded}
 use Rattle.rows.specs.Rows.{sourceOf, callOf, questionAbout}
+use Rattle.network_file.specs.Struct.{linkPart}
 use Rattle.question.specs.Turning.{tableCells, Judges}
 use Rattle.question.specs.Laws.Posed.{poses-table}
 use Rattle.repair.specs.Told.{prefixNumbers}
@@ -32,10 +33,10 @@ pose-with-requires c κs = search needs
 abbrev asked : tie.After-pose-with → Question
 asked l = let a = l .before .before .before .before .before .before .args in askPrefixWith (a .file .now) (a .table .now) (a .ranks .now) (a .link) (a .end) (a .prefix)
 
-judged : (l : tie.After-pose-with) → Judges (asked l) (l .pose-with .result .turned) (l .pose-with .result .network)
+judged : (l : tie.After-pose-with) → Judges (asked l) (l .pose-with .result .turned) (linkPart (l .pose-with .result .network))
 unfolding askPrefixWith questionAbout callOf sourceOf tableCells prefixNumbers
 judged l = let a = l .before .before .before .before .before .before .args in
-    judges-numbers (a .file .now) (tableCells (networkLoaded (a .file .now)) (a .table .now)) (a .table .now) [] (a .ranks .now) (l .before .prefix-asked .ensures) (sym (l .before .before .arranged .ensures)) (l .pose-with .ensures)
+    judges-numbers (a .file .now) (tableCells (networkLoaded (a .file .now)) (a .table .now)) (a .table .now) [] (a .ranks .now) (l .before .prefix-asked .ensures) (sym (l .before .before .arranged .ensures)) (l .pose-with .ensures .1)
 
 bytes : (l : tie.After-pose-with) (i : ℕ) → byteAt (asked l .file) i < 256
 unfolding askPrefixWith byteAt
@@ -48,7 +49,7 @@ returns : tie.Need-returns
 unfolding askPrefixWith hasInput inputsOf cellsFrom inputNumber memberOf anyOf
 returns c =
     let l = c .before in
-    c .prefix-over .ensures ∙ prefix-told (poses-table (judged l) refl (bytes l) refl) (bytes l) refl
+    c .prefix-over .ensures ∙ prefix-told _ (poses-table (judged l) refl (bytes l) refl) (l .pose-with .ensures .0) (bytes l) refl
 
 pub prefix-repair-with-spec : {M : Type 1} → statement M
 prefix-repair-with-spec =

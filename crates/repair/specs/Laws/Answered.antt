@@ -8,10 +8,13 @@ use Rattle.lfa.specs.File.{byteAt}
 use Rattle.lfa.specs.Space.{Space}
 use Rattle.lfa.specs.Repair.{Outcome}
 use Rattle.lfa.specs.Question.{Question, Source, Call, fill, space, linkRepair, prefixRepair, workArea, someCells, inputsOf, inputNumber, hasInput, networkAsked}
-use Rattle.lfa.specs.Answer.{Answer, done, set, repairAnswer, computed, answerTo, exitOf}
+use Rattle.lfa.specs.Answer.{Answer, done, set, repairAnswer, computed, answerTo, exitOf, networkLoaded}
+use Rattle.lfa.specs.Laws.Accepted.{accepted-loaded}
 use Rattle.lfa.specs.Laws.Asked.{posed-work}
 use Rattle.lfa.specs.Laws.Replies.{computes, has, space-has-link, link-has-link, prefix-has-link, prefix-has-prefix}
+use Rattle.network_file.specs.declared.network.Links.{Links}
 use Rattle.network_file.specs.declared.network.Network.{Network}
+use Rattle.network_file.specs.Struct.{structOf, linkPart}
 use Rattle.search.specs.Calls.{spaceBy, linkBy, prefixBy}
 use Rattle.question.specs.declared.Turned.{Turned}
 use Rattle.question.specs.declared.Turned.the-variants.{Refused, Ready}
@@ -20,7 +23,7 @@ use Rattle.question.specs.Laws.Posed.{refused-away, area-lent, ready-posed, rea
 use Rattle.repair.specs.Told.{toldBy}
 use Rattle.repair.specs.Laws.Searched.{space-searched, link-searched, prefix-searched}
 
-module _ {q : Question} {turned : Turned} {network : Network} {area after : List ℕ} (j : Poses q turned network area after) (bytes : (i : ℕ) → byteAt (q .file) i < 256) where
+module _ {q : Question} {turned : Turned} {links : Links} {area after : List ℕ} (j : Poses q turned links area after) (bytes : (i : ℕ) → byteAt (q .file) i < 256) where
   -- where no row before 14 applies, what the call computes is its answer
   module _ (ready : turned ≡ Ready) where
     by-call : {c : Call} {answer : Answer} → q .call ≡ c → answer ≡ computed q c → answer ≡ answerTo q
@@ -30,24 +33,17 @@ module _ {q : Question} {turned : Turned} {network : Network} {area after : List
     unfolding computed
     done-answered c = by-call c refl
 
-    pub space-answered : (s : Space) → q .call ≡ space s → set (spaceBy s network (q .link) (q .end) after) ≡ answerTo q
+    pub space-answered : (s : Space) → q .call ≡ space s → set (spaceBy s links (q .link) (q .end) after) ≡ answerTo q
     unfolding computed hasInput inputsOf inputNumber memberOf anyOf
     space-answered s c =
         let p = ready-posed j bytes ready in
         by-call c (ap set (space-searched p (ready-taken j bytes ready) area (j .cells-are) (j .judges .limit-is) (area-filled j bytes ready) (space-has-link (q .call) s c) (has q p someCells c refl) s))
 
-    link-answered : {from : Source} → q .call ≡ linkRepair from → repairAnswer (linkBy network (q .ranks) (q .link) (q .end) after) ≡ answerTo q
+    link-answered : {from : Source} → q .call ≡ linkRepair from → repairAnswer (linkBy links (q .ranks) (q .link) (q .end) after) ≡ answerTo q
     unfolding computed hasInput inputsOf inputNumber memberOf anyOf
     link-answered c =
         let p = ready-posed j bytes ready in
         by-call c (ap repairAnswer (link-searched p (ready-taken j bytes ready) area (j .cells-are) (j .judges .limit-is) (area-filled j bytes ready) (link-has-link q p c) (has q p someCells c refl)))
-
-    prefix-answered : {from : Source} → q .call ≡ prefixRepair from → repairAnswer (prefixBy network (q .ranks) (q .link) (q .end) (q .prefix) after) ≡ answerTo q
-    unfolding computed hasInput inputsOf inputNumber memberOf anyOf
-    prefix-answered c =
-        let p = ready-posed j bytes ready in
-        let h = prefix-has-prefix (q .call) c in
-        by-call c (ap repairAnswer (prefix-searched p (ready-taken j bytes ready) area (j .cells-are) (j .judges .limit-is) (area-filled j bytes ready) (prefix-has-link q p h) (has q p someCells c refl) h))
 
   -- the area is left as the question asks
   pub area-left : after ≡ exitOf q workArea area
@@ -67,8 +63,18 @@ module _ {q : Question} {turned : Turned} {network : Network} {area after : List
       go (Refused x) e = ap (λ (t : Turned). toldBy t found) e ∙ sym (refused-away j e .answered)
       go Ready e = ap (λ (t : Turned). toldBy t found) e ∙ ready e
 
-  pub link-told : {from : Source} → q .call ≡ linkRepair from → toldBy turned (linkBy network (q .ranks) (q .link) (q .end) after) ≡ answerTo q
+  pub link-told : {from : Source} → q .call ≡ linkRepair from → toldBy turned (linkBy links (q .ranks) (q .link) (q .end) after) ≡ answerTo q
   link-told c = told-answered _ (λ ready. link-answered ready c)
 
+-- For a prefix the whole network is asked.
+module _ {q : Question} {turned : Turned} (network : Network) {area after : List ℕ} (j : Poses q turned (linkPart network) area after) (whole : network ≡ structOf (networkLoaded (q .file))) (bytes : (i : ℕ) → byteAt (q .file) i < 256) where
+  prefix-answered : turned ≡ Ready → {from : Source} → q .call ≡ prefixRepair from → repairAnswer (prefixBy network (q .ranks) (q .link) (q .end) (q .prefix) after) ≡ answerTo q
+  unfolding computed hasInput inputsOf inputNumber memberOf anyOf
+  prefix-answered ready c =
+      let p = ready-posed j bytes ready in
+      let h = prefix-has-prefix (q .call) c in
+      let same = whole ∙ ap structOf (accepted-loaded (q .file) (p .file)) in
+      by-call j bytes ready c (ap repairAnswer (prefix-searched p network (ready-taken j bytes ready) same area (j .cells-are) (j .judges .limit-is) (area-filled j bytes ready) (prefix-has-link q p h) (has q p someCells c refl) h))
+
   pub prefix-told : {from : Source} → q .call ≡ prefixRepair from → toldBy turned (prefixBy network (q .ranks) (q .link) (q .end) (q .prefix) after) ≡ answerTo q
-  prefix-told c = told-answered _ (λ ready. prefix-answered ready c)
+  prefix-told c = told-answered j bytes _ (λ ready. prefix-answered ready c)

@@ -17,7 +17,9 @@ use Rattle.lfa.specs.Refusal.{Posed}
 use Rattle.lfa.specs.Laws.Accepted.{link-count, prefix-count}
 use Rattle.lfa.specs.Laws.Network.{LinksSound, limits-links, limits-sound, limits-distances, limits-named}
 use Rattle.lfa.specs.Laws.Work.{work-length}
+use Rattle.network_file.specs.declared.network.Links.{Links}
 use Rattle.network_file.specs.declared.network.Network.{Network}
+use Rattle.network_file.specs.Struct.{structOf, linkPart}
 use Rattle.metric.specs.Area.{held}
 use Rattle.metric.specs.Column.{slotsIn}
 use Rattle.metric.specs.Laws.Area.{held-filled}
@@ -42,7 +44,7 @@ known-filled net links-sound area long l e h = record {
 same-known : {n n′ : ℕ} {hops hops′ : List Arc} {q q′ : Protected} {area area′ : List ℕ} → n ≡ n′ → hops ≡ hops′ → q ≡ q′ → area ≡ area′ → Known n′ hops′ q′ area′ → Known n hops q area
 same-known e₁ e₂ e₃ e₄ known = rw (e₁, e₂, e₃, e₄) known
 
-module _ {q : Question} (p : Posed q) {network : Network} (t : Taken (q .file) network) (area : List ℕ) (cells-are : q .cells ≡ length area) (limit-is : q .maintenance ≡ underMaintenance) {after : List ℕ} (full : after ≡ filled (networkOf (q .file)) area) (h : HasInput q aLink) where
+module _ {q : Question} (p : Posed q) {links : Links} (t : Taken (q .file) links) (area : List ℕ) (cells-are : q .cells ≡ length area) (limit-is : q .maintenance ≡ underMaintenance) {after : List ℕ} (full : after ≡ filled (networkOf (q .file)) area) (h : HasInput q aLink) where
   link-there : q .link < length (networkOf (q .file) .links)
   unfolding networkAsked
   link-there = p .link h
@@ -52,7 +54,7 @@ module _ {q : Question} (p : Posed q) {network : Network} (t : Taken (q .file) n
   enough has-cells = omega (arith, cells-are, p .cells has-cells)
 
   -- the search part's test passes
-  asking : HasInput q someCells → Asking network (q .link) (q .end) after
+  asking : HasInput q someCells → Asking links (q .link) (q .end) after
   asking has-cells = record {
     link-in = rw (links-are t, ← link-count (q .file) (t .is-accepted)) link-there;
     within = columns-within t;
@@ -62,7 +64,7 @@ module _ {q : Question} (p : Posed q) {network : Network} (t : Taken (q .file) n
 
   -- what is computed over the columns and the area is computed over the network and its distances
   of-network : {X : Type 0} (F : ℕ → List Arc → (ℕ → ℕ → ℕ) → Protected → X) →
-      F (network .routers) (hopsOf network) (held (network .routers) after) (protectedOf network (q .link) (q .end))
+      F (links .routers) (hopsOf links) (held (links .routers) after) (protectedOf links (q .link) (q .end))
       ≡ F (networkAsked q .routers) (arcs (networkAsked q)) (distanceIn (distances (networkAsked q))) (linkAsked q)
   unfolding networkAsked linkAsked
   of-network F =
@@ -75,20 +77,22 @@ module _ {q : Question} (p : Posed q) {network : Network} (t : Taken (q .file) n
 
   module _ (has-cells : HasInput q someCells) where
     -- The space, the pair of a link and the pair of a prefix are document 01's.
-    pub space-searched : (s : Space) → spaceBy s network (q .link) (q .end) after ≡ withDistances (networkAsked q) (λ d. spaceOf s (networkAsked q .routers) (arcs (networkAsked q)) d (linkAsked q))
+    pub space-searched : (s : Space) → spaceBy s links (q .link) (q .end) after ≡ withDistances (networkAsked q) (λ d. spaceOf s (networkAsked q .routers) (arcs (networkAsked q)) d (linkAsked q))
     unfolding withDistances
     space-searched s = space-found (asking has-cells) s ∙ of-network (λ n hops d r. spaceOf s n hops d r)
 
-    pub link-searched : linkBy network (q .ranks) (q .link) (q .end) after ≡ linkFound q
+    pub link-searched : linkBy links (q .ranks) (q .link) (q .end) after ≡ linkFound q
     unfolding linkFound withDistances
     link-searched = link-found (asking has-cells) (q .ranks) ∙ of-network (λ n hops d r. linkOutcome (q .ranks) n hops d r)
 
-    pub prefix-searched : HasInput q aPrefix → prefixBy network (q .ranks) (q .link) (q .end) (q .prefix) after ≡ prefixFound q
-    unfolding prefixFound withDistances prefixAsked networkAsked
-    prefix-searched has-prefix =
-        let x-in : q .prefix < network .prefixes = rw (prefixes-are t, ← prefix-count (q .file) (t .is-accepted)) (p .prefix has-prefix) in
-        let to = slotsIn (network .at) (network .own) (8 * q .prefix) (getD (network .attached) (q .prefix) 0) in
-        let net = networkOf (q .file) in
-        prefix-found (asking has-cells) (q .ranks) (q .prefix) (prefix-cell t (q .prefix) x-in) (prefix-slots t (q .prefix) x-in refl)
-        ∙ of-network (λ n hops d r. prefixOutcome (q .ranks) n hops d r to)
-        ∙ ap (λ (to : lfa.Target). prefixOutcome (q .ranks) (net .routers) (arcs net) (distanceIn (distances net)) (linkAsked q) to) (prefix-target t (q .prefix) x-in refl)
+-- For a prefix the whole network is asked.
+module _ {q : Question} (p : Posed q) (network : Network) (t : Taken (q .file) (linkPart network)) (whole : network ≡ structOf (networkOf (q .file))) (area : List ℕ) (cells-are : q .cells ≡ length area) (limit-is : q .maintenance ≡ underMaintenance) {after : List ℕ} (full : after ≡ filled (networkOf (q .file)) area) (h : HasInput q aLink) (has-cells : HasInput q someCells) where
+  pub prefix-searched : HasInput q aPrefix → prefixBy network (q .ranks) (q .link) (q .end) (q .prefix) after ≡ prefixFound q
+  unfolding prefixFound withDistances prefixAsked networkAsked
+  prefix-searched has-prefix =
+      let x-in : q .prefix < network .prefixes = rw (prefixes-are t, ← prefix-count (q .file) (t .is-accepted)) (p .prefix has-prefix) in
+      let to = slotsIn (network .at) (network .own) (8 * q .prefix) (getD (network .attached) (q .prefix) 0) in
+      let net = networkOf (q .file) in
+      prefix-found network (asking p t area cells-are limit-is full h has-cells) (q .ranks) (q .prefix) (prefix-cell t network whole (q .prefix) x-in) (prefix-slots t network whole (q .prefix) x-in refl)
+      ∙ of-network p t area cells-are limit-is full h (λ n hops d r. prefixOutcome (q .ranks) n hops d r to)
+      ∙ ap (λ (to : lfa.Target). prefixOutcome (q .ranks) (net .routers) (arcs net) (distanceIn (distances net)) (linkAsked q) to) (prefix-target t network whole (q .prefix) x-in refl)

@@ -8,7 +8,7 @@ use Rattle.lfa.specs.Space.{Space, pSpace}
 use Rattle.lfa.specs.Ranks.{isArrangement}
 use Rattle.lfa.specs.Repair.{Outcome}
 use Rattle.lfa.specs.Answer.{Answer, repairAnswer}
-use Rattle.network_file.specs.declared.network.Network.{Network}
+use Rattle.network_file.specs.declared.network.Links.{Links}
 use Rattle.rows.specs.declared.Asked.{Asked}
 use Rattle.rows.specs.declared.Cells.{Cells}
 use Rattle.rows.specs.Rows.{questionAbout}
@@ -24,13 +24,13 @@ module _ (b : Bytes) (cells : Cells) (table choices ranks : List ℕ) {asked num
   same-ranked : isArrangement ranks ≡ asked .ranked
   same-ranked = good ∙ sym (ap (λ (a : Asked). a .ranked) e)
 
-  pub judges-numbers : {turned : Turned} {network : Network} → ((s : Space) (choices ranks : List ℕ) → isArrangement ranks ≡ asked .ranked → Judges (questionAbout b cells table asked s choices ranks) turned network) →
-      Judges (questionAbout b cells table numbers pSpace choices ranks) turned network
-  judges-numbers {turned} {network} told = subst (λ (a : Asked). Judges (questionAbout b cells table a pSpace choices ranks) turned network) e (told pSpace choices ranks same-ranked)
+  pub judges-numbers : {turned : Turned} {links : Links} → ((s : Space) (choices ranks : List ℕ) → isArrangement ranks ≡ asked .ranked → Judges (questionAbout b cells table asked s choices ranks) turned links) →
+      Judges (questionAbout b cells table numbers pSpace choices ranks) turned links
+  judges-numbers {turned} {links} told = subst (λ (a : Asked). Judges (questionAbout b cells table a pSpace choices ranks) turned links) e (told pSpace choices ranks same-ranked)
 
-  pub poses-numbers : {turned : Turned} {network : Network} {area after : List ℕ} → ((s : Space) (choices ranks : List ℕ) → isArrangement ranks ≡ asked .ranked → Poses (questionAbout b cells table asked s choices ranks) turned network area after) →
-      Poses (questionAbout b cells table numbers pSpace choices ranks) turned network area after
-  poses-numbers {turned} {network} {area} {after} told = subst (λ (a : Asked). Poses (questionAbout b cells table a pSpace choices ranks) turned network area after) e (told pSpace choices ranks same-ranked)
+  pub poses-numbers : {turned : Turned} {links : Links} {area after : List ℕ} → ((s : Space) (choices ranks : List ℕ) → isArrangement ranks ≡ asked .ranked → Poses (questionAbout b cells table asked s choices ranks) turned links area after) →
+      Poses (questionAbout b cells table numbers pSpace choices ranks) turned links area after
+  poses-numbers {turned} {links} {area} {after} told = subst (λ (a : Asked). Poses (questionAbout b cells table a pSpace choices ranks) turned links area after) e (told pSpace choices ranks same-ranked)
 
 -- ---- the answer
 

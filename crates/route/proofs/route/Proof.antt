@@ -35,7 +35,8 @@ put : (l : tie.After-pose) → let a = start l .args in IsPut (rest l) (l .pose 
 unfolding routeQuestion questionAbout callOf sourceOf workCells routeNumbers byteAt
 put l = let a = start l .args in record {
   bytes = λ i. omega (arith, l .before .before .before .before .before .before .before .before .shared-slice-known .given i);
-  poses = poses-numbers (a .file .now) (workCells (length (a .work .now))) [] (a .choices .now) (a .ranks .now) (l .before .before .route-asked .ensures) (sym (l .before .before .before .arranged .ensures)) (l .pose .ensures);
+  poses = poses-numbers (a .file .now) (workCells (length (a .work .now))) [] (a .choices .now) (a .ranks .now) (l .before .before .route-asked .ensures) (sym (l .before .before .before .arranged .ensures)) (l .pose .ensures .1);
+  whole = l .pose .ensures .0;
 }
 
 route-over-requires : tie.Need-route-over-requires

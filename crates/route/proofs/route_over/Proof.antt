@@ -57,14 +57,14 @@ passed-on-requires c κs = search needs
 -- the prefix repair's answer
 answered : (r : tie.After-repair-answer) (rest : Rest) → Put (start (r .before .before .before)) rest → repairOf (r .repair-answer .result) ≡ repairAnswer (prefixFound (asked (start (r .before .before .before)) rest))
 unfolding routeQuestion
-answered r rest i = let e = r .before .before .before in r .repair-answer .ensures ∙ ap repairAnswer (route-searched (i .poses) (i .bytes) (e .enum-told .given .1) refl (r .before .prefix-pair .ensures))
+answered r rest i = let e = r .before .before .before in r .repair-answer .ensures ∙ ap repairAnswer (route-searched _ (i .poses) (i .whole) (i .bytes) (e .enum-told .given .1) refl (r .before .prefix-pair .ensures))
 
 returns-2 : tie.Need-returns-2
 unfolding routeQuestion
 returns-2 c = λ rest i.
     let r = c .before .before in
     let e = r .before .before .before in
-    let on = passed (asked (start e) rest) (p (i .poses) (i .bytes) (e .enum-told .given .1) refl) refl (r .repair-answer .result) (answered r rest i) (not-pair _ (c .before .match2 .keys2)) in
+    let on = passed (asked (start e) rest) (p _ (i .poses) (i .whole) (i .bytes) (e .enum-told .given .1) refl) refl (r .repair-answer .result) (answered r rest i) (not-pair _ (c .before .match2 .keys2)) in
     record { answer-is = c .passed-on .ensures ∙ on .0; buffer-is = on .1 _ }
 
 -- it has a pair
@@ -77,7 +77,7 @@ unfolding routeQuestion
 array-read-wide c =
     let e = c .before .before .before .before .before .before .before in
     let i = start e .pre .1 in
-    prefix-column (i .poses) (i .bytes) (e .enum-told .given .1) refl
+    prefix-column _ (i .poses) (i .whole) (i .bytes) (e .enum-told .given .1) refl
 
 wide-requires : tie.Need-wide-requires
 wide-requires c κs = search needs
@@ -87,14 +87,14 @@ unfolding routeQuestion
 repairing-requires c κs =
     let e = c .before .before .before .before .before .before .before .before .before .before .before in
     let i = start e .pre .1 in
-    link-cell (i .poses) (i .bytes) (e .enum-told .given .1) refl
+    link-cell _ (i .poses) (i .whole) (i .bytes) (e .enum-told .given .1) refl
 
 mul-play : tie.Need-mul-play
 unfolding routeQuestion
 mul-play c =
     let e = c .before .before .before .before .before .before .before .before .before .before .before .before .before .before .before .before .before .before .before in
     let i = start e .pre .1 in
-    record { fits = omega (arith, prefix-column (i .poses) (i .bytes) (e .enum-told .given .1) refl) }
+    record { fits = omega (arith, prefix-column _ (i .poses) (i .whole) (i .bytes) (e .enum-told .given .1) refl) }
 
 play-requires : tie.Need-play-requires
 unfolding routeQuestion
@@ -104,7 +104,7 @@ play-requires c κs =
     let z = w .before .before .before in
     let e = z .before .before .before .before .before in
     let i = start e .pre .1 in
-    play-ready (i .poses) (i .bytes) (e .enum-told .given .1) refl (paired z _ i) (n .repairing .ensures _ _) (w .wide .ensures)
+    play-ready _ (i .poses) (i .whole) (i .bytes) (e .enum-told .given .1) refl (paired z _ i) (n .repairing .ensures _ _) (w .wide .ensures)
 
 same-length : tie.Need-same-length
 same-length c = search needs
@@ -117,12 +117,12 @@ returns-3 c = λ rest i.
     let z = w .before .before .before in
     let e = z .before .before .before .before .before in
     let ready = e .enum-told .given .1 in
-    let way = TheRoute (i .poses) (i .bytes) ready refl (paired z rest i) in
-    let went = c .before .before .play .ensures _ (played-route (i .poses) (i .bytes) ready refl (paired z rest i) (n .repairing .ensures _ _) (w .wide .ensures)) in
+    let way = TheRoute _ (i .poses) (i .whole) (i .bytes) ready refl (paired z rest i) in
+    let went = c .before .before .play .ensures _ (played-route _ (i .poses) (i .whole) (i .bytes) ready refl (paired z rest i) (n .repairing .ensures _ _) (w .wide .ensures)) in
     let lent = start e .args .buffer .now in
     record {
-      answer-is = ap played (went .0) ∙ route-answered (i .poses) (i .bytes) ready refl (paired z rest i);
-      buffer-is = went .1 ∙ ap (λ (k : ℕ). way ++ drop k lent) (went .0) ∙ buffer-written (i .poses) (i .bytes) ready refl (paired z rest i) lent;
+      answer-is = ap played (went .0) ∙ route-answered _ (i .poses) (i .whole) (i .bytes) ready refl (paired z rest i);
+      buffer-is = went .1 ∙ ap (λ (k : ℕ). way ++ drop k lent) (went .0) ∙ buffer-written _ (i .poses) (i .whole) (i .bytes) ready refl (paired z rest i) lent;
     }
 
 pub route-over-spec : {M : Type 1} → statement M

@@ -11,6 +11,7 @@ use Rattle.lfa.specs.Question.{lentTable, askRouteWith, cellsFrom, inputsOf, in
 use Rattle.lfa.specs.Answer.{networkLoaded}
 use Rattle.rows.specs.Rows.{sourceOf, callOf, questionAbout}
 use Rattle.question.specs.Turning.{tableCells, Judges}
+use Rattle.network_file.specs.Struct.{linkPart}
 use Rattle.question.specs.Laws.Posed.{poses-table}
 use Rattle.repair.specs.Laws.Told.{judges-numbers}
 use Rattle.route.specs.Put.{routeNumbers, Rest, routeQuestion, IsPut}
@@ -39,14 +40,14 @@ unfolding byteAt
 bytes l i = omega (arith, l .before .before .before .before .before .before .before .shared-slice-known .given i)
 
 judged : (l : tie.After-pose-with) → let a = start l .args in
-    Judges (routeQuestion (rest l) (length (a .buffer .now)) (a .ranks .now) (a .link) (a .end) (a .prefix) (a .choices .now)) (l .pose-with .result .turned) (l .pose-with .result .network)
+    Judges (routeQuestion (rest l) (length (a .buffer .now)) (a .ranks .now) (a .link) (a .end) (a .prefix) (a .choices .now)) (l .pose-with .result .turned) (linkPart (l .pose-with .result .network))
 unfolding routeQuestion questionAbout callOf sourceOf tableCells routeNumbers
 judged l = let a = start l .args in
-    judges-numbers (a .file .now) (tableCells (networkLoaded (a .file .now)) (a .table .now)) (a .table .now) (a .choices .now) (a .ranks .now) (l .before .route-asked .ensures) (sym (l .before .before .arranged .ensures)) (l .pose-with .ensures)
+    judges-numbers (a .file .now) (tableCells (networkLoaded (a .file .now)) (a .table .now)) (a .table .now) (a .choices .now) (a .ranks .now) (l .before .route-asked .ensures) (sym (l .before .before .arranged .ensures)) (l .pose-with .ensures .1)
 
 put : (l : tie.After-pose-with) → let a = start l .args in IsPut (rest l) (l .pose-with .result .turned) (l .pose-with .result .network) (a .table .now) (length (a .buffer .now)) (a .ranks .now) (a .link) (a .end) (a .prefix) (a .choices .now)
 unfolding routeQuestion hasInput inputsOf cellsFrom inputNumber memberOf anyOf
-put l = record { bytes = bytes l; poses = poses-table (judged l) refl (bytes l) refl }
+put l = record { bytes = bytes l; poses = poses-table (judged l) refl (bytes l) refl; whole = l .pose-with .ensures .0 }
 
 route-over-requires : tie.Need-route-over-requires
 route-over-requires c κs = let l = c .before in (rest l, put l)

@@ -9,6 +9,7 @@ use Rattle.lfa.specs.Space.{Protected}
 use Rattle.lfa.specs.Repair.{Outcome}
 use Rattle.column.specs.Calls.{prefixColumn, attachedSet}
 use Rattle.steps.specs.Crossing.{onwardBySteps}
+use Rattle.network_file.specs.Struct.{linkPart}
 use Rattle.search.specs.Calls.{searchable, prefixIf, hopsOf, prefixBy}
 use borrow.Author.Needs.{needs}
 use Rattle.search.proofs.prefix_pair.Statement.{statement}
@@ -56,7 +57,7 @@ returns-3 c =
     let e = w .before .before in
     let a = e .before .before .before .before .args in
     let found : Protected → List ℕ → ℕ → Outcome = λ q l ends.
-    prefixIf (a .ranks .now) (searchable (a .t1 .routers) (a .t1 .links) q (length (a .dist .now))) (a .t1 .routers) (hopsOf (a .t1)) q (a .dist .now) ends l
+    prefixIf (a .ranks .now) (searchable (a .t1 .routers) (a .t1 .links) q (length (a .dist .now))) (a .t1 .routers) (hopsOf (linkPart (a .t1))) q (a .dist .now) ends l
     (onwardBySteps (a .t1 .routers) (a .t1 .links) (a .t1 .from) (a .t1 .to) (a .t1 .out) (a .t1 .back) q ends l) in
     let target = d .towards-prefix .ensures ∙ ap (λ (k : ℕ). prefixColumn (a .t1 .routers) (a .t1 .at) (a .t1 .own) (8 * a .prefix) k (a .dist .now)) (w .wide .ensures) in
     let ends = t .attached-routers .ensures ∙ ap (λ (k : ℕ). attachedSet (a .t1 .at) (8 * a .prefix) k) (w .wide .ensures) in

@@ -13,7 +13,9 @@ use Rattle.lfa.specs.Repair.{linkOutcome, prefixOutcome}
 use Rattle.lfa.specs.Laws.Test.{and-make}
 use Rattle.lfa.specs.Laws.Bound.{falls}
 use Rattle.lfa.specs.Laws.Repair.{may-test}
+use Rattle.network_file.specs.declared.network.Links.{Links}
 use Rattle.network_file.specs.declared.network.Network.{Network}
+use Rattle.network_file.specs.Struct.{linkPart}
 use Rattle.metric.specs.Area.{held}
 use Rattle.metric.specs.Column.{slotsIn}
 use Rattle.metric.specs.Fit.{ColumnsWithin, SlotsWithin}
@@ -28,46 +30,54 @@ use Rattle.search.specs.Laws.Known.{far-in, avoiding-known, space-known,
 use Rattle.search.specs.Laws.Pairs.{pair-known, prefix-known}
 
 -- the columns hold a network and the area its distances, and an end of one of its links is named
-pub record Asking (network : Network) (l e : ℕ) (area : List ℕ) : Type 0 where
-  pub within : ColumnsWithin (network .routers) (network .links) (network .from) (network .to)
-  pub link-in : l < network .links
-  pub known : Known (network .routers) (hopsOf network) (protectedOf network l e) area
+pub record Asking (columns : Links) (l e : ℕ) (area : List ℕ) : Type 0 where
+  pub within : ColumnsWithin (columns .routers) (columns .links) (columns .from) (columns .to)
+  pub link-in : l < columns .links
+  pub known : Known (columns .routers) (hopsOf columns) (protectedOf columns l e) area
 
-module _ {network : Network} {l e : ℕ} {area : List ℕ} (a : Asking network l e area) where
+module _ {columns : Links} {l e : ℕ} {area : List ℕ} (a : Asking columns l e area) where
   abbrev n : ℕ
-  n = network .routers
+  n = columns .routers
 
   abbrev d : ℕ → ℕ → ℕ
   d = held n area
 
   -- the test passes
-  searched : searches network l e area ≡ true
+  searched : searches columns l e area ≡ true
   unfolding searchable
-  searched = and-make _ _ (lt-ltb l 128 (omega (arith, a .within .few-links, a .link-in))) (and-make _ _ (le-leb (network .links) 128 (a .within .few-links)) (passes (can-read n (hopsOf network) (protectedOf network l e) area (a .known))))
+  searched = and-make _ _ (lt-ltb l 128 (omega (arith, a .within .few-links, a .link-in))) (and-make _ _ (le-leb (columns .links) 128 (a .within .few-links)) (passes (can-read n (hopsOf columns) (protectedOf columns l e) area (a .known))))
 
-  pub space-found : (s : Space) → spaceBy s network l e area ≡ spaceOf s n (hopsOf network) d (protectedOf network l e)
+  pub space-found : (s : Space) → spaceBy s columns l e area ≡ spaceOf s n (hopsOf columns) d (protectedOf columns l e)
   unfolding spaceBy spaceIf
-  space-found s = rw (searched, spaceIf) (space-known n (hopsOf network) (protectedOf network l e) area (a .known) s)
+  space-found s = rw (searched, spaceIf) (space-known n (hopsOf columns) (protectedOf columns l e) area (a .known) s)
 
-  pub link-found : (ranks : List ℕ) → linkBy network ranks l e area ≡ linkOutcome ranks n (hopsOf network) d (protectedOf network l e)
+  pub link-found : (ranks : List ℕ) → linkBy columns ranks l e area ≡ linkOutcome ranks n (hopsOf columns) d (protectedOf columns l e)
   unfolding linkBy linkIf linkFor linkOutcome
   link-found ranks =
-      let q = protectedOf network l e in
+      let q = protectedOf columns l e in
       let known = a .known in
-      let to-far = column.router-known n area (known .sound .few) (known .long) (q .far) (far-in n (hopsOf network) q area known) refl in
+      let to-far = column.router-known n area (known .sound .few) (known .long) (q .far) (far-in n (hopsOf columns) q area known) refl in
       rw (searched, linkIf)
-      (pair-known ranks n (hopsOf network) q area known (router (q .far)) _ to-far _ (avoiding-known n (hopsOf network) q area known (q .far) _ to-far) (none-misses n (hopsOf network) q area known))
+      (pair-known ranks n (hopsOf columns) q area known (router (q .far)) _ to-far _ (avoiding-known n (hopsOf columns) q area known (q .far) _ to-far) (none-misses n (hopsOf columns) q area known))
 
-  pub prefix-found : (ranks : List ℕ) (x : ℕ) → x < 128 → SlotsWithin n (8 * x) (getD (network .attached) x 0) (network .at) →
-      prefixBy network ranks l e x area ≡ prefixOutcome ranks n (hopsOf network) d (protectedOf network l e) (slotsIn (network .at) (network .own) (8 * x) (getD (network .attached) x 0))
+-- A network is asked about by its links, and by the slots of a prefix.
+module _ (network : Network) {l e : ℕ} {area : List ℕ} (a : Asking (linkPart network) l e area) where
+  abbrev columns : Links
+  columns = linkPart network
+
+  pub prefix-found : (ranks : List ℕ) (x : ℕ) → x < 128 → SlotsWithin (columns .routers) (8 * x) (getD (network .attached) x 0) (network .at) →
+      prefixBy network ranks l e x area ≡ prefixOutcome ranks (columns .routers) (hopsOf columns) (held (columns .routers) area) (protectedOf columns l e) (slotsIn (network .at) (network .own) (8 * x) (getD (network .attached) x 0))
   unfolding prefixBy prefixIf
   prefix-found ranks x x-in slots =
-      let q = protectedOf network l e in
+      let n = columns .routers in
+      let hops = hopsOf columns in
+      let d = held n area in
+      let q = protectedOf columns l e in
       let known = a .known in
       let target = slotsIn (network .at) (network .own) (8 * x) (getD (network .attached) x 0) in
       let to-prefix = column.prefix-known n area (known .sound .few) (known .long) (network .at) (network .own) (8 * x) (getD (network .attached) x 0) slots refl in
       let ends : RightEnds n target (endsTo network x) = record { at = λ y h. column.attached-known (network .own) (known .sound .few) slots h } in
       let avoiding = by-steps.avoiding-known (a .within) (network .out) (network .back) d target (endsTo network x) ends _ to-prefix q (known .named) in
       let missing = by-steps.missing-known (a .within) (network .out) (network .back) d target (endsTo network x) ends _ to-prefix q (known .named) (falls (known .sound) d target .1) in
-      let crosses = by-steps.over-known (a .within) (network .out) (network .back) d target (endsTo network x) ends _ to-prefix q (known .named) ∙ sym (may-test n (hopsOf network) d q (known .sound) (known .named) target) in
-      rw (searched, lt-ltb x 128 x-in, prefixIf) (prefix-known ranks n (hopsOf network) q area known target _ to-prefix _ avoiding (set-misses n (hopsOf network) d target (q .far) _ missing) (endsTo network x) crosses)
+      let crosses = by-steps.over-known (a .within) (network .out) (network .back) d target (endsTo network x) ends _ to-prefix q (known .named) ∙ sym (may-test n hops d q (known .sound) (known .named) target) in
+      rw (searched a, lt-ltb x 128 x-in, prefixIf) (prefix-known ranks n hops q area known target _ to-prefix _ avoiding (set-misses n hops d target (q .far) _ missing) (endsTo network x) crosses)
