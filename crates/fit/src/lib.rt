@@ -1,32 +1,34 @@
 // Whether columns that are handed in hold the links and the slots of a network.
 use metric::read::wide;
 ghost use mathlib.Core.Path.{_≡_};
-ghost use mathlib.Core.Bool.{_&&_};
-ghost use lib.Dec.{ltb};
+ghost use Prim.Native.Nat.{max};
 ghost use Rattle.metric.specs.Fit.{linksFit, slotsFit};
 
-// Whether both ends of a link are routers.
-fn joins(routers: usize, a: u8, b: u8) -> bool
-    ensures { λ r. ⌜ r ≡ (ltb a routers && ltb b routers) ⌝ }
+// The larger of two routers' numbers.
+fn larger(a: u8, b: u8) -> u8
+    ensures { λ r. ⌜ r ≡ max a b ⌝ }
 {
-    wide(a) < routers && wide(b) < routers
+    if a < b { b } else { a }
 }
 
-// Whether there are at most 128 links, and each joins routers.
+// Whether there are at most 128 links, and each joins routers: where there is a link, the largest number in both columns is a router's. The
+// loop has no branch, so that it goes over many links at once.
 pub fn links_fit(routers: usize, links: usize, from: &[u8; 128], to: &[u8; 128]) -> bool
     ensures { λ r. ⌜ r ≡ linksFit routers links (now (from .entry)) (now (to .entry)) ⌝ }
 {
     if 128 < links {
         return false;
     }
+    if links == 0 {
+        return true;
+    }
+    let mut top: u8 = 0;
     let mut k = 0;
     while k < links {
-        if !joins(routers, from[k], to[k]) {
-            return false;
-        }
+        top = larger(top, larger(from[k], to[k]));
         k += 1;
     }
-    true
+    wide(top) < routers
 }
 
 // Whether the slots in use are among the 1024, and hold routers.

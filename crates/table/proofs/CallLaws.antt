@@ -1,6 +1,6 @@
 -- The answers of the public function, return by return: where the numbers fit, the test passes exactly where each cell is the distance.
 -- Assumes nothing.
-use Prim.Native.Nat.{ℕ, _*_, _≤_, _<_}
+use Prim.Native.Nat.{ℕ, _+_, _*_, _≤_, _<_, min}
 use mathlib.Core.Path.{_≡_, sym, subst, _∙_}
 use mathlib.Core.Bool.{Bool, true, false}
 use mathlib.Core.Logic.{inl, inr}
@@ -8,11 +8,11 @@ use mathlib.Core.List.{List, map, List·Memᴰ}
 use native.Mathlib.Omega.{arith}
 use lib.Dec.{ltb}
 use lib.ListN.{length, getD}
-use borrow.Author.Tests.{ltb-true}
+use borrow.Author.Tests.{ltb-true, lt-ltb}
 use Rattle.lfa.specs.Lists.{below}
 use Rattle.lfa.specs.Network.{Arc, arc, Link, link, Network, arcs}
 use Rattle.lfa.specs.Distance.{LeastCosts, distances, distanceIn, HoldsDistances, holdsDistances}
-use Rattle.lfa.specs.Laws.Test.{and-left, and-right, fails-left, fails-right, same-test}
+use Rattle.lfa.specs.Laws.Test.{and-left, and-right, and-make, fails-left, fails-right, same-test}
 use Rattle.lfa.specs.Laws.List.{every-gives, every-make}
 use Rattle.lfa.specs.Laws.Counting.{length-map-below, map-below-at}
 use Rattle.lfa.specs.Laws.Arrive.{Within}
@@ -24,7 +24,7 @@ use Rattle.lfa.specs.Laws.Network.{arcs-give, Direction}
 use Rattle.metric.specs.Fit.{cellsFit, linksFit, ColumnsWithin}
 use Rattle.metric.specs.Columns.{linksIn, arcsIn, networkIn}
 use Rattle.metric.specs.RightTable.{RightTable}
-use Rattle.metric.specs.Laws.List.{every-fails}
+use Rattle.metric.specs.Laws.List.{every-more}
 use Rattle.metric.specs.Laws.Area.{area-filled}
 use Rattle.metric.specs.Laws.Columns.{columns-within}
 use Rattle.metric.specs.Laws.RightTable.{right-least, filled-right}
@@ -33,14 +33,29 @@ use Rattle.table.specs.Sums.{Small, Tested}
 
 -- ---- the costs
 
-module _ (links : ℕ) (out back : List ℕ) where
-  pub cost-fails : (k : ℕ) → k < links → bothSome out back k ≡ false → false ≡ costsFit links out back
-  unfolding costsFit
-  cost-fails k h e = sym (every-fails (bothSome out back) links k h e)
+-- The least cost of the first k links is 1 or more exactly where both costs of each are.
+pub record LeastCost (k : ℕ) (out back : List ℕ) (least : ℕ) : Type 0 where
+  pub holds : 0 < least → (j : ℕ) → j < k → bothSome out back j ≡ true
+  pub told : ((j : ℕ) → j < k → bothSome out back j ≡ true) → 0 < least
 
-  pub costs-pass : ((k : ℕ) → k < links → bothSome out back k ≡ true) → true ≡ costsFit links out back
+module _ (out back : List ℕ) where
+  pub cost-none : LeastCost 0 out back 65535
+  cost-none = record { holds = λ _ j h. absurd (omega arith); told = λ _. omega arith }
+
+  -- one link more
+  pub cost-more : {k least r e : ℕ} → LeastCost k out back least → e ≡ min (getD out k 0) (getD back k 0) → r ≡ min least e → LeastCost (k + 1) out back r
+  cost-more {k} {least} {r} {e} q i l = record {
+    holds = λ h. every-more (bothSome out back) k (q .holds (omega arith)) (and-make _ _ (lt-ltb 0 (getD out k 0) (omega arith)) (lt-ltb 0 (getD back k 0) (omega arith)));
+    told = λ each.
+        let this = each k (omega arith) in
+        omega (arith, q .told (λ j h. each j (omega arith)), ltb-true 0 (getD out k 0) (and-left _ _ this), ltb-true 0 (getD back k 0) (and-right (ltb 0 (getD out k 0)) _ this));
+  }
+
+module _ (links : ℕ) (out back : List ℕ) where
+  pub costs-told : {least : ℕ} → LeastCost links out back least → ltb 0 least ≡ costsFit links out back
   unfolding costsFit
-  costs-pass each = sym (every-make (bothSome out back) links each)
+  costs-told {least} q =
+      same-test _ _ (λ e. every-make (bothSome out back) links (q .holds (ltb-true 0 least e))) (λ e. lt-ltb 0 least (q .told (every-gives (bothSome out back) links e)))
 
   -- where they passed, each hop costs something
   costs-some : (from to : List ℕ) → costsFit links out back ≡ true → {x z c l : ℕ} → List·Memᴰ (arc x z c l) (arcsIn from to out back links) → 0 < c

@@ -1,29 +1,27 @@
 // Whether each hop costs something. Of two hops that cost nothing and lead back and forth, each would be tight for any number in the cells
 // of both routers.
 ghost use mathlib.Core.Path.{_≡_};
-ghost use mathlib.Core.Bool.{_&&_};
-ghost use Prim.Native.Nat.{_≤_};
-ghost use lib.Dec.{ltb};
+ghost use Prim.Native.Nat.{_≤_, min};
 ghost use Rattle.table.specs.Calls.{costsFit};
 
-// Whether both costs of a link are 1 or more.
-fn both_some(ab: u16, ba: u16) -> bool
-    ensures { λ r. ⌜ r ≡ (ltb 0 ab && ltb 0 ba) ⌝ }
+// The smaller of two costs.
+fn smaller(a: u16, b: u16) -> u16
+    ensures { λ r. ⌜ r ≡ min a b ⌝ }
 {
-    0 < ab && 0 < ba
+    if a < b { a } else { b }
 }
 
-// Whether both costs of each link are 1 or more.
+// Whether both costs of each link are 1 or more: the least cost in both columns is. The loop has no branch, so that it goes over many links
+// at once.
 pub(crate) fn costs_fit(links: usize, out: &[u16; 128], back: &[u16; 128]) -> bool
     requires { ⌜ links ≤ 128 ⌝ }
     ensures { λ r. ⌜ r ≡ costsFit links (now (out .entry)) (now (back .entry)) ⌝ }
 {
+    let mut least: u16 = 65535;
     let mut k = 0;
     while k < links {
-        if !both_some(out[k], back[k]) {
-            return false;
-        }
+        least = smaller(least, smaller(out[k], back[k]));
         k += 1;
     }
-    true
+    0 < least
 }

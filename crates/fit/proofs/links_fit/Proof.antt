@@ -1,42 +1,39 @@
--- `fit::links_fit` meets its contract. The loop's invariant: the links before k join routers.
+-- `fit::links_fit` meets its contract. The loop has found the largest number of the links before k.
 -- Assumes nothing.
-use Prim.Native.Nat.{ℕ, _-_, _≤_, _<_}
-use mathlib.Core.Path.{_≡_, sym, _∙_}
-use mathlib.Core.Bool.{true}
+use mathlib.Core.Path.{_≡_, subst}
+use Prim.Native.Nat.{ℕ, _-_, _≤_}
 use native.Mathlib.Omega.{arith}
-use borrow.Author.Tests.{not-true, not-false}
 use borrow.Author.Needs.{needs}
-use Rattle.metric.specs.Fit.{joins}
-use Rattle.metric.specs.Laws.List.{every-more}
-use Rattle.fit.proofs.FitLaws.{links-many, link-fails, links-pass}
+use Rattle.fit.proofs.FitLaws.{Largest, largest-none, largest-more, links-many, links-none, links-told}
 use Rattle.fit.proofs.links_fit.Statement.{statement}
 use Rattle.fit.proofs.links_fit.Tie as tie
 
 abbrev Inv-loop : tie.InvT-loop
-Inv-loop routers links from to k₀ k = (k ≤ links) × ((j : ℕ) → j < k → joins routers from to j ≡ true)
+Inv-loop routers links from to top₀ k₀ top k = (k ≤ links) × Largest routers k from to top
 
 abbrev μ-loop : tie.MeasureT-loop
-μ-loop routers links from to k₀ k = links - k
+μ-loop routers links from to top₀ k₀ top k = links - k
 
 returns : tie.Need-returns Inv-loop μ-loop
 returns c = links-many _ _ _ _ (c .if1 .taken)
 
-loop-holds : tie.Need-loop-holds Inv-loop μ-loop
-loop-holds c = (omega arith, λ j h. absurd (omega arith))
-
-element-copy-out-joins : tie.Need-element-copy-out-joins Inv-loop μ-loop
-element-copy-out-joins c = search needs
-
-element-copy-out-joins-2 : tie.Need-element-copy-out-joins-2 Inv-loop μ-loop
-element-copy-out-joins-2 c = search needs
-
-joins-requires : tie.Need-joins-requires Inv-loop μ-loop
-joins-requires c κs = search needs
-
 returns-2 : tie.Need-returns-2 Inv-loop μ-loop
-returns-2 c =
-    let turn = c .before .before .before .before in
-    link-fails _ _ _ _ (turn .before .loop .k) (turn .loop-test .taken) (sym (c .before .joins .ensures) ∙ not-true _ (c .if2 .taken))
+returns-2 c = links-none _ _ _ _ (c .if2 .taken)
+
+loop-holds : tie.Need-loop-holds Inv-loop μ-loop
+loop-holds c = (omega arith, largest-none _ _ _)
+
+element-copy-out-larger : tie.Need-element-copy-out-larger Inv-loop μ-loop
+element-copy-out-larger c = search needs
+
+element-copy-out-larger-2 : tie.Need-element-copy-out-larger-2 Inv-loop μ-loop
+element-copy-out-larger-2 c = search needs
+
+larger-requires : tie.Need-larger-requires Inv-loop μ-loop
+larger-requires c κs = search needs
+
+larger-requires-2 : tie.Need-larger-requires-2 Inv-loop μ-loop
+larger-requires-2 c κs = search needs
 
 add-k : tie.Need-add-k Inv-loop μ-loop
 add-k c = search needs
@@ -47,11 +44,18 @@ loop-less c = search needs
 loop-again : tie.Need-loop-again Inv-loop μ-loop
 loop-again c =
     let at-loop = c .before .before .before .before .before in
-    let a = at-loop .before .before .args in
-    (omega arith, every-more (joins (a .routers) (a .from .now) (a .to .now)) (at-loop .loop .k) (at-loop .loop .inv .1) (sym (c .before .joins .ensures) ∙ not-false _ (c .if2 .left)))
+    (omega arith, largest-more _ _ _ (at-loop .loop .inv .1) (c .before .larger .ensures) (c .larger2 .ensures))
+
+wide-requires : tie.Need-wide-requires Inv-loop μ-loop
+wide-requires c κs = search needs
 
 returns-3 : tie.Need-returns-3 Inv-loop μ-loop
-returns-3 c = links-pass _ _ _ _ (c .before .before .if1 .left) (λ k h. c .before .loop .inv .1 k (omega arith))
+returns-3 c =
+    let at-loop = c .before .before in
+    let a = at-loop .before .before .before .args in
+    let e : at-loop .loop .k ≡ a .links = omega arith in
+    let all = subst (λ (k : ℕ). Largest (a .routers) k (a .from .now) (a .to .now) (at-loop .loop .top)) e (at-loop .loop .inv .1) in
+    rw (c .wide .ensures) (links-told _ _ _ _ (omega arith) (omega arith) all)
 
 pub links-fit-spec : {M : Type 1} → statement M
 links-fit-spec =
@@ -60,12 +64,14 @@ links-fit-spec =
     Inv-loop
     μ-loop
     returns
-    loop-holds
-    element-copy-out-joins
-    element-copy-out-joins-2
-    joins-requires
     returns-2
+    loop-holds
+    element-copy-out-larger
+    element-copy-out-larger-2
+    larger-requires
+    larger-requires-2
     add-k
     loop-less
     loop-again
+    wide-requires
     returns-3)
