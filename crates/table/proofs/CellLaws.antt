@@ -1,8 +1,8 @@
--- The places of cells, the cells as summands, and the cells of two lists that differ.
+-- The places of cells, what stands for a cell in sums, and the cells of two lists that differ.
 -- Assumes nothing.
-use Prim.Native.Nat.{ℕ, _+_, _-_, _*_, _/_, _%_, _≤_, _<_}
+use Prim.Native.Nat.{ℕ, _+_, _-_, _*_, _/_, _%_, _≤_, _<_, min}
 use mathlib.Core.Path.{_≡_, sym, ap, _∙_}
-use mathlib.Core.Logic.{_⊎_, inl, inr, _↔_}
+use mathlib.Core.Logic.{_⊎_, inl, inr, ⊎-elim, _↔_}
 use mathlib.Core.List.{List}
 use native.Mathlib.Omega.{arith}
 use native.Mathlib.Nat.{lt-of-lt-of-le, mul-le-mul}
@@ -11,108 +11,110 @@ use lib.Arith.{digits-lt, digits-div, digits-mod}
 use lib.Dec.{eqb}
 use lib.ListN.{getD, set, length-set}
 use lib.Seq.{getD-set-same, getD-set-other}
-use borrow.Author.Tests.{eqb-true, le-leb, lt-leb, eq-eqb, ne-eqb}
+use borrow.Author.Tests.{eqb-true, eq-eqb}
 use Rattle.lfa.specs.Distance.{unreachable}
-use Rattle.table.specs.Sums.{longest, limit, summand, Summands, Limited, Differs, Same, SameCells}
+use Rattle.table.specs.Sums.{Form, largest, form32, form16, Real, finite, infinite, Stands, real, wrong, Copied, Limited, Summands, Differs, Same, SameCells}
 
--- ---- the place x * n + t
+-- ---- the place x * w + t
 
-pub cell-few : {n x t : ℕ} → n ≤ 64 → x < n → t < n → x * n + t < 4096
+pub cell-few : {w x t : ℕ} → w ≤ 64 → x < w → t < w → x * w + t < 4096
 cell-few h hx ht = lt-of-lt-of-le (digits-lt hx ht) (mul-le-mul h h)
 
 -- a row ends within the 4096 cells
-pub row-few : {n x : ℕ} → n ≤ 64 → x < n → x * n + n ≤ 4096
-row-few {n} h hx = let last : n - 1 < n = omega arith in omega (arith, cell-few h hx last)
+pub row-few : {w x : ℕ} → w ≤ 64 → x < w → x * w + w ≤ 4096
+row-few {w} h hx = let last : w - 1 < w = omega arith in omega (arith, cell-few h hx last)
 
 -- two cells at one place are one
-pub one-place : {n x t a b : ℕ} → t < n → b < n → x * n + t ≡ a * n + b → (x ≡ a) × (t ≡ b)
-one-place {n} {x} {t} {a} {b} ht hb e =
-    (sym (digits-div x ht) ∙ ap (λ (i : ℕ). i / n) e ∙ digits-div a hb, sym (digits-mod x ht) ∙ ap (λ (i : ℕ). i % n) e ∙ digits-mod a hb)
+pub one-place : {w x t a b : ℕ} → t < w → b < w → x * w + t ≡ a * w + b → (x ≡ a) × (t ≡ b)
+one-place {w} {x} {t} {a} {b} ht hb e =
+    (sym (digits-div x ht) ∙ ap (λ (i : ℕ). i / w) e ∙ digits-div a hb, sym (digits-mod x ht) ∙ ap (λ (i : ℕ). i % w) e ∙ digits-mod a hb)
 
--- ---- summands
+-- ---- what stands for a cell
 
-module _ (d : ℕ) where
-  pub summand-finite : d ≤ longest → d ≡ summand d
-  unfolding summand
-  summand-finite h = rw (le-leb d longest h, summand)
+-- What the numbers of a form have to be: the limit is above each sum of a hop and a finite cell, and unreachable above each such sum of the
+-- table. A hop counts as less than it costs only where that is still above each finite cell.
+pub record Sized (f : Form) : Type 0 where
+  pub gap : f .top + f .longest < f .limit
+  pub fits : f .longest + 65535 < unreachable
+  pub over : (65535 ≤ f .top) ⊎ (f .longest < f .top)
 
-  pub summand-none : longest < d → d ≡ unreachable → limit ≡ summand d
-  unfolding summand
-  summand-none h e = rw (lt-leb d longest h, eq-eqb d unreachable e, summand)
+pub sized32 : (n : ℕ) → Sized (form32 n)
+sized32 n = record { gap = omega arith; fits = omega arith; over = inl (omega arith) }
 
-  pub summand-wrong : longest < d → (d ≡ unreachable → ⊥) → limit + 1 ≡ summand d
-  unfolding summand
-  summand-wrong h e = rw (lt-leb d longest h, ne-eqb d unreachable e, summand)
+pub sized16 : Sized form16
+sized16 = record { gap = omega arith; fits = omega arith; over = inr (omega arith) }
 
--- a cell that may be a distance, with its summand
-pub data Real (d s : ℕ) : Type 0 where
-  finite : d ≤ longest → s ≡ d → Real d s
-  none : d ≡ unreachable → s ≡ limit → Real d s
+pub stands-most : {longest limit d s : ℕ} → longest ≤ limit → Stands longest limit d s → s ≤ limit + 1
+stands-most h (real (finite k e)) = omega arith
+stands-most h (real (infinite k e)) = omega arith
+stands-most h (wrong k n e) = omega arith
 
-pub summand-cases : (d : ℕ) → Real d (summand d) ⊎ (summand d ≡ limit + 1)
-summand-cases d = go (decLt longest d) (ℕ-discrete d unreachable)
+-- a cell that is small where it is finite may be a distance
+pub stands-real : {longest limit d s : ℕ} → d ≤ unreachable → (d < unreachable → d ≤ largest) → Stands longest limit d s → Real longest limit d s
+stands-real most small (real r) = r
+stands-real {longest} {limit} {d} {s} most small (wrong k n e) = go (decLt d unreachable)
   where
-    go : Dec (longest < d) → Dec (d ≡ unreachable) → Real d (summand d) ⊎ (summand d ≡ limit + 1)
-    go (no h) _ = inl (finite (omega arith) (sym (summand-finite d (omega arith))))
-    go (yes h) (yes e) = inl (none e (sym (summand-none d h e)))
-    go (yes h) (no e) = inr (sym (summand-wrong d h e))
+    go : Dec (d < unreachable) → Real longest limit d s
+    go (yes h) = absurd (omega (arith, small h))
+    go (no h) = absurd (n (omega arith))
 
-pub summand-most : (d : ℕ) → summand d ≤ limit + 1
-summand-most d = go (summand-cases d)
-  where
-    go : Real d (summand d) ⊎ (summand d ≡ limit + 1) → summand d ≤ limit + 1
-    go (inl (finite h e)) = omega arith
-    go (inl (none h e)) = omega arith
-    go (inr e) = omega arith
-
--- a cell that is small where it is finite
-pub summand-real : (d : ℕ) → d ≤ unreachable → (d < unreachable → d ≤ longest) → Real d (summand d)
-summand-real d most small = go (decLt d unreachable)
-  where
-    go : Dec (d < unreachable) → Real d (summand d)
-    go (yes f) = finite (small f) (sym (summand-finite d (small f)))
-    go (no f) = let e : d ≡ unreachable = omega arith in none e (sym (summand-none d (omega arith) e))
-
-module _ {d s : ℕ} where
-  pub real-most : Real d s → (d ≤ unreachable) × (s ≤ limit)
+module _ {f : Form} {d s : ℕ} (z : Sized f) where
+  pub real-most : Real (f .longest) (f .limit) d s → (d ≤ unreachable) × (s ≤ f .limit)
   real-most (finite h e) = omega arith
-  real-most (none h e) = omega arith
+  real-most (infinite h e) = omega arith
 
-  pub real-zero : Real d s → (d ≡ 0) ↔ (s ≡ 0)
-  real-zero (finite h e) = (λ z. omega arith, λ z. omega arith)
-  real-zero (none h e) = (λ z. absurd (omega arith), λ z. absurd (omega arith))
+  pub real-zero : Real (f .longest) (f .limit) d s → (d ≡ 0) ↔ (s ≡ 0)
+  real-zero (finite h e) = (λ k. omega arith, λ k. omega arith)
+  real-zero (infinite h e) = (λ k. absurd (omega arith), λ k. absurd (omega arith))
 
-  pub real-finite : Real d s → (d < unreachable) ↔ (s < limit)
-  real-finite (finite h e) = (λ f. omega arith, λ f. omega arith)
-  real-finite (none h e) = (λ f. absurd (omega arith), λ f. absurd (omega arith))
+  pub real-finite : Real (f .longest) (f .limit) d s → (d < unreachable) ↔ (s < f .limit)
+  real-finite (finite h e) = (λ k. omega arith, λ k. omega arith)
+  real-finite (infinite h e) = (λ k. absurd (omega arith), λ k. absurd (omega arith))
 
-  -- An arc that costs c leads from cell d to cell e. It undercuts d exactly where it undercuts the summand of d, and is tight for a finite
-  -- d exactly where it is for the summand.
-  pub real-slack : {c e u : ℕ} → c ≤ 65535 → Real d s → Real e u → (d ≤ c + e) ↔ (s ≤ c + u)
-  real-slack k (finite h i) (finite h′ i′) = (λ f. omega arith, λ f. omega arith)
-  real-slack k (finite h i) (none h′ i′) = (λ f. omega arith, λ f. omega arith)
-  real-slack k (none h i) (finite h′ i′) = (λ f. absurd (omega arith), λ f. absurd (omega arith))
-  real-slack k (none h i) (none h′ i′) = (λ f. omega arith, λ f. omega arith)
+  -- An arc that costs c leads from cell d to cell e. It undercuts d exactly where it undercuts what stands for d, and is tight for a finite
+  -- d exactly where it is for what stands for d.
+  pub real-slack : {c e u : ℕ} → c ≤ 65535 → Real (f .longest) (f .limit) d s → Real (f .longest) (f .limit) e u → (d ≤ c + e) ↔ (s ≤ min c (f .top) + u)
+  real-slack {c} {e} {u} k p q = go (z .over) p q
+    where
+      go : (65535 ≤ f .top) ⊎ (f .longest < f .top) → Real (f .longest) (f .limit) d s → Real (f .longest) (f .limit) e u → (d ≤ c + e) ↔ (s ≤ min c (f .top) + u)
+      go (inl o) (finite h i) (finite h′ i′) = (λ g. omega arith, λ g. omega arith)
+      go (inr o) (finite h i) (finite h′ i′) = (λ g. omega arith, λ g. omega arith)
+      go _ (finite h i) (infinite h′ i′) = (λ g. omega arith, λ g. omega arith)
+      go _ (infinite h i) (finite h′ i′) = (λ g. absurd (omega arith), λ g. absurd (omega arith))
+      go _ (infinite h i) (infinite h′ i′) = (λ g. omega arith, λ g. omega arith)
 
-  pub real-tight : (c : ℕ) {e u : ℕ} → d < unreachable → Real d s → Real e u → (c + e ≡ d) ↔ (c + u ≡ s)
-  real-tight c f (finite h i) (finite h′ i′) = (λ e. omega arith, λ e. omega arith)
-  real-tight c f (finite h i) (none h′ i′) = (λ e. absurd (omega arith), λ e. absurd (omega arith))
-  real-tight c f (none h i) _ = absurd (omega arith)
+  pub real-tight : {c e u : ℕ} → c ≤ 65535 → d < unreachable → Real (f .longest) (f .limit) d s → Real (f .longest) (f .limit) e u → (c + e ≡ d) ↔ (min c (f .top) + u ≡ s)
+  real-tight {c} {e} {u} k g p q = go (z .over) p q
+    where
+      go : (65535 ≤ f .top) ⊎ (f .longest < f .top) → Real (f .longest) (f .limit) d s → Real (f .longest) (f .limit) e u → (c + e ≡ d) ↔ (min c (f .top) + u ≡ s)
+      go (inl o) (finite h i) (finite h′ i′) = (λ e. omega arith, λ e. omega arith)
+      go (inr o) (finite h i) (finite h′ i′) = (λ e. omega arith, λ e. omega arith)
+      go _ (finite h i) (infinite h′ i′) = (λ e. absurd (omega arith), λ e. absurd (omega arith))
+      go _ (infinite h i) _ = absurd (omega arith)
 
-pub summands-limited : {n : ℕ} {table cells : List ℕ} → n ≤ 64 → Summands (n * n) table cells → Limited n cells
+-- ---- cells for sums of 32 bits
+
+pub summands-limited : {n : ℕ} {table cells : List ℕ} → n ≤ 64 → Summands (n * n) table cells → Limited (form32 n) cells
 summands-limited {n} {table} few q = record {
   few = few;
   long = q .long;
-  small = λ x t hx ht. omega (arith, q .cell (x * n + t) (digits-lt hx ht), summand-most (getD table (x * n + t) 0));
+  small = λ x t hx ht. stands-most (omega arith) (q .cell (x * n + t) (digits-lt hx ht));
 }
 
--- one summand more
-pub summands-more : {i : ℕ} {table cells : List ℕ} (v : ℕ) → i < 4096 → Summands i table cells → v ≡ summand (getD table i 0) → Summands (i + 1) table (set cells i v)
+pub summands-copied : {n : ℕ} {table cells : List ℕ} → Summands (n * n) table cells → Copied (form32 n) n table cells
+summands-copied {n} q = record {
+  few = omega arith;
+  stands = λ x t hx ht. q .cell (x * n + t) (digits-lt hx ht);
+  rest = λ x t hx ht o. ⊎-elim (λ h. absurd (omega arith)) (λ h. absurd (omega arith)) o;
+}
+
+-- one cell more
+pub summands-more : {i : ℕ} {table cells : List ℕ} (v : ℕ) → i < 4096 → Summands i table cells → Stands largest 1073741824 (getD table i 0) v → Summands (i + 1) table (set cells i v)
 summands-more {i} {table} {cells} v h q e = record { long = length-set cells i v ∙ q .long; cell = λ j k. go j k (ℕ-discrete j i) }
   where
-    go : (j : ℕ) → j < i + 1 → Dec (j ≡ i) → getD (set cells i v) j 0 ≡ summand (getD table j 0)
-    go j k (yes s) = rw s (getD-set-same cells i v 0 (omega (arith, q .long)) ∙ e)
-    go j k (no s) = getD-set-other cells i j v 0 s ∙ q .cell j (omega arith)
+    go : (j : ℕ) → j < i + 1 → Dec (j ≡ i) → Stands largest 1073741824 (getD table j 0) (getD (set cells i v) j 0)
+    go j k (yes s) = rw (s, getD-set-same cells i v 0 (omega (arith, q .long))) e
+    go j k (no s) = rw (getD-set-other cells i j v 0 s) (q .cell j (omega arith))
 
 -- ---- the number of cells that differ
 

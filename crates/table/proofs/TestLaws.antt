@@ -1,90 +1,118 @@
--- Each cell is the least sum exactly where the table is right and its finite cells are small.
+-- Each cell is the least sum exactly where the table is right and its finite cells are small, in either form of the sums.
 -- Assumes nothing.
 use Prim.Native.Nat.{ℕ, _+_, _*_, _≤_, _<_}
 use mathlib.Core.Path.{_≡_, sym, _∙_}
 use mathlib.Core.Logic.{_⊎_, inl, inr}
 use mathlib.Core.Bool.{Bool}
-use mathlib.Core.List.{List}
+use mathlib.Core.List.{List, List·Memᴰ}
 use native.Mathlib.Omega.{arith}
 use native.Mathlib.Nat.{le-antisymm}
 use native.Mathlib.Decide.{decLt}
 use lib.Arith.{digits-lt}
 use lib.ListN.{getD}
-use Rattle.lfa.specs.Network.{Arc}
+use Rattle.lfa.specs.Network.{Arc, arc}
 use Rattle.lfa.specs.Distance.{unreachable}
 use Rattle.lfa.specs.Laws.Arrive.{Within}
 use Rattle.metric.specs.Area.{areaCell}
 use Rattle.metric.specs.RightTable.{RightTable}
 use Rattle.metric.specs.Laws.Area.{each-place}
-use Rattle.table.specs.Sums.{limit, summand, Summands, Summed, Shown, LeastSums, Same, SameCells, Small, Tested}
-use Rattle.table.proofs.CellLaws.{Real, summand-cases, summand-real, real-most, real-zero, real-finite, real-slack, real-tight}
+use Rattle.table.specs.Sums.{Form, cellOf, Real, Stands, real, wrong, Copied, Cleared, LeastSums, Same, SameCells, Small, Tested}
+use Rattle.table.proofs.SumLaws.{Shown, sum-diagonal, sum-most, sum-shown}
+use Rattle.table.proofs.CellLaws.{Sized, stands-real, real-most, real-zero, real-finite, real-slack, real-tight}
 
-module _ {hops : List Arc} {n : ℕ} {table cells sums : List ℕ} (within : Within hops n) (q : Summands (n * n) table cells) (low : LeastSums hops n cells sums) where
-  -- cell (x, t) may be a distance, and stands in the sums for it
+-- an arc of the table is tight for cell (x, t)
+abbrev Tight : List Arc → (n : ℕ) → (table : List ℕ) → ℕ → ℕ → Type 0
+Tight hops n table x t = (y : ℕ) × (c : ℕ) × (l : ℕ) × List·Memᴰ (arc x y c l) hops × (c + areaCell n table y t ≡ areaCell n table x t)
+
+module _ {f : Form} {hops : List Arc} {n : ℕ} {table cells first sums : List ℕ} (z : Sized f) (within : Within hops n) (q : Copied f n table cells) (clear : Cleared f n first) (low : LeastSums f hops cells first sums) where
+  -- cell (x, t) may be a distance, and what stands in the sums stands for it
   abbrev RealAt : ℕ → ℕ → Type 0
-  RealAt x t = Real (areaCell n table x t) (areaCell n cells x t)
+  RealAt x t = Real (f .longest) (f .limit) (areaCell n table x t) (cellOf f cells x t)
+
+  -- a router's number is a row and a column
+  wide : {x : ℕ} → x < n → x < f .width
+  wide h = omega (arith, q .few)
 
   -- ---- the test passes: the table is right
 
   -- No least sum is above the limit, so that each cell may be a distance. A cell whose arc leads to a finite one is then at most the sum,
-  -- since the summand is; and a finite cell off the diagonal is below the limit, so that some arc makes it up.
-  module _ (same : Same (n * n) cells sums) where
-    same-cell : (x t : ℕ) → x < n → t < n → areaCell n cells x t ≡ areaCell n sums x t
-    same-cell x t hx ht = same (x * n + t) (digits-lt hx ht)
-
+  -- since what stands for it is; and a finite cell off the diagonal is below the limit, so that some arc makes it up.
+  module _ (same : (x t : ℕ) → x < n → t < n → cellOf f cells x t ≡ cellOf f sums x t) where
     fits : (x t : ℕ) → x < n → t < n → RealAt x t
-    fits x t hx ht = go (summand-cases (areaCell n table x t))
+    fits x t hx ht = go (q .stands x t hx ht)
       where
-        e : areaCell n cells x t ≡ summand (areaCell n table x t)
-        e = q .cell (x * n + t) (digits-lt hx ht)
-
-        go : Real (areaCell n table x t) (summand (areaCell n table x t)) ⊎ (summand (areaCell n table x t) ≡ limit + 1) → RealAt x t
-        go (inl r) = rw e r
-        go (inr f) = absurd (omega (arith, e, same-cell x t hx ht, low .most x t hx ht))
+        go : Stands (f .longest) (f .limit) (areaCell n table x t) (cellOf f cells x t) → RealAt x t
+        go (real r) = r
+        go (wrong h k e) = absurd (omega (arith, same x t hx ht, sum-most clear low x t (wide hx) (wide ht)))
 
     same-right : RightTable hops n table
     same-right = record {
-      diagonal = λ x h. real-zero (fits x x h h) .1 (same-cell x x h h ∙ low .diagonal x h);
-      slack = λ {x} {z} t h m. real-slack (low .capped m) (fits x t (within .from m) h) (fits z t (within .to m) h) .1 (omega (arith, same-cell x t (within .from m) h, low .bound t h m));
-      shown = λ x t hx ht f. shown x t hx ht f (low .shown x t hx ht);
-      most = λ x t hx ht. real-most (fits x t hx ht) .0;
+      diagonal = λ x h. real-zero z (fits x x h h) .1 (same x x h h ∙ sum-diagonal clear low x h (wide h));
+      slack = λ {x} {z = y} t h m. real-slack z (low .capped m) (fits x t (within .from m) h) (fits y t (within .to m) h) .1 (omega (arith, same x t (within .from m) h, low .bound t (wide h) m));
+      shown = λ x t hx ht k. shown x t hx ht k (sum-shown clear low x t (wide hx) (wide ht));
+      most = λ x t hx ht. real-most z (fits x t hx ht) .0;
     }
       where
-        shown : (x t : ℕ) → x < n → t < n → areaCell n table x t < unreachable →
-            Shown hops n cells sums x t → (x ≡ t) ⊎ Summed hops n table table x t
-        shown x t hx ht f (inl e) = inl e
-        shown x t hx ht f (inr (inl e)) = absurd (omega (arith, same-cell x t hx ht, real-finite (fits x t hx ht) .0 f))
-        shown x t hx ht f (inr (inr (z, c, l, m, e))) = inr (z, c, l, m, real-tight c f (fits x t hx ht) (fits z t (within .to m) ht) .1 (e ∙ sym (same-cell x t hx ht)))
+        shown : (x t : ℕ) → x < n → t < n → areaCell n table x t < unreachable → Shown f hops n cells sums x t → (x ≡ t) ⊎ Tight hops n table x t
+        shown x t hx ht k (inl e) = inl (e .0)
+        shown x t hx ht k (inr (inl e)) = absurd (omega (arith, same x t hx ht, real-finite z (fits x t hx ht) .0 k))
+        shown x t hx ht k (inr (inr (y, c, l, m, e))) =
+            inr (y, c, l, m, real-tight z (low .capped m) k (fits x t hx ht) (fits y t (within .to m) ht) .1 (e ∙ sym (same x t hx ht)))
 
   -- ---- the table is right: the test passes
 
   -- The sums are at most the cells, since a finite cell off the diagonal is shown by an arc, and at least the cells, since no arc undercuts
   -- a cell.
   module _ (right : RightTable hops n table) (small : Small n table) where
-    real : (x t : ℕ) → x < n → t < n → RealAt x t
-    real x t hx ht = rw (q .cell (x * n + t) (digits-lt hx ht)) (summand-real (areaCell n table x t) (right .most x t hx ht) (small x t hx ht))
+    sound : (x t : ℕ) → x < n → t < n → RealAt x t
+    sound x t hx ht = stands-real (right .most x t hx ht) (small x t hx ht) (q .stands x t hx ht)
 
-    sum-below : (x t : ℕ) → x < n → t < n → areaCell n sums x t ≤ areaCell n cells x t
-    sum-below x t hx ht = go (decLt (areaCell n cells x t) limit)
+    sum-below : (x t : ℕ) → x < n → t < n → cellOf f sums x t ≤ cellOf f cells x t
+    sum-below x t hx ht = go (decLt (cellOf f cells x t) (f .limit))
       where
-        by : areaCell n table x t < unreachable → (x ≡ t) ⊎ Summed hops n table table x t → areaCell n sums x t ≤ areaCell n cells x t
-        by f (inl e) = rw (← e) (omega (arith, low .diagonal x hx))
-        by f (inr (z, c, l, m, e)) = omega (arith, real-tight c f (real x t hx ht) (real z t (within .to m) ht) .0 e, low .bound t ht m)
+        by : areaCell n table x t < unreachable → (x ≡ t) ⊎ Tight hops n table x t → cellOf f sums x t ≤ cellOf f cells x t
+        by k (inl e) = rw (← e) (omega (arith, sum-diagonal clear low x hx (wide hx)))
+        by k (inr (y, c, l, m, e)) = omega (arith, real-tight z (low .capped m) k (sound x t hx ht) (sound y t (within .to m) ht) .0 e, low .bound t (wide ht) m)
 
-        go : Dec (areaCell n cells x t < limit) → areaCell n sums x t ≤ areaCell n cells x t
-        go (yes k) = let f = real-finite (real x t hx ht) .1 k in by f (right .shown x t hx ht f)
-        go (no k) = omega (arith, low .most x t hx ht)
+        go : Dec (cellOf f cells x t < f .limit) → cellOf f sums x t ≤ cellOf f cells x t
+        go (yes h) = let k = real-finite z (sound x t hx ht) .1 h in by k (right .shown x t hx ht k)
+        go (no h) = omega (arith, sum-most clear low x t (wide hx) (wide ht))
 
-    cell-below : (x t : ℕ) → x < n → t < n → areaCell n cells x t ≤ areaCell n sums x t
-    cell-below x t hx ht = go (low .shown x t hx ht)
+    cell-below : (x t : ℕ) → x < n → t < n → cellOf f cells x t ≤ cellOf f sums x t
+    cell-below x t hx ht = go (sum-shown clear low x t (wide hx) (wide ht))
       where
-        go : Shown hops n cells sums x t → areaCell n cells x t ≤ areaCell n sums x t
-        go (inl e) = rw (← e) (omega (arith, real-zero (real x x hx hx) .0 (right .diagonal x hx)))
-        go (inr (inl e)) = omega (arith, real-most (real x t hx ht))
-        go (inr (inr (z, c, l, m, e))) = omega (arith, real-slack (low .capped m) (real x t hx ht) (real z t (within .to m) ht) .0 (right .slack t ht m))
+        go : Shown f hops n cells sums x t → cellOf f cells x t ≤ cellOf f sums x t
+        go (inl (e, h)) = rw (← e) (omega (arith, real-zero z (sound x x hx hx) .0 (right .diagonal x hx)))
+        go (inr (inl e)) = omega (arith, real-most z (sound x t hx ht))
+        go (inr (inr (y, c, l, m, e))) = omega (arith, real-slack z (low .capped m) (sound x t hx ht) (sound y t (within .to m) ht) .0 (right .slack t ht m))
 
-    right-same : Same (n * n) cells sums
-    right-same = each-place (λ i. getD cells i 0 ≡ getD sums i 0) (λ x t hx ht. le-antisymm (cell-below x t hx ht) (sum-below x t hx ht))
+  -- ---- the cells that are not used
 
-  pub same-tested : {r : Bool} → SameCells (n * n) cells sums r → Tested hops n table r
-  same-tested s = record { capped = λ m. low .capped m; right = λ e. same-right (s .holds e); passes = λ right small. s .told (right-same right small) }
+  -- A cell that is not used holds the limit, and so does its sum: it is not on the diagonal, and an arc adds to a cell that is not used.
+  sum-rest : (x t : ℕ) → x < f .width → t < f .width → (n ≤ x) ⊎ (n ≤ t) → cellOf f sums x t ≡ f .limit
+  sum-rest x t hx ht o = go o (sum-shown clear low x t hx ht)
+    where
+      go : (n ≤ x) ⊎ (n ≤ t) → Shown f hops n cells sums x t → cellOf f sums x t ≡ f .limit
+      go _ (inr (inl e)) = e
+      go (inl h) (inl e) = absurd (omega (arith, e .1))
+      go (inr h) (inl e) = absurd (omega (arith, e .0, e .1))
+      go (inl h) (inr (inr (y, c, l, m, e))) = absurd (omega (arith, within .from m))
+      go (inr h) (inr (inr (y, c, l, m, e))) = omega (arith, sum-most clear low x t hx ht, q .rest y t (wide (within .to m)) ht (inr h))
+
+  rest-same : (x t : ℕ) → x < f .width → t < f .width → (n ≤ x) ⊎ (n ≤ t) → cellOf f cells x t ≡ cellOf f sums x t
+  rest-same x t hx ht o = q .rest x t hx ht o ∙ sym (sum-rest x t hx ht o)
+
+  right-same : RightTable hops n table → Small n table → Same (f .width * f .width) cells sums
+  right-same right small = each-place (λ i. getD cells i 0 ≡ getD sums i 0) (λ x t hx ht. go x t hx ht (decLt x n) (decLt t n))
+    where
+      go : (x t : ℕ) → x < f .width → t < f .width → Dec (x < n) → Dec (t < n) → cellOf f cells x t ≡ cellOf f sums x t
+      go x t hx ht (yes k) (yes l) = le-antisymm (cell-below right small x t k l) (sum-below right small x t k l)
+      go x t hx ht (yes k) (no l) = rest-same x t hx ht (inr (omega arith))
+      go x t hx ht (no k) _ = rest-same x t hx ht (inl (omega arith))
+
+  pub same-tested : {r : Bool} → SameCells (f .width * f .width) cells sums r → Tested hops n table r
+  same-tested s = record {
+    capped = λ m. low .capped m;
+    right = λ e. same-right (λ x t hx ht. s .holds e (x * f .width + t) (digits-lt (wide hx) (wide ht)));
+    passes = λ right small. s .told (right-same right small);
+  }

@@ -1,73 +1,118 @@
 -- The test of a table: a cell off the diagonal is to be the least sum, over the arcs that leave its row's router, of the arc's cost and
--- the cell of the router that the arc leads to. The sums are made of summands, which are small enough for sums of 32 bits.
+-- the cell of the router that the arc leads to. Other numbers stand for the cells in sums: these are small enough for sums of 16 bits or
+-- of 32 bits. Both forms of the sums have the same laws.
 -- Assumes nothing.
-use Prim.Native.Nat.{ℕ, _+_, _≤_, _<_, min}
+use Prim.Native.Nat.{ℕ, _+_, _%_, _^_, _≤_, _<_, min}
 use mathlib.Core.Path.{_≡_}
 use mathlib.Core.Logic.{_⊎_}
-use mathlib.Core.Bool.{Bool, true, false}
+use mathlib.Core.Bool.{Bool, true}
 use mathlib.Core.List.{List, List·Memᴰ}
-use lib.Dec.{eqb, leb}
 use lib.ListN.{length, getD}
 use Rattle.lfa.specs.Network.{Arc, arc}
 use Rattle.lfa.specs.Distance.{unreachable}
 use Rattle.metric.specs.Area.{areaCell}
 use Rattle.metric.specs.RightTable.{RightTable}
 
--- ---- what stands for a cell in sums
+-- ---- the forms of the sums
+
+-- a finite cell is at most the longest, the limit stands for unreachable, a hop that costs more than the top counts as the top, and a row
+-- has so many cells
+pub record Form : Type 0 where
+  pub longest : ℕ
+  pub limit : ℕ
+  pub top : ℕ
+  pub width : ℕ
 
 -- "a real one is at most 4,194,240"
-abbrev pub longest : ℕ
-longest = 4194240
+abbrev pub largest : ℕ
+largest = 4194240
 
--- what stands for unreachable
-abbrev pub limit : ℕ
-limit = 1073741824
+-- sums of 32 bits, in rows of n cells: every distance of a network may stand in them
+abbrev pub form32 : ℕ → Form
+form32 n = record { longest = largest; limit = 1073741824; top = 65535; width = n }
 
--- for a number that is no distance of any network it is one that no least sum is
-unfoldable pub summand : ℕ → ℕ
-summand d = elim (leb d longest) [ true ↦ d | false ↦ elim (eqb d unreachable) [ true ↦ limit | false ↦ limit + 1 ] ]
+-- sums of 16 bits, in rows of 64 cells
+abbrev pub form16 : Form
+form16 = record { longest = 8190; limit = 16383; top = 8191; width = 64 }
 
--- the first cells, as summands
+-- the cell of row x and column t
+abbrev pub cellOf : Form → List ℕ → ℕ → ℕ → ℕ
+cellOf f cells x t = areaCell (f .width) cells x t
+
+-- ---- what stands for a cell in sums
+
+-- for a cell that may be a distance
+pub data Real (longest limit d s : ℕ) : Type 0 where
+  finite : d ≤ longest → s ≡ d → Real longest limit d s
+  infinite : d ≡ unreachable → s ≡ limit → Real longest limit d s
+
+-- for any cell: for a number that is no distance of any network it is one that no least sum is
+pub data Stands (longest limit d s : ℕ) : Type 0 where
+  real : Real longest limit d s → Stands longest limit d s
+  wrong : largest < d → (d ≡ unreachable → ⊥) → s ≡ limit + 1 → Stands longest limit d s
+
+-- numbers for the cells of n routers, and the limit in the cells that are not used
+pub record Copied (f : Form) (n : ℕ) (table cells : List ℕ) : Type 0 where
+  pub few : n ≤ f .width
+  pub stands : (x t : ℕ) → x < n → t < n → Stands (f .longest) (f .limit) (areaCell n table x t) (cellOf f cells x t)
+  pub rest : (x t : ℕ) → x < f .width → t < f .width → (n ≤ x) ⊎ (n ≤ t) → cellOf f cells x t ≡ f .limit
+
+-- rows of at most 64 cells, none larger than what may stand for a cell, in an array of 4096
+pub record Limited (f : Form) (cells : List ℕ) : Type 0 where
+  pub few : f .width ≤ 64
+  pub long : length cells ≡ 4096
+  pub small : (x t : ℕ) → x < f .width → t < f .width → cellOf f cells x t ≤ f .limit + 1
+
+-- the first cells of a table, copied for sums of 32 bits
 pub record Summands (count : ℕ) (table cells : List ℕ) : Type 0 where
   pub long : length cells ≡ 4096
-  pub cell : (i : ℕ) → i < count → getD cells i 0 ≡ summand (getD table i 0)
+  pub cell : (i : ℕ) → i < count → Stands largest 1073741824 (getD table i 0) (getD cells i 0)
 
--- rows of n cells, none larger than a summand, in an array of 4096
-pub record Limited (n : ℕ) (cells : List ℕ) : Type 0 where
-  pub few : n ≤ 64
+-- a cell copied for sums of 16 bits: the number stands for it where one more than the cell, in 32 bits, is small
+pub record Narrowed (d s : ℕ) : Type 0 where
+  pub most : s ≤ 16383
+  pub small : (d + 1) % 2 ^ 32 ≤ 8191 → Real 8190 16383 d s
+
+-- so many cells of a table, from a place on, copied to another place; the other cells are as they were. Where the number that was worked
+-- out with it is small, the copies stand for the cells.
+pub record RowCopied (count by place : ℕ) (table before after : List ℕ) (all : ℕ) : Type 0 where
+  pub long : length after ≡ length before
+  pub most : (t : ℕ) → t < count → getD after (place + t) 0 ≤ 16383
+  pub small : all ≤ 8191 → (t : ℕ) → t < count → Real 8190 16383 (getD table (by + t) 0) (getD after (place + t) 0)
+  pub rest : (i : ℕ) → (place ≤ i → place + count ≤ i) → getD after i 0 ≡ getD before i 0
+
+-- the first m rows of n cells, copied to rows of 64 cells; the other cells hold the limit
+pub record RowsCopied (n m : ℕ) (table cells : List ℕ) (all : ℕ) : Type 0 where
   pub long : length cells ≡ 4096
-  pub small : (x t : ℕ) → x < n → t < n → areaCell n cells x t ≤ limit + 1
+  pub most : (x t : ℕ) → x < m → t < n → areaCell 64 cells x t ≤ 16383
+  pub small : all ≤ 8191 → (x t : ℕ) → x < m → t < n → Real 8190 16383 (areaCell n table x t) (areaCell 64 cells x t)
+  pub rest : (x t : ℕ) → x < 64 → t < 64 → (m ≤ x) ⊎ (n ≤ t) → areaCell 64 cells x t ≡ 16383
 
 -- ---- the sums
 
 -- 0 on the diagonal before row m, and the limit in all other cells
-pub record Cleared (n m : ℕ) (sums : List ℕ) : Type 0 where
+pub record Cleared (f : Form) (m : ℕ) (sums : List ℕ) : Type 0 where
   pub long : length sums ≡ 4096
-  pub diagonal : (x : ℕ) → x < m → x < n → areaCell n sums x x ≡ 0
-  pub rest : (x t : ℕ) → x < n → t < n → (x ≡ t → m ≤ x) → areaCell n sums x t ≡ limit
+  pub diagonal : (x : ℕ) → x < m → x < f .width → cellOf f sums x x ≡ 0
+  pub rest : (x t : ℕ) → x < f .width → t < f .width → (x ≡ t → m ≤ x) → cellOf f sums x t ≡ f .limit
 
 -- the first m sums of row a were lowered to the cost of an arc from a to b plus the cells of row b, and the others are as they were
-pub record RowLowered (n a b cost m : ℕ) (cells before after : List ℕ) : Type 0 where
+pub record RowLowered (f : Form) (a b cost m : ℕ) (cells before after : List ℕ) : Type 0 where
   pub long : length after ≡ length before
-  pub low : (t : ℕ) → t < m → areaCell n after a t ≡ min (areaCell n before a t) (cost + areaCell n cells b t)
-  pub rest : (x t : ℕ) → t < n → (x ≡ a → m ≤ t) → areaCell n after x t ≡ areaCell n before x t
+  pub low : (t : ℕ) → t < m → cellOf f after a t ≡ min (cellOf f before a t) (min cost (f .top) + cellOf f cells b t)
+  pub rest : (x t : ℕ) → t < f .width → (x ≡ a → m ≤ t) → cellOf f after x t ≡ cellOf f before x t
 
 -- an arc's cost and the cell of the router that it leads to make up sum (x, t)
-abbrev pub Summed : List Arc → (n : ℕ) → (cells sums : List ℕ) → ℕ → ℕ → Type 0
-Summed hops n cells sums x t = (z : ℕ) × (c : ℕ) × (l : ℕ) × List·Memᴰ (arc x z c l) hops × (c + areaCell n cells z t ≡ areaCell n sums x t)
+abbrev pub Summed : Form → List Arc → (cells sums : List ℕ) → ℕ → ℕ → Type 0
+Summed f hops cells sums x t = (z : ℕ) × (c : ℕ) × (l : ℕ) × List·Memᴰ (arc x z c l) hops × (min c (f .top) + cellOf f cells z t ≡ cellOf f sums x t)
 
--- what shows sum (x, t): it is on the diagonal, or the limit, or made up so
-abbrev pub Shown : List Arc → (n : ℕ) → (cells sums : List ℕ) → ℕ → ℕ → Type 0
-Shown hops n cells sums x t = (x ≡ t) ⊎ ((areaCell n sums x t ≡ limit) ⊎ Summed hops n cells sums x t)
-
--- the least sums over some arcs: 0 on the diagonal, and the limit where no arc gives less
-pub record LeastSums (hops : List Arc) (n : ℕ) (cells sums : List ℕ) : Type 0 where
-  pub long : length sums ≡ 4096
+-- the least sums over some arcs: no sum is above what it was at first, and each that is below that is made up
+pub record LeastSums (f : Form) (hops : List Arc) (cells first sums : List ℕ) : Type 0 where
+  pub long : length sums ≡ length first
   pub capped : {x z c l : ℕ} → List·Memᴰ (arc x z c l) hops → c ≤ 65535
-  pub diagonal : (x : ℕ) → x < n → areaCell n sums x x ≡ 0
-  pub most : (x t : ℕ) → x < n → t < n → areaCell n sums x t ≤ limit
-  pub bound : {x z c l : ℕ} (t : ℕ) → t < n → List·Memᴰ (arc x z c l) hops → areaCell n sums x t ≤ c + areaCell n cells z t
-  pub shown : (x t : ℕ) → x < n → t < n → Shown hops n cells sums x t
+  pub falls : (x t : ℕ) → t < f .width → cellOf f sums x t ≤ cellOf f first x t
+  pub bound : {x z c l : ℕ} (t : ℕ) → t < f .width → List·Memᴰ (arc x z c l) hops → cellOf f sums x t ≤ min c (f .top) + cellOf f cells z t
+  pub shown : (x t : ℕ) → t < f .width → (cellOf f sums x t ≡ cellOf f first x t) ⊎ Summed f hops cells sums x t
 
 -- ---- the answer
 
@@ -88,7 +133,7 @@ pub record SameCells (count : ℕ) (xs ys : List ℕ) (r : Bool) : Type 0 where
 
 -- each finite cell of the table is at most the largest real distance
 abbrev pub Small : ℕ → List ℕ → Type 0
-Small n table = (x t : ℕ) → x < n → t < n → areaCell n table x t < unreachable → areaCell n table x t ≤ longest
+Small n table = (x t : ℕ) → x < n → t < n → areaCell n table x t < unreachable → areaCell n table x t ≤ largest
 
 -- whether the table is right
 pub record Tested (hops : List Arc) (n : ℕ) (table : List ℕ) (r : Bool) : Type 0 where

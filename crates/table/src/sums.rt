@@ -11,7 +11,7 @@ ghost use lib.ListN.{length, replicate};
 ghost use Prim.Native.Nat.{_*_, _≤_, _<_, min};
 ghost use Rattle.metric.specs.Fit.{ColumnsWithin};
 ghost use Rattle.metric.specs.Columns.{arcsIn};
-ghost use Rattle.table.specs.Sums.{limit, summand, Summands, Limited, Cleared, RowLowered, LeastSums, Differs, SameCells, Tested};
+ghost use Rattle.table.specs.Sums.{form32, Stands, Summands, Limited, Cleared, RowLowered, LeastSums, Differs, SameCells, Tested};
 
 // No finite distance of any network is larger.
 const LONGEST: u32 = 4194240;
@@ -21,7 +21,7 @@ const LIMIT: u32 = 1073741824;
 
 // What stands for a cell in sums. For a number that is no distance of any network it is one that no least sum is.
 fn summand_of(cell: u32) -> u32
-    ensures { λ r. ⌜ r ≡ summand cell ⌝ }
+    ensures { λ r. ⌜ Stands 4194240 1073741824 cell r ⌝ }
 {
     if cell <= LONGEST {
         cell
@@ -46,8 +46,8 @@ fn copy_summands(count: usize, table: &[u32], cells: &mut [u32; 4096])
 
 // Sets the diagonal of the sums to 0.
 fn clear_diagonal(n: usize, sums: &mut [u32; 4096])
-    requires { ⌜ (n ≤ 64) × (now sums ≡ replicate 4096 limit) ⌝ }
-    ensures { λ _. ⌜ Cleared n n (now (sums .exit)) ⌝ }
+    requires { ⌜ (n ≤ 64) × (now sums ≡ replicate 4096 1073741824) ⌝ }
+    ensures { λ _. ⌜ Cleared (form32 n) n (now (sums .exit)) ⌝ }
 {
     let mut x = 0;
     while x < n {
@@ -66,8 +66,8 @@ fn least(a: u32, b: u32) -> u32
 
 // Lowers row a of the sums to the cost of an arc from a to b plus row b of the cells.
 fn lower(n: usize, a: usize, b: usize, cost: u16, cells: &[u32; 4096], sums: &mut [u32; 4096])
-    requires { ⌜ (a < n) × (b < n) × Limited n (now cells) × Limited n (now sums) ⌝ }
-    ensures { λ _. ⌜ (cost ≤ 65535) × RowLowered n a b cost n (now (cells .entry)) (now (sums .entry)) (now (sums .exit)) ⌝ }
+    requires { ⌜ (a < n) × (b < n) × Limited (form32 n) (now cells) × Limited (form32 n) (now sums) ⌝ }
+    ensures { λ _. ⌜ (cost ≤ 65535) × RowLowered (form32 n) a b cost n (now (cells .entry)) (now (sums .entry)) (now (sums .exit)) ⌝ }
 {
     let at = a * n;
     let by = b * n;
@@ -90,8 +90,8 @@ fn lower_links<'a>(
     cells: &[u32; 4096],
     sums: &mut [u32; 4096],
 )
-    requires { ⌜ ColumnsWithin n links (now from) (now to) × Limited n (now cells) × Cleared n n (now sums) ⌝ }
-    ensures { λ _. ⌜ LeastSums (arcsIn (now (from .entry)) (now (to .entry)) (now (out .entry)) (now (back .entry)) links) n (now (cells .entry)) (now (sums .exit)) ⌝ }
+    requires { ⌜ ColumnsWithin n links (now from) (now to) × Limited (form32 n) (now cells) × Limited (form32 n) (now sums) ⌝ }
+    ensures { λ _. ⌜ LeastSums (form32 n) (arcsIn (now (from .entry)) (now (to .entry)) (now (out .entry)) (now (back .entry)) links) (now (cells .entry)) (now (sums .entry)) (now (sums .exit)) ⌝ }
 {
     let mut k = 0;
     while k < links {

@@ -3,7 +3,8 @@
 use native.Mathlib.Omega.{arith}
 use native.Mathlib.Nat.{mul-le-mul}
 use Rattle.metric.specs.Laws.Columns.{columns-within}
-use Rattle.table.proofs.CellLaws.{summands-limited}
+use Rattle.table.proofs.CellLaws.{sized32, summands-limited, summands-copied}
+use Rattle.table.proofs.SumLaws.{cleared-limited}
 use Rattle.table.proofs.TestLaws.{same-tested}
 use borrow.Author.Needs.{needs}
 use Rattle.table.proofs.sums.agrees.Statement.{statement}
@@ -26,7 +27,7 @@ lower-links-requires c κs =
     let cleared = c .before .before in
     let copied = cleared .before .before in
     let start = copied .before .before .before in
-    (start .pre .0, summands-limited (start .pre .0 .few-routers) (copied .copy-summands .ensures), cleared .clear-diagonal .ensures)
+    (start .pre .0, summands-limited (start .pre .0 .few-routers) (copied .copy-summands .ensures), cleared-limited (cleared .clear-diagonal .ensures) (start .pre .0 .few-routers))
 
 same-cells-requires : tie.Need-same-cells-requires
 same-cells-requires c κs =
@@ -37,11 +38,12 @@ same-cells-requires c κs =
 returns : tie.Need-returns
 returns c =
     let lowered = c .before .before .before in
-    let copied = lowered .before .before .before .before .before in
+    let cleared = lowered .before .before .before in
+    let copied = cleared .before .before in
     let start = copied .before .before .before in
     let a = start .args in
-    same-tested (columns-within (a .from .now) (a .to .now) (a .out .now) (a .back .now) (a .links) (a .n) (start .pre .0)) (copied .copy-summands .ensures)
-    (lowered .lower-links .ensures) (c .same-cells .ensures)
+    same-tested (sized32 (a .n)) (columns-within (a .from .now) (a .to .now) (a .out .now) (a .back .now) (a .links) (a .n) (start .pre .0)) (summands-copied (copied .copy-summands .ensures))
+    (cleared .clear-diagonal .ensures) (lowered .lower-links .ensures) (c .same-cells .ensures)
 
 pub agrees-spec : {M : Type 1} → statement M
 agrees-spec =

@@ -4,20 +4,20 @@ use Prim.Native.Nat.{ℕ, _-_, _≤_}
 use mathlib.Core.Path.{_≡_, subst}
 use native.Mathlib.Omega.{arith}
 use borrow.Author.Needs.{needs}
-use Rattle.table.specs.Sums.{Cleared}
+use Rattle.table.specs.Sums.{form32, Cleared}
 use Rattle.table.proofs.CellLaws.{cell-few}
 use Rattle.table.proofs.SumLaws.{cleared-none, cleared-more}
 use Rattle.table.proofs.sums.clear_diagonal.Statement.{statement}
 use Rattle.table.proofs.sums.clear_diagonal.Tie as tie
 
 abbrev Inv-loop : tie.InvT-loop
-Inv-loop n sums₀ x₀ sums x = (x ≤ n) × Cleared n x sums
+Inv-loop n sums₀ x₀ sums x = (x ≤ n) × Cleared (form32 n) x sums
 
 abbrev μ-loop : tie.MeasureT-loop
 μ-loop n sums₀ x₀ sums x = n - x
 
 loop-holds : tie.Need-loop-holds Inv-loop μ-loop
-loop-holds c = (omega arith, rw (c .pre .1) (cleared-none (c .args .n) (c .pre .0)))
+loop-holds c = (omega arith, rw (c .pre .1) (cleared-none (form32 (c .args .n)) (c .pre .0)))
 
 mul-sums : tie.Need-mul-sums Inv-loop μ-loop
 mul-sums c = let h = c .loop-test .taken in omega (arith, cell-few (c .before .before .pre .0) h h)
@@ -44,7 +44,7 @@ returns : tie.Need-returns Inv-loop μ-loop
 returns c =
     let n = c .before .before .args .n in
     let e : c .before .loop .x ≡ n = omega arith in
-    subst (λ (x : ℕ). Cleared n x (c .before .loop .sums)) e (c .before .loop .inv .1)
+    subst (λ (x : ℕ). Cleared (form32 n) x (c .before .loop .sums)) e (c .before .loop .inv .1)
 
 pub clear-diagonal-spec : {M : Type 1} → statement M
 clear-diagonal-spec =

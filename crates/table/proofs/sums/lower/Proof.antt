@@ -5,14 +5,14 @@ use mathlib.Core.Path.{_≡_, subst}
 use native.Mathlib.Omega.{arith}
 use borrow.Author.Needs.{needs}
 use Rattle.metric.specs.Area.{areaCell}
-use Rattle.table.specs.Sums.{RowLowered}
+use Rattle.table.specs.Sums.{form32, RowLowered}
 use Rattle.table.proofs.CellLaws.{row-few}
 use Rattle.table.proofs.SumLaws.{row-none, row-more}
 use Rattle.table.proofs.sums.lower.Statement.{statement}
 use Rattle.table.proofs.sums.lower.Tie as tie
 
 abbrev Inv-loop : tie.InvT-loop
-Inv-loop n a b cost cells sums₀ at by hop t₀ sums t = (t ≤ n) × (at + n ≤ 4096) × (by + n ≤ 4096) × RowLowered n a b cost t cells sums₀ sums
+Inv-loop n a b cost cells sums₀ at by hop t₀ sums t = (t ≤ n) × (at + n ≤ 4096) × (by + n ≤ 4096) × RowLowered (form32 n) a b cost t cells sums₀ sums
 
 abbrev μ-loop : tie.MeasureT-loop
 μ-loop n a b cost cells sums₀ at by hop t₀ sums t = n - t
@@ -89,7 +89,7 @@ loop-again c =
     let a = start .args in
     let t = turn .before .loop .t in
     let inv = turn .before .loop .inv in
-    let v : c .least .result ≡ min (areaCell (a .n) (turn .before .loop .sums) (a .a) t) (a .cost + areaCell (a .n) (a .cells .now) (a .b) t) =
+    let v : c .least .result ≡ min (areaCell (a .n) (turn .before .loop .sums) (a .a) t) (min (a .cost) 65535 + areaCell (a .n) (a .cells .now) (a .b) t) =
     omega (arith, c .least .ensures, turn .before .before .cost-of .ensures) in
     (omega arith, inv .1, inv .2, row-more (start .pre .3 .few) (start .pre .3 .long) (start .pre .0) (turn .loop-test .taken) (inv .3) v)
 
@@ -97,7 +97,7 @@ returns : tie.Need-returns Inv-loop μ-loop
 returns c =
     let a = c .before .before .before .args in
     let e : c .before .loop .t ≡ a .n = omega arith in
-    (omega arith, subst (λ (t : ℕ). RowLowered (a .n) (a .a) (a .b) (a .cost) t (a .cells .now) (a .sums .now) (c .before .loop .sums)) e (c .before .loop .inv .3))
+    (omega arith, subst (λ (t : ℕ). RowLowered (form32 (a .n)) (a .a) (a .b) (a .cost) t (a .cells .now) (a .sums .now) (c .before .loop .sums)) e (c .before .loop .inv .3))
 
 pub lower-spec : {M : Type 1} → statement M
 lower-spec =

@@ -5,19 +5,19 @@ use mathlib.Core.Path.{_≡_, refl, subst}
 use native.Mathlib.Omega.{arith}
 use borrow.Author.Needs.{needs}
 use Rattle.metric.specs.Columns.{arcsIn}
-use Rattle.table.specs.Sums.{LeastSums}
+use Rattle.table.specs.Sums.{form32, LeastSums}
 use Rattle.table.proofs.SumLaws.{sums-limited, sums-more, links-none, links-more}
 use Rattle.table.proofs.sums.lower_links.Statement.{statement}
 use Rattle.table.proofs.sums.lower_links.Tie as tie
 
 abbrev Inv-loop : tie.InvT-loop
-Inv-loop n links from to out back cells sums₀ k₀ sums k = (k ≤ links) × LeastSums (arcsIn from to out back k) n cells sums
+Inv-loop n links from to out back cells sums₀ k₀ sums k = (k ≤ links) × LeastSums (form32 n) (arcsIn from to out back k) cells sums₀ sums
 
 abbrev μ-loop : tie.MeasureT-loop
 μ-loop n links from to out back cells sums₀ k₀ sums k = links - k
 
 loop-holds : tie.Need-loop-holds Inv-loop μ-loop
-loop-holds c = (omega arith, links-none (c .args .from .now) (c .args .to .now) (c .args .out .now) (c .args .back .now) (c .args .cells .now) (c .pre .2))
+loop-holds c = (omega arith, links-none (c .args .from .now) (c .args .to .now) (c .args .out .now) (c .args .back .now) _ _)
 
 element-copy-out-wide : tie.Need-element-copy-out-wide Inv-loop μ-loop
 element-copy-out-wide c = search needs
@@ -47,7 +47,7 @@ lower-requires c κs =
       omega (arith, w .from-in k k-in, c .before .before .before .before .wide .ensures),
       omega (arith, w .to-in k k-in, c .before .before .wide2 .ensures),
       start .pre .1,
-      sums-limited (w .few-routers) (turn .before .loop .inv .1),
+      sums-limited (start .pre .2) (turn .before .loop .inv .1),
     )
 
 mul-lower-2 : tie.Need-mul-lower-2 Inv-loop μ-loop
@@ -68,7 +68,7 @@ lower-requires-2 c κs =
       omega (arith, w .to-in k k-in, lowered .before .before .before .wide2 .ensures),
       omega (arith, w .from-in k k-in, lowered .before .before .before .before .before .wide .ensures),
       start .pre .1,
-      sums-limited (w .few-routers) (sums-more _ _ _ k (there .0) (turn .before .loop .inv .1) (there .1)),
+      sums-limited (start .pre .2) (sums-more _ _ _ k (there .0) (turn .before .loop .inv .1) (there .1)),
     )
 
 add-k : tie.Need-add-k Inv-loop μ-loop
@@ -92,7 +92,7 @@ returns : tie.Need-returns Inv-loop μ-loop
 returns c =
     let a = c .before .before .args in
     let e : c .before .loop .k ≡ a .links = omega arith in
-    subst (λ (k : ℕ). LeastSums (arcsIn (a .from .now) (a .to .now) (a .out .now) (a .back .now) k) (a .n) (a .cells .now) (c .before .loop .sums)) e (c .before .loop .inv .1)
+    subst (λ (k : ℕ). LeastSums (form32 (a .n)) (arcsIn (a .from .now) (a .to .now) (a .out .now) (a .back .now) k) (a .cells .now) (a .sums .now) (c .before .loop .sums)) e (c .before .loop .inv .1)
 
 pub lower-links-spec : {M : Type 1} → statement M
 lower-links-spec =
