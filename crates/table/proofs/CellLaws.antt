@@ -1,28 +1,51 @@
--- The places of cells, what stands for a cell in sums, and the cells of two lists that differ.
+-- The smaller of two numbers, the places of cells, what stands for a cell in sums, and the cells of two lists that differ.
 -- Assumes nothing.
-use Prim.Native.Nat.{ℕ, _+_, _-_, _*_, _/_, _%_, _≤_, _<_, min}
-use mathlib.Core.Path.{_≡_, sym, ap, _∙_}
+use Prim.Native.Nat.{ℕ, _+_, _-_, _*_, _/_, _%_, _^_, _≤_, _<_, min}
+use mathlib.Core.Path.{_≡_, sym, ap, ap₂, _∙_}
+use mathlib.Core.Bool.{true, false}
 use mathlib.Core.Logic.{_⊎_, inl, inr, ⊎-elim, _↔_}
 use mathlib.Core.List.{List}
 use native.Mathlib.Omega.{arith}
-use native.Mathlib.Nat.{lt-of-lt-of-le, mul-le-mul}
+use native.Mathlib.Nat.{lt-of-lt-of-le, le-trans, mul-le-mul}
 use native.Mathlib.Decide.{ℕ-discrete, decLt}
 use lib.Arith.{digits-lt, digits-div, digits-mod}
-use lib.Dec.{eqb}
+use lib.Dec.{eqb, ltb}
+use lib.Signed.{ltZ}
 use lib.ListN.{getD, set, length-set}
 use lib.Seq.{getD-set-same, getD-set-other}
-use borrow.Author.Tests.{eqb-true, eq-eqb}
+use mir.Syntax.{Width}
+use mir.Val.{toZ}
+use mir.Val.{hbits}
+use mir.ValLaws.{toZ-pos}
+use borrow.Author.Tests.{ltb-true, ltb-false, eqb-true, eq-eqb}
 use Rattle.lfa.specs.Distance.{unreachable}
 use Rattle.table.specs.Sums.{Form, largest, form32, form16, Real, finite, infinite, Stands, real, wrong, Copied, Limited, Summands, Differs, Same, SameCells}
+
+-- ---- the smaller of two numbers
+
+-- Numbers of the lower half of a width stand for themselves when they are compared as signed ones.
+module _ (w : Width) (a b : ℕ) (ha : a < 2 ^ hbits w) (hb : b < 2 ^ hbits w) where
+  signed : ltZ (toZ w a) (toZ w b) ≡ ltb a b
+  signed = ap₂ ltZ (toZ-pos w a ha) (toZ-pos w b hb)
+
+  pub least-first : ltZ (toZ w a) (toZ w b) ≡ true → a ≡ min a b
+  least-first e = omega (arith, ltb-true a b (sym signed ∙ e))
+
+  pub least-second : ltZ (toZ w a) (toZ w b) ≡ false → b ≡ min a b
+  least-second e = omega (arith, ltb-false a b (sym signed ∙ e))
 
 -- ---- the place x * w + t
 
 pub cell-few : {w x t : ℕ} → w ≤ 64 → x < w → t < w → x * w + t < 4096
 cell-few h hx ht = lt-of-lt-of-le (digits-lt hx ht) (mul-le-mul h h)
 
--- a row ends within the 4096 cells
+-- a row ends within the w rows
+pub row-in : {w x : ℕ} → x < w → x * w + w ≤ w * w
+row-in {w} {x} hx = let last : w - 1 < w = omega arith in omega (arith, digits-lt hx last)
+
+-- and within the 4096 cells
 pub row-few : {w x : ℕ} → w ≤ 64 → x < w → x * w + w ≤ 4096
-row-few {w} h hx = let last : w - 1 < w = omega arith in omega (arith, cell-few h hx last)
+row-few h hx = le-trans (row-in hx) (mul-le-mul h h)
 
 -- two cells at one place are one
 pub one-place : {w x t a b : ℕ} → t < w → b < w → x * w + t ≡ a * w + b → (x ≡ a) × (t ≡ b)

@@ -1,4 +1,5 @@
 pub mod CellLaws
 pub mod SumLaws
+pub mod NarrowLaws
 pub mod TestLaws
 pub mod CallLaws

@@ -5,12 +5,39 @@
 use costs::costs_fit;
 use fit::links_fit;
 use metric::read::cells_fit;
-use sums::agrees;
 ghost use mathlib.Core.Path.{_≡_};
+ghost use lib.ListN.{length};
+ghost use Prim.Native.Nat.{_*_, _≤_};
+ghost use Rattle.metric.specs.Fit.{ColumnsWithin};
+ghost use Rattle.metric.specs.Columns.{arcsIn};
 ghost use Rattle.table.specs.Calls.{tableHolds};
+ghost use Rattle.table.specs.Sums.{Tested};
 
 mod costs;
+mod narrow;
 mod sums;
+
+// Whether each cell is 0 on the diagonal, and elsewhere the least sum: by sums of 16 bits where each finite cell is small enough for them,
+// and else by sums of 32 bits.
+fn agrees<'a>(
+    n: usize,
+    links: usize,
+    from: &'a [u8; 128],
+    to: &'a [u8; 128],
+    out: &'a [u16; 128],
+    back: &'a [u16; 128],
+    table: &[u32],
+) -> bool
+    requires { ⌜ ColumnsWithin n links (now from) (now to) × (n * n ≤ length (now table)) ⌝ }
+    ensures { λ r. ⌜ Tested (arcsIn (now (from .entry)) (now (to .entry)) (now (out .entry)) (now (back .entry)) links) n (now (table .entry)) r ⌝ }
+{
+    let mut cells = [narrow::LIMIT; 4096];
+    let all = narrow::copy_rows(n, table, &mut cells);
+    if narrow::SMALL < all {
+        return sums::agrees(n, links, from, to, out, back, table);
+    }
+    narrow::agrees(n, links, from, to, out, back, &cells)
+}
 
 // Whether the first routers * routers cells of the table are the distances, row by row, row = start.
 pub fn holds_distances<'a>(
