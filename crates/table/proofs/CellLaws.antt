@@ -141,6 +141,13 @@ summands-more {i} {table} {cells} v h q e = record { long = length-set cells i v
 
 -- ---- the number of cells that differ
 
+module _ {a b : ℕ} where
+  pub differs-none : a ≡ b → Differs a b 0
+  differs-none e = record { most = omega arith; same = λ _. e; none = λ _. omega arith }
+
+  pub differs-one : (a ≡ b → ⊥) → Differs a b 1
+  differs-one ne = record { most = omega arith; same = λ z. absurd (omega arith); none = λ e. absurd (ne e) }
+
 pub record Differing (i : ℕ) (xs ys : List ℕ) (d : ℕ) : Type 0 where
   pub few : d ≤ i
   pub holds : d ≡ 0 → Same i xs ys

@@ -1,5 +1,6 @@
 -- `agrees` takes sums of 16 bits where the copied cells stand for those of the table.
 -- Assumes nothing.
+use native.Mathlib.Omega.{arith}
 use Rattle.table.proofs.NarrowLaws.{rows-limited, rows-copied}
 use borrow.Author.Needs.{needs}
 use Rattle.table.proofs.agrees.Statement.{statement}
@@ -24,7 +25,7 @@ returns-2 : tie.Need-returns-2
 returns-2 c =
     let copied = c .before .before .before in
     let start = copied .before .before .before in
-    c .agrees2 .ensures (start .args .table .now) (rows-copied (start .pre .0 .few-routers) (copied .copy-rows .ensures) (c .before .before .if1 .left))
+    c .agrees2 .ensures (start .args .table .now) (rows-copied (start .pre .0 .few-routers) (copied .copy-rows .ensures) (omega (arith, c .before .before .if1 .left)))
 
 pub agrees-spec : {M : Type 1} → statement M
 agrees-spec =
