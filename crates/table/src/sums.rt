@@ -1,8 +1,7 @@
-// The test of the table: each cell on the diagonal has to be 0, and each other cell the least sum, over the arcs that leave its row's
-// router, of the arc's cost and the cell of the router that the arc leads to.
+// The test of any table, in sums of 32 bits.
 //
-// The cells are first copied as summands, numbers that are small enough for sums of 32 bits. Each arc then lowers one row of the sums. The
-// loops over cells have no branch, and read one array while they write another, so that they go over four cells at once.
+// The cells are first copied as summands, numbers that are small enough for the sums. Each arc then lowers one row of the sums. The loops
+// over cells have no branch, and read one array while they write another, so that they go over four cells at once.
 use metric::Distance;
 use metric::read::cost_of;
 use metric::read::wide;
