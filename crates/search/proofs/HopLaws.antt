@@ -2,22 +2,24 @@
 -- Assumes nothing.
 use Prim.Native.Nat.{ℕ, zero, suc, _+_, _*_, _/_, _≤_, _<_}
 use mathlib.Core.Path.{_≡_, refl, sym, ap, ap₂, _∙_}
-use mathlib.Core.Bool.{Bool, true, false}
+use mathlib.Core.Bool.{Bool, true, false, _||_}
 use mathlib.Core.List.{List, [], _∷_, _++_, map, map-map, append-nil, append-assoc}
 use native.Mathlib.Numerals.{add-one}
 use native.Mathlib.Omega.{arith}
+use lib.Dec.{eqb}
 use lib.ListN.{length, getD, set, length-set}
 use lib.Seq.{getD-set-same, getD-set-other}
 use Rattle.lfa.specs.Lists.{countUp, below, select, keepIf}
 use Rattle.lfa.specs.Network.{Arc, arc, arcsFrom}
 use Rattle.lfa.specs.Laws.Counting.{map-below-same}
+use Rattle.lfa.specs.Laws.Test.{or-false-left, or-false-right}
 use Rattle.lfa.specs.Space.{Protected, isFirst, hopOver, firstHops}
 use Rattle.metric.specs.Columns.{linksIn, arcsIn}
 use Rattle.metric.specs.Laws.List.{below-more, map-below-more, select-append}
 use Rattle.metric.specs.Laws.Columns.{arcsIn-more}
 use Rattle.arcs.specs.Arcs.{sideOf, leavesNear, hopBy}
 use Rattle.arcs.proofs.ArcLaws.{reads-there, reads-back}
-use Rattle.search.specs.Hops.{arcsListed, Listed, hopsIn}
+use Rattle.search.specs.Hops.{arcsListed, Put, Listed, hopsIn}
 use Rattle.metric.specs.Laws.Select.{select-map}
 
 -- ---- arcs by their numbers
@@ -62,36 +64,44 @@ pub firsts-none : (q : Protected) (from to out back arcs : List ℕ) → length 
 unfolding arcsListed below countUp select
 firsts-none q from to out back arcs l = record { few = omega arith; long = l; all = refl }
 
--- one arc more is put after those found where it is a first hop, and else left out
-module _ (q : Protected) (from to out back : List ℕ) (a count : ℕ) (arcs : List ℕ) (f : FirstsFound q from to out back a count arcs) where
-  abbrev test : ℕ → Bool
-  test = leavesNear q from to out back
-
-  arc-more : (b : Bool) → test a ≡ b → select test (below (a + 1)) ≡ select test (below a) ++ keepIf b a []
-  unfolding select
-  arc-more b e = ap (select test) (below-more a) ∙ select-append test (below a) (a ∷ []) ∙ ap (λ (c : Bool). select test (below a) ++ keepIf c a []) e
-
-  put : a < 256 → arcsListed (count + 1) (set arcs count a) ≡ arcsListed count arcs ++ (a ∷ [])
-  unfolding arcsListed
-  put h =
+-- an arc is put after those listed, or left out
+pub first-put : (a count : ℕ) (arcs : List ℕ) → count < length arcs → Put true a count arcs (count + 1) (set arcs count a)
+unfolding arcsListed
+first-put a count arcs h = record {
+  few = omega arith;
+  long = length-set arcs count a;
+  listed =
       map-below-more (λ i. getD (set arcs count a) i 0) count
       ∙ ap₂ (λ (l : List ℕ) (x : ℕ). l ++ (x ∷ []))
       (map-below-same _ _ count (λ i k. getD-set-other arcs count i a 0 (λ e. absurd (omega arith))))
-      (getD-set-same arcs count a 0 (omega (arith, f .few, f .long)))
+      (getD-set-same arcs count a 0 h);
+}
 
-  pub first-put : a < 256 → test a ≡ true → FirstsFound q from to out back (a + 1) (count + 1) (set arcs count a)
-  first-put h e = record {
-    few = omega (arith, f .few);
-    long = simp length-set (f .long);
-    all = put h ∙ ap (λ (l : List ℕ). l ++ (a ∷ [])) (f .all) ∙ sym (arc-more true e);
+pub other-left : (a count : ℕ) (arcs : List ℕ) → Put false a count arcs count arcs
+other-left a count arcs = record { few = omega arith; long = refl; listed = sym (append-nil (arcsListed count arcs)) }
+
+module _ (q : Protected) (from to out back : List ℕ) where
+  abbrev test : ℕ → Bool
+  test = leavesNear q from to out back
+
+  -- one arc more has been tried
+  pub arc-tried : {count all : ℕ} {arcs after : List ℕ} (a : ℕ) → FirstsFound q from to out back a count arcs → Put (test a) a count arcs all after → FirstsFound q from to out back (a + 1) all after
+  unfolding select
+  arc-tried a f p = record {
+    few = omega (arith, f .few, p .few);
+    long = p .long ∙ f .long;
+    all = p .listed ∙ ap (λ (l : List ℕ). l ++ keepIf (test a) a []) (f .all) ∙ sym (ap (select test) (below-more a) ∙ select-append test (below a) (a ∷ []));
   }
 
-  pub other-left : test a ≡ false → FirstsFound q from to out back (a + 1) count arcs
-  other-left e = record {
-    few = omega (arith, f .few);
-    long = f .long;
-    all = f .all ∙ sym (arc-more false e ∙ append-nil (select test (below a)));
-  }
+  -- No arc of a link that does not touch S leaves S, so that both may be passed over.
+  pub link-passed : {count : ℕ} {arcs : List ℕ} (k : ℕ) → (eqb (getD from k 0) (q .near) || eqb (getD to k 0) (q .near)) ≡ false → FirstsFound q from to out back (2 * k) count arcs → FirstsFound q from to out back (2 * k + 1 + 1) count arcs
+  unfolding leavesNear
+  link-passed {count} {arcs} k e f =
+      let there : test (2 * k) ≡ false = rw (side-there k from to, or-false-left (eqb (getD from k 0) (q .near)) (eqb (getD to k 0) (q .near)) e) in
+      let again : test (2 * k + 1) ≡ false = rw (side-back k from to, or-false-right (eqb (getD from k 0) (q .near)) (eqb (getD to k 0) (q .near)) e) in
+      let left : Put (test (2 * k)) (2 * k) count arcs count arcs = rw there (other-left (2 * k) count arcs) in
+      let left-too : Put (test (2 * k + 1)) (2 * k + 1) count arcs count arcs = rw again (other-left (2 * k + 1) count arcs) in
+      arc-tried (2 * k + 1) (arc-tried (2 * k) f left) left-too
 
 -- the column holds the first hops of the network
 pub listed-hops : (q : Protected) (from to out back : List ℕ) (links count : ℕ) (arcs : List ℕ) → Listed q from to out back links count arcs → hopsIn from to out back count arcs ≡ firstHops q (arcsIn from to out back links)

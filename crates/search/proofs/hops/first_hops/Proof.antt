@@ -1,60 +1,70 @@
--- `search::hops::first_hops` meets its contract. The loop's invariant: the cells before `count` hold the first hops among the arcs passed.
+-- `search::hops::first_hops` meets its contract. The loop's invariant: the cells before `count` hold the first hops among the arcs of the links passed.
 -- Assumes nothing.
-use Prim.Native.Nat.{_*_, _-_, _≤_}
+use Prim.Native.Nat.{_+_, _*_, _-_, _≤_}
 use mathlib.Core.Path.{_≡_, refl, sym, _∙_}
 use mathlib.Core.Logic.{⊎-elim}
 use native.Mathlib.Omega.{arith}
 use borrow.Author.Needs.{needs}
 use Rattle.avoid.specs.Avoiding.{asked}
-use Rattle.search.proofs.HopLaws.{FirstsFound, firsts-none, first-put, other-left}
+use Rattle.search.proofs.HopLaws.{FirstsFound, firsts-none, arc-tried, link-passed}
 use Rattle.search.proofs.hops.first_hops.Statement.{statement}
 use Rattle.search.proofs.hops.first_hops.Tie as tie
 
 abbrev Inv-loop : tie.InvT-loop
-Inv-loop links from to out back protected arcs₀ count₀ arc₀ arcs count arc = (arc ≤ 2 * links) × FirstsFound (asked protected) from to out back arc count arcs
+Inv-loop links from to out back protected arcs₀ count₀ k₀ arcs count k = (k ≤ links) × FirstsFound (asked protected) from to out back (2 * k) count arcs
 
 abbrev μ-loop : tie.MeasureT-loop
-μ-loop links from to out back protected arcs₀ count₀ arc₀ arcs count arc = 2 * links - arc
+μ-loop links from to out back protected arcs₀ count₀ k₀ arcs count k = links - k
 
 loop-holds : tie.Need-loop-holds Inv-loop μ-loop
 loop-holds c = (omega arith, firsts-none _ _ _ _ _ _ refl)
 
-mul-loop : tie.Need-mul-loop Inv-loop μ-loop
-mul-loop c = search needs
+element-copy-out-touches : tie.Need-element-copy-out-touches Inv-loop μ-loop
+element-copy-out-touches c = search needs
 
-cast-number : tie.Need-cast-number Inv-loop μ-loop
-cast-number c = search needs
+element-copy-out-touches-2 : tie.Need-element-copy-out-touches-2 Inv-loop μ-loop
+element-copy-out-touches-2 c = search needs
 
-leaves-requires : tie.Need-leaves-requires Inv-loop μ-loop
-leaves-requires c κs = search needs
+touches-requires : tie.Need-touches-requires Inv-loop μ-loop
+touches-requires c κs = search needs
 
-array-write-arcs : tie.Need-array-write-arcs Inv-loop μ-loop
-array-write-arcs c = search needs
+mul-there : tie.Need-mul-there Inv-loop μ-loop
+mul-there c = search needs
 
-add-count : tie.Need-add-count Inv-loop μ-loop
-add-count c = search needs
+cast-there : tie.Need-cast-there Inv-loop μ-loop
+cast-there c = search needs
 
-add-arc : tie.Need-add-arc Inv-loop μ-loop
-add-arc c = search needs
+put-first-requires : tie.Need-put-first-requires Inv-loop μ-loop
+put-first-requires c κs = search needs
+
+add-put-first : tie.Need-add-put-first Inv-loop μ-loop
+add-put-first c = search needs
+
+put-first-requires-2 : tie.Need-put-first-requires-2 Inv-loop μ-loop
+put-first-requires-2 c κs = search needs
+
+add-k : tie.Need-add-k Inv-loop μ-loop
+add-k c = search needs
 
 loop-less : tie.Need-loop-less Inv-loop μ-loop
 loop-less c = search needs
 
 loop-again : tie.Need-loop-again Inv-loop μ-loop
 loop-again c =
-    let at-loop = c .before .before .before in
+    let at-loop = c .before .before .before .before .before in
     let a = at-loop .before .args in
     let l = at-loop .loop in
-    let e = c .before .leaves .ensures in (
+    let q = asked (a .protected) in
+    let e : 2 * (l .k + 1) ≡ 2 * l .k + 1 + 1 = omega arith in
+    let t = c .before .touches .ensures in (
       omega arith,
-      ⊎-elim (λ w. rw (w .1, w .2) (first-put (asked (a .protected)) (a .from .now) (a .to .now) (a .out .now) (a .back .now) (l .arc) (l .count) (l .arcs) (l .inv .1) (omega arith) (sym e ∙ w .0 .taken)))
-          (λ w. rw (w .1, w .2) (other-left (asked (a .protected)) (a .from .now) (a .to .now) (a .out .now) (a .back .now) (l .arc) (l .count) (l .arcs) (l .inv .1) (sym e ∙ w .0 .left))) (c .if1 .came),
+      rw e (⊎-elim (λ w. rw (w .5, w .6) (arc-tried q (a .from .now) (a .to .now) (a .out .now) (a .back .now) (2 * l .k + 1) (arc-tried q (a .from .now) (a .to .now) (a .out .now) (a .back .now) (2 * l .k) (l .inv .1) (w .2 .ensures)) (w .4 .ensures))) (λ w. rw (w .1, w .2) (link-passed q (a .from .now) (a .to .now) (a .out .now) (a .back .now) (l .k) (sym t ∙ w .0 .left) (l .inv .1))) (c .if1 .came)),
     )
 
 returns : tie.Need-returns Inv-loop μ-loop
 returns c =
     let f = c .before .loop .inv .1 in
-    let e : c .before .loop .arc ≡ 2 * c .before .before .args .links = omega arith in
+    let e : c .before .loop .k ≡ c .before .before .args .links = omega arith in
     record { few = omega (arith, f .few); all = rw (← e) (f .all) }
 
 pub first-hops-spec : {M : Type 1} → statement M
@@ -64,12 +74,15 @@ first-hops-spec =
     Inv-loop
     μ-loop
     loop-holds
-    mul-loop
-    cast-number
-    leaves-requires
-    array-write-arcs
-    add-count
-    add-arc
+    element-copy-out-touches
+    element-copy-out-touches-2
+    touches-requires
+    mul-there
+    cast-there
+    put-first-requires
+    add-put-first
+    put-first-requires-2
+    add-k
     loop-less
     loop-again
     returns)
