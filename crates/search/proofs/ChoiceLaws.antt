@@ -22,7 +22,7 @@ use Rattle.order.specs.declared.Earliest.the-variants.{Nothing, Found}
 use Rattle.order.specs.Order.{toldIn, earliestIn, earlierOf}
 use Rattle.order.proofs.Earliest.{the-type}
 use Rattle.steps.specs.declared.Onward.{Onward}
-use Rattle.arcs.specs.Arcs.{hopBy}
+use Rattle.arcs.specs.Arcs.{sideOf, hopBy}
 use Rattle.search.specs.Hops.{hopsIn}
 use Rattle.search.specs.Spaces.{avoidedFrom}
 use Rattle.search.specs.Choice.{outcomeFor, firstOf, orderedAt, mayEnd, hopPairs, protectingFrom, pairsOver, pairsTried}
@@ -93,13 +93,13 @@ module _ (ranks : List ℕ) (n : ℕ) (q : Protected) (area column : List ℕ) (
   pairsBy f protecting set = hopPairs ranks n area (q .near) (q .far) column f protecting (bitAnd (kept .avoiding) set) n
 
   pub hop-tried : {before next : Option Ordered} {f : FirstHop} {set protecting : ℕ} (i : ℕ) → before ≡ firstOf none (tried i) → f ≡ hopBy from to out back (getD arcs i 0) →
-      set ≡ avoidedFrom n q area (f .router) → protecting ≡ protectingFrom n q area (kept .missing) f → next ≡ firstOf before (pairsBy f protecting set) → next ≡ firstOf none (tried (i + 1))
+      set ≡ avoidedFrom n q area (sideOf (getD arcs i 0) to from) → protecting ≡ protectingFrom n q area (kept .missing) f → next ≡ firstOf before (pairsBy f protecting set) → next ≡ firstOf none (tried (i + 1))
   unfolding pairsTried pairsOver flat
   hop-tried {before} {next} {f} {set} {protecting} i e ef es ep s =
       let passed = hopsIn from to out back i arcs in
       let g = hopBy from to out back (getD arcs i 0) in
       let own = pairsOver ranks n q area column kept g in
-      let one : pairsBy f protecting set ≡ own = ap₂ (pairsBy f) ep es ∙ ap (pairsOver ranks n q area column kept) ef in
+      let one : pairsBy f protecting set ≡ own = ap₂ (pairsBy f) ep (es ∙ ap (λ (h : FirstHop). avoidedFrom n q area (h .router)) (sym ef)) ∙ ap (pairsOver ranks n q area column kept) ef in
       let all : tried (i + 1) ≡ tried i ++ own =
       ap (pairsTried ranks n q area column kept) (hops-more from to out back i arcs)
       ∙ ap flat (map-append (pairsOver ranks n q area column kept) passed (g ∷ []))

@@ -5,8 +5,10 @@ use mathlib.Core.Path.{_≡_, refl, sym, ap, ap₂, _∙_}
 use mathlib.Core.Bool.{true}
 use mathlib.Core.List.{List, [], _∷_, _++_}
 use native.Mathlib.Omega.{arith}
+use native.Mathlib.Decide.{ℕ-discrete}
 use lib.Bits.{bitOr}
-use lib.ListN.{getD}
+use lib.ListN.{length, getD, set}
+use lib.Seq.{getD-set-same, getD-set-other}
 use borrow.Author.Tests.{ltb-true, leb-true}
 use Rattle.lfa.specs.Lists.{countUp, below}
 use Rattle.lfa.specs.Space.{Protected, FirstHop}
@@ -16,7 +18,7 @@ use Rattle.avoid.specs.Calls.{readable}
 use Rattle.search.specs.Calls.{searchable}
 use Rattle.arcs.specs.Arcs.{sideOf, hopBy}
 use Rattle.search.specs.Hops.{hopsIn}
-use Rattle.search.specs.Spaces.{avoidedFrom, gathered}
+use Rattle.search.specs.Spaces.{avoidedFrom, gathered, SetsOf, Reached}
 use Rattle.search.proofs.HopLaws.{hops-more}
 
 -- ---- extended P
@@ -27,18 +29,29 @@ module _ (n : ℕ) (q : Protected) (area : List ℕ) where
   gathered-append set [] m = refl
   gathered-append set (f ∷ l) m = gathered-append (bitOr set (avoidedFrom n q area (f .router))) l m
 
-  module _ (from to arcs out back : List ℕ) where
-    pub no-hops : 0 ≡ gathered n q area 0 (hopsIn from to out back 0 arcs)
+  module _ (from to arcs : List ℕ) where
+    pub none-reached : (sets : List ℕ) → Reached n q area from to 0 arcs sets 0
     unfolding gathered hopsIn below countUp
-    no-hops = refl
+    none-reached sets = record { each = λ i h. absurd (omega arith); all = λ out back. refl }
 
-    -- the routers that one first hop more avoids to
-    pub hop-more : {set more m : ℕ} (i : ℕ) → set ≡ gathered n q area 0 (hopsIn from to out back i arcs) →
-        m ≡ sideOf (getD arcs i 0) to from → more ≡ avoidedFrom n q area m → bitOr set more ≡ gathered n q area 0 (hopsIn from to out back (i + 1) arcs)
-    unfolding gathered
-    hop-more {m} i e f g =
-        ap₂ bitOr e (g ∙ ap (avoidedFrom n q area) f)
-        ∙ sym (ap (gathered n q area 0) (hops-more from to out back i arcs) ∙ gathered-append 0 (hopsIn from to out back i arcs) (hopBy from to out back (getD arcs i 0) ∷ []))
+    module _ {more m : ℕ} (i : ℕ) (leads : m ≡ sideOf (getD arcs i 0) to from) (own : more ≡ avoidedFrom n q area m) where
+      -- the set of one first hop more is stored
+      set-more : (sets : List ℕ) → i < length sets → SetsOf n q area from to i arcs sets → SetsOf n q area from to (i + 1) arcs (set sets i more)
+      set-more sets h before j k = go (ℕ-discrete j i)
+        where
+          go : Dec (j ≡ i) → getD (set sets i more) j 0 ≡ avoidedFrom n q area (sideOf (getD arcs j 0) to from)
+          go (yes e) = rw e (getD-set-same sets i more 0 h ∙ own ∙ ap (avoidedFrom n q area) leads)
+          go (no e) = getD-set-other sets i j more 0 e ∙ before j (omega arith)
+
+      -- the routers that one first hop more avoids to
+      hop-more : {union : ℕ} (out back : List ℕ) → union ≡ gathered n q area 0 (hopsIn from to out back i arcs) → bitOr union more ≡ gathered n q area 0 (hopsIn from to out back (i + 1) arcs)
+      unfolding gathered
+      hop-more out back e =
+          ap₂ bitOr e (own ∙ ap (avoidedFrom n q area) leads)
+          ∙ sym (ap (gathered n q area 0) (hops-more from to out back i arcs) ∙ gathered-append 0 (hopsIn from to out back i arcs) (hopBy from to out back (getD arcs i 0) ∷ []))
+
+      pub hop-reached : {union : ℕ} (sets : List ℕ) → i < length sets → Reached n q area from to i arcs sets union → Reached n q area from to (i + 1) arcs (set sets i more) (bitOr union more)
+      hop-reached sets h r = record { each = set-more sets h (r .each); all = λ out back. hop-more out back (r .all out back) }
 
 -- ---- the test whether a question is searched for
 

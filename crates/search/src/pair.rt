@@ -3,11 +3,10 @@ use crate::Found;
 use crate::hops::FirstHops;
 use crate::hops::first_hops;
 use crate::space::can_search;
-use crate::space::extended_p;
+use crate::space::reached;
 use arcs::Hop;
 use arcs::hop_of;
 use avoid::Protected;
-use avoid::avoiding_from;
 use avoid::avoiding_to;
 use avoid::missing_from;
 use column::towards_router;
@@ -34,6 +33,7 @@ ghost use Rattle.avoid.specs.Calls.{missingFrom};
 ghost use Rattle.steps.specs.Crossing.{onwardBySteps};
 ghost use Rattle.arcs.specs.Arcs.{hopIn};
 ghost use Rattle.search.specs.Hops.{hopsIn};
+ghost use Rattle.search.specs.Spaces.{SetsOf};
 ghost use Rattle.search.specs.Choice.{outcomeIn, firstOf, orderedAt, mayEnd, hopPairs, pairsTried, firstServing};
 ghost use Rattle.search.specs.Calls.{searchable, pairFor, linkIf, prefixIf};
 
@@ -120,7 +120,8 @@ fn protecting_from(dist: &[u32], n: usize, far: usize, missing: u64, first: usiz
     missing_from(dist, n, far, first) & missing
 }
 
-// The earliest of the pairs of the first hops with an endpoint in the set `kept.avoiding` that the first hop avoids the link on the way to.
+// The earliest of the pairs of the first hops with an endpoint in the set `kept.avoiding` that the first hop avoids the link on the way to,
+// as the first hop's set tells.
 fn search(
     ranks: &[u8],
     dist: &[u32],
@@ -132,9 +133,10 @@ fn search(
     protected: Protected,
     target: &[u32; 64],
     hops: FirstHops,
+    sets: &[u64; 256],
     kept: Onward,
 ) -> Earliest
-    requires { ⌜ (n ≤ 64) × (protected .near < 64) × (hops .count ≤ 256) ⌝ }
+    requires { ⌜ (n ≤ 64) × (protected .near < 64) × (hops .count ≤ 256) × SetsOf n (asked protected) (now dist) (now from) (now to) (hops .count) (hops .arcs) (now sets) ⌝ }
     ensures { λ r. ⌜ earliestIn r ≡ firstOf none (pairsTried (now (ranks .entry)) n (asked protected) (now (dist .entry)) (now (target .entry)) kept
         (hopsIn (now (from .entry)) (now (to .entry)) (now (out .entry)) (now (back .entry)) (hops .count) (hops .arcs))) ⌝ }
 {
@@ -143,7 +145,7 @@ fn search(
     let mut i = 0;
     while i < hops.count {
         let hop = hop_of(hops.arcs[i], from, to, out, back);
-        let endpoints = kept.avoiding & avoiding_from(dist, dist, n, protected, hop.router);
+        let endpoints = kept.avoiding & sets[i];
         let protecting = protecting_from(dist, n, far, kept.missing, hop.router);
         best = over_hop(
             ranks,
@@ -182,8 +184,10 @@ fn first_pair(
     ensures { λ r. ⌜ earliestIn r ≡ firstServing (now (ranks .entry)) n (arcsIn (now (from .entry)) (now (to .entry)) (now (out .entry)) (now (back .entry)) links) (asked protected) (now (dist .entry)) (now (target .entry)) onward ⌝ }
 {
     let hops = first_hops(links, from, to, out, back, protected);
+    let mut sets = [0u64; 256];
+    let extended = reached(dist, n, from, to, protected, hops, &mut sets);
     let kept = Onward {
-        avoiding: extended_p(dist, n, from, to, protected, hops) & onward.avoiding,
+        avoiding: extended & onward.avoiding,
         missing: onward.missing,
     };
     search(
@@ -197,6 +201,7 @@ fn first_pair(
         protected,
         target,
         hops,
+        &sets,
         kept,
     )
 }

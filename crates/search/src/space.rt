@@ -16,7 +16,7 @@ ghost use Rattle.lfa.specs.Space.{qSpace};
 ghost use Rattle.metric.specs.Columns.{arcsIn};
 ghost use Rattle.avoid.specs.Avoiding.{asked};
 ghost use Rattle.search.specs.Hops.{hopsIn};
-ghost use Rattle.search.specs.Spaces.{gathered, spaceFor, spaceNamed};
+ghost use Rattle.search.specs.Spaces.{gathered, Reached, spaceFor, spaceNamed};
 ghost use Rattle.search.specs.Calls.{searchable, spaceIf};
 
 // Whether a question is searched for: the columns have a cell for each link, and the table one for each two routers, the ends of the
@@ -27,9 +27,34 @@ pub(crate) fn can_search(n: usize, links: usize, protected: Protected, cells: us
     links <= 128 && can_read(n, protected, cells)
 }
 
-// The routers that one of the first hops avoids the link on the way to: extended P. Beyond which arcs are first hops, costs have no part
-// in it.
-pub(crate) fn extended_p(
+// For each first hop, stores the set of the routers that it avoids the link on the way to, and tells those that one of them does: extended
+// P. Beyond which arcs are first hops, costs have no part in it.
+pub(crate) fn reached(
+    dist: &[u32],
+    n: usize,
+    from: &[u8; 128],
+    to: &[u8; 128],
+    protected: Protected,
+    hops: FirstHops,
+    sets: &mut [u64; 256],
+) -> u64
+    requires { ⌜ (hops .count ≤ 256) × (length (now sets) ≡ 256) ⌝ }
+    ensures { λ s. ⌜ Reached n (asked protected) (now (dist .entry)) (now (from .entry)) (now (to .entry)) (hops .count) (hops .arcs) (now (sets .exit)) s ⌝ }
+{
+    let mut set: u64 = 0;
+    let mut i = 0;
+    while i < hops.count {
+        let hop = head_of(hops.arcs[i], from, to);
+        let one = avoiding_from(dist, dist, n, protected, hop);
+        sets[i] = one;
+        set = set | one;
+        i += 1;
+    }
+    set
+}
+
+// Extended P.
+fn extended_p(
     dist: &[u32],
     n: usize,
     from: &[u8; 128],
@@ -40,14 +65,8 @@ pub(crate) fn extended_p(
     requires { ⌜ hops .count ≤ 256 ⌝ }
     ensures { λ s. ⌜ ((out back : List ℕ) → s ≡ gathered n (asked protected) (now (dist .entry)) 0 (hopsIn (now (from .entry)) (now (to .entry)) out back (hops .count) (hops .arcs))) ⌝ }
 {
-    let mut set: u64 = 0;
-    let mut i = 0;
-    while i < hops.count {
-        let hop = head_of(hops.arcs[i], from, to);
-        set = set | avoiding_from(dist, dist, n, protected, hop);
-        i += 1;
-    }
-    set
+    let mut sets = [0u64; 256];
+    reached(dist, n, from, to, protected, hops, &mut sets)
 }
 
 // Q space.

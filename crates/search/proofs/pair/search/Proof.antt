@@ -14,10 +14,10 @@ use Rattle.search.proofs.pair.search.Statement.{statement}
 use Rattle.search.proofs.pair.search.Tie as tie
 
 abbrev Inv-loop : tie.InvT-loop
-Inv-loop ranks dist n from to out back protected target kept hops far best₀ i₀ best i = (i ≤ hops .count) × (earliestIn best ≡ firstOf none (pairsTried ranks n (asked protected) dist target kept (hopsIn from to out back i (hops .arcs))))
+Inv-loop ranks dist n from to out back protected target sets kept hops far best₀ i₀ best i = (i ≤ hops .count) × (earliestIn best ≡ firstOf none (pairsTried ranks n (asked protected) dist target kept (hopsIn from to out back i (hops .arcs))))
 
 abbrev μ-loop : tie.MeasureT-loop
-μ-loop ranks dist n from to out back protected target kept hops far best₀ i₀ best i = hops .count - i
+μ-loop ranks dist n from to out back protected target sets kept hops far best₀ i₀ best i = hops .count - i
 
 loop-holds : tie.Need-loop-holds Inv-loop μ-loop
 loop-holds c = (omega arith, none-tried _ _ _ _ _ _ _ _ _ _ _)
@@ -28,8 +28,11 @@ element-copy-out-hop-of c = search needs
 hop-of-requires : tie.Need-hop-of-requires Inv-loop μ-loop
 hop-of-requires c κs = search needs
 
-avoiding-from-requires : tie.Need-avoiding-from-requires Inv-loop μ-loop
-avoiding-from-requires c κs = search needs
+mul-endpoints : tie.Need-mul-endpoints Inv-loop μ-loop
+mul-endpoints c = search needs
+
+element-copy-out-endpoints : tie.Need-element-copy-out-endpoints Inv-loop μ-loop
+element-copy-out-endpoints c = search needs
 
 protecting-from-requires : tie.Need-protecting-from-requires Inv-loop μ-loop
 protecting-from-requires c κs = search needs
@@ -49,7 +52,7 @@ loop-again c =
     let a = at-loop .before .before .before .args in (
       omega arith,
       hop-tried (a .ranks .now) (a .n) (asked (a .protected)) (a .dist .now) (a .target .now) (a .kept) (a .from .now) (a .to .now) (a .out .now) (a .back .now) (a .t10 .arcs) (at-loop .loop .i)
-          (at-loop .loop .inv .1) (c .before .before .before .before .hop-of .ensures) (c .before .before .before .avoiding-from .ensures) (c .before .protecting-from .ensures) (c .over-hop .ensures),
+          (at-loop .loop .inv .1) (c .before .before .before .before .hop-of .ensures) (at-loop .before .before .before .pre .3 (at-loop .loop .i) (omega arith)) (c .before .protecting-from .ensures) (c .over-hop .ensures),
     )
 
 returns : tie.Need-returns Inv-loop μ-loop
@@ -68,7 +71,8 @@ search-spec =
     loop-holds
     element-copy-out-hop-of
     hop-of-requires
-    avoiding-from-requires
+    mul-endpoints
+    element-copy-out-endpoints
     protecting-from-requires
     over-hop-requires
     add-i
