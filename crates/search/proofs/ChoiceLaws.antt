@@ -1,8 +1,7 @@
--- Laws of the search: the pairs of one endpoint more and of one first hop more.
+-- Laws of the search: the pairs of one first hop more.
 -- Assumes nothing.
 use Prim.Native.Nat.{ℕ, _+_, _/_, _^_}
 use mathlib.Core.Path.{_≡_, refl, sym, ap, ap₂, _∙_}
-use mathlib.Core.Bool.{Bool, true, false}
 use mathlib.Core.Option.{Option, none}
 use mathlib.Core.List.{List, [], _∷_, _++_, map, map-append, append-nil}
 use lib.ListN.{getD}
@@ -12,10 +11,9 @@ use native.Mathlib.Omega.{arith}
 use types.Run.{OneOf}
 use denote.Enum.Declared.{tagOf}
 use borrow.Author.Tests.{eqb-false}
-use Rattle.lfa.specs.Lists.{countUp, below, keepIf, select, flat}
+use Rattle.lfa.specs.Lists.{countUp, below, flat}
 use Rattle.lfa.specs.Space.{Protected, FirstHop, has}
 use Rattle.lfa.specs.Repair.{Outcome, noneServes, serving}
-use Rattle.metric.specs.Laws.List.{below-more, select-append}
 use Rattle.order.specs.declared.Ordered.{Ordered}
 use Rattle.order.specs.declared.Earliest.{Earliest}
 use Rattle.order.specs.declared.Earliest.the-variants.{Nothing, Found}
@@ -25,7 +23,7 @@ use Rattle.steps.specs.declared.Onward.{Onward}
 use Rattle.arcs.specs.Arcs.{sideOf, hopBy}
 use Rattle.search.specs.Hops.{hopsIn}
 use Rattle.search.specs.Spaces.{avoidedFrom}
-use Rattle.search.specs.Choice.{outcomeFor, firstOf, orderedAt, mayEnd, hopPairs, protectingFrom, pairsOver, pairsTried}
+use Rattle.search.specs.Choice.{outcomeFor, firstOf, hopPairs, protectingFrom, pairsOver, pairsTried}
 use Rattle.metric.specs.Laws.Select.{flat-append}
 use Rattle.search.proofs.HopLaws.{hops-more}
 
@@ -54,30 +52,6 @@ bit-read set y = ap (λ (k : ℕ). eqb k 1) (and-mask (set / 2 ^ y) 1)
 -- no router of the empty set is a member of another one too
 pub none-common : (set other : ℕ) → other ≡ 0 → 0 ≡ bitAnd set other
 none-common set other e = omega (arith, and-le-r set other)
-
--- the endpoints of one first hop, one router more
-module _ (ranks : List ℕ) (n : ℕ) (area : List ℕ) (near far : ℕ) (column : List ℕ) (f : FirstHop) (protecting set y : ℕ) where
-  abbrev at : ℕ → Ordered
-  at = orderedAt ranks n area near column f protecting
-
-  abbrev upTo : ℕ → List Ordered
-  upTo = hopPairs ranks n area near far column f protecting set
-
-  one-more : (b : Bool) → mayEnd set near far y ≡ b → upTo (y + 1) ≡ upTo y ++ map at (keepIf b y [])
-  unfolding hopPairs select
-  one-more b t =
-      ap (λ (l : List ℕ). map at (select (mayEnd set near far) l)) (below-more y)
-      ∙ ap (map at) (select-append (mayEnd set near far) (below y) (y ∷ []))
-      ∙ map-append at (select (mayEnd set near far) (below y)) (keepIf (mayEnd set near far y) y [])
-      ∙ ap (λ (c : Bool). upTo y ++ map at (keepIf c y [])) t
-
-  pub end-more : {before next : Option Ordered} {o : Ordered} (found : Option Ordered) → mayEnd set near far y ≡ true → before ≡ firstOf found (upTo y) →
-      o ≡ at y → next ≡ earlierOf before o → next ≡ firstOf found (upTo (y + 1))
-  unfolding firstOf
-  end-more found t e q s = s ∙ ap₂ earlierOf e q ∙ sym (ap (firstOf found) (one-more true t) ∙ first-append found (upTo y) (at y ∷ []))
-
-  pub end-same : {before : Option Ordered} (found : Option Ordered) → mayEnd set near far y ≡ false → before ≡ firstOf found (upTo y) → before ≡ firstOf found (upTo (y + 1))
-  end-same found t e = e ∙ sym (ap (firstOf found) (one-more false t ∙ append-nil (upTo y)))
 
 -- the pairs of one first hop more of a column
 module _ (ranks : List ℕ) (n : ℕ) (q : Protected) (area column : List ℕ) (kept : Onward) (from to out back arcs : List ℕ) where

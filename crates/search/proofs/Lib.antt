@@ -1,3 +1,4 @@
 pub mod HopLaws
 pub mod SpaceLaws
 pub mod ChoiceLaws
+pub mod EndLaws

@@ -23,9 +23,11 @@ use steps::onward_by_steps;
 use steps::steps_over;
 ghost use mathlib.Core.Path.{_≡_};
 ghost use mathlib.Core.Option.{none};
-ghost use Prim.Native.Nat.{_≤_, _<_};
+ghost use mathlib.Core.List.{List};
+ghost use Prim.Native.Nat.{ℕ, _≤_, _<_};
 ghost use lib.Bits.{bitAnd};
 ghost use lib.ListN.{length};
+ghost use Rattle.lfa.specs.Space.{FirstHop};
 ghost use Rattle.metric.specs.Columns.{arcsIn};
 ghost use Rattle.order.specs.Order.{earliestIn};
 ghost use Rattle.avoid.specs.Avoiding.{asked};
@@ -34,7 +36,7 @@ ghost use Rattle.steps.specs.Crossing.{onwardBySteps};
 ghost use Rattle.arcs.specs.Arcs.{hopIn};
 ghost use Rattle.search.specs.Hops.{hopsIn};
 ghost use Rattle.search.specs.Spaces.{SetsOf};
-ghost use Rattle.search.specs.Choice.{outcomeIn, firstOf, orderedAt, mayEnd, hopPairs, pairsTried, firstServing};
+ghost use Rattle.search.specs.Choice.{outcomeIn, firstOf, FirstEnd, KeysOf, KeysFit, KeyOf, orderedAt, mayEnd, hopPairs, pairsTried, firstServing};
 ghost use Rattle.search.specs.Calls.{searchable, pairFor, linkIf, prefixIf};
 
 // The pair of a first hop and an endpoint, where the set `protecting` holds the endpoints that make it node-protecting. Its first key is
@@ -79,8 +81,77 @@ fn may_end(set: u64, near: usize, far: usize, y: usize) -> bool
     y != near && y != far
 }
 
-// The earliest of what was found and the pairs of one first hop with an endpoint in the set.
+// What a rank counts in the key of an endpoint: 2 to the power 32, more than any distance.
+const BY_RANK: u64 = 4294967296;
+
+// The part of an endpoint's key that its class gives, for each of the eight classes.
+fn rank_keys(ranks: &[u8]) -> [u64; 8]
+    ensures { λ r. ⌜ KeysOf (now (ranks .entry)) r ⌝ }
+{
+    let mut keys = [0u64; 8];
+    let mut class: usize = 0;
+    while class < 8 {
+        keys[class] = BY_RANK * (rank_of(ranks, class as u32) as u64);
+        class += 1;
+    }
+    keys
+}
+
+// The key of an endpoint among those of one first hop: the rank of the pair's class, then D(S,y), in one number.
+fn key_of(
+    keys: &[u64; 8],
+    dist: &[u32],
+    n: usize,
+    near: usize,
+    target: &[u32; 64],
+    first: usize,
+    protecting: u64,
+    y: usize,
+) -> u64
+    requires { ⌜ (near < 64) × (y < 64) × KeysFit (now keys) ⌝ }
+    ensures { λ r. ⌜ KeyOf (now (keys .entry)) n (now (dist .entry)) near (now (target .entry)) first protecting y r ⌝ }
+{
+    let protects = (protecting >> y) & 1 == 1;
+    let class = class_of(first, y, target[y], target[near], protects) as usize;
+    keys[class] + (cell(dist, n, near, y) as u64)
+}
+
+// The endpoint of the earliest pair of one first hop with an endpoint in the set, and 64 where there is none. The endpoints of such pairs
+// differ, so that cost and first hop never decide: the key does, and of equal keys the first endpoint stays.
+fn first_end(
+    keys: &[u64; 8],
+    dist: &[u32],
+    n: usize,
+    near: usize,
+    far: usize,
+    target: &[u32; 64],
+    first: usize,
+    protecting: u64,
+    endpoints: u64,
+) -> usize
+    requires { ⌜ (n ≤ 64) × (near < 64) × KeysFit (now keys) ⌝ }
+    ensures { λ r. ⌜ ((ranks : List ℕ) → (f : FirstHop) → f .router ≡ first → KeysOf ranks (now (keys .entry)) → FirstEnd (orderedAt ranks n (now (dist .entry)) near (now (target .entry)) f protecting)
+        (hopPairs ranks n (now (dist .entry)) near far (now (target .entry)) f protecting endpoints n) r) ⌝ }
+{
+    let mut best = 64;
+    let mut least: u64 = 18446744073709551615;
+    let mut y = 0;
+    while y < n {
+        if may_end(endpoints, near, far, y) {
+            let key = key_of(keys, dist, n, near, target, first, protecting, y);
+            if key < least {
+                least = key;
+                best = y;
+            }
+        }
+        y += 1;
+    }
+    best
+}
+
+// The earliest of what was found and the pairs of one first hop with an endpoint in the set. Only the earliest of these pairs is made.
 fn over_hop(
+    keys: &[u64; 8],
     ranks: &[u8],
     dist: &[u32],
     n: usize,
@@ -92,21 +163,27 @@ fn over_hop(
     endpoints: u64,
     before: Earliest,
 ) -> Earliest
-    requires { ⌜ (n ≤ 64) × (near < 64) ⌝ }
+    requires { ⌜ (n ≤ 64) × (near < 64) × KeysOf (now ranks) (now keys) ⌝ }
     ensures { λ r. ⌜ earliestIn r ≡ firstOf (earliestIn before) (hopPairs (now (ranks .entry)) n (now (dist .entry)) near far (now (target .entry)) (hopIn hop) protecting endpoints n) ⌝ }
 {
-    let mut best = before;
-    let mut y = 0;
-    while y < n {
-        if may_end(endpoints, near, far, y) {
-            best = earlier(
-                best,
-                pair_of(ranks, dist, n, near, target, hop, protecting, y),
-            );
-        }
-        y += 1;
+    let y = first_end(
+        keys,
+        dist,
+        n,
+        near,
+        far,
+        target,
+        hop.router,
+        protecting,
+        endpoints,
+    );
+    if 64 <= y {
+        return before;
     }
-    best
+    earlier(
+        before,
+        pair_of(ranks, dist, n, near, target, hop, protecting, y),
+    )
 }
 
 // The endpoints that make the pairs of a first hop node-protecting: those that it reaches without visiting E, and from which the second
@@ -141,6 +218,7 @@ fn search(
         (hopsIn (now (from .entry)) (now (to .entry)) (now (out .entry)) (now (back .entry)) (hops .count) (hops .arcs))) ⌝ }
 {
     let far = protected.far;
+    let keys = rank_keys(ranks);
     let mut best = Earliest::Nothing;
     let mut i = 0;
     while i < hops.count {
@@ -148,6 +226,7 @@ fn search(
         let endpoints = kept.avoiding & sets[i];
         let protecting = protecting_from(dist, n, far, kept.missing, hop.router);
         best = over_hop(
+            &keys,
             ranks,
             dist,
             n,

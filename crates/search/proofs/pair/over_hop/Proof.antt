@@ -1,72 +1,42 @@
--- `search::pair::over_hop` meets its contract. The loop's invariant: `best` is the first of what was found before and of the pairs with endpoints before y.
+-- `search::pair::over_hop` meets its contract. The pairs of the hop, tried after what was found, are as the first of them, tried alone.
 -- Assumes nothing.
-use Prim.Native.Nat.{ℕ, _-_, _≤_}
-use mathlib.Core.Path.{_≡_, sym, ap, _∙_}
-use mathlib.Core.Logic.{⊎-elim}
-use native.Mathlib.Omega.{arith}
-use borrow.Author.Needs.{needs}
-use Rattle.lfa.specs.Lists.{countUp, below, select}
-use Rattle.order.specs.Order.{earliestIn}
+use mathlib.Core.Path.{refl, sym, ap, _∙_}
+use Rattle.order.specs.Order.{earliestIn, earlierOf}
 use Rattle.arcs.specs.Arcs.{hopIn}
-use Rattle.search.specs.Choice.{firstOf, hopPairs, mayEnd}
-use Rattle.search.proofs.ChoiceLaws.{end-more, end-same}
+use Rattle.search.specs.Choice.{FirstEnd, orderedAt, hopPairs}
+use Rattle.search.specs.Laws.First.{first-nothing, first-one}
+use Rattle.search.proofs.EndLaws.{keys-fit}
+use borrow.Author.Needs.{needs}
 use Rattle.search.proofs.pair.over_hop.Statement.{statement}
 use Rattle.search.proofs.pair.over_hop.Tie as tie
 
-abbrev Inv-loop : tie.InvT-loop
-Inv-loop ranks dist n near far target hop protecting endpoints best₀ y₀ best y = (y ≤ n) × (earliestIn best ≡ firstOf (earliestIn best₀) (hopPairs ranks n dist near far target (hopIn hop) protecting endpoints y))
+first-end-requires : tie.Need-first-end-requires
+first-end-requires c κs =
+    let start = c .before .before in
+    let p = start .pre in
+    (p .0, p .1, keys-fit (start .args .ranks .now) (start .args .keys .now) (p .2))
 
-abbrev μ-loop : tie.MeasureT-loop
-μ-loop ranks dist n near far target hop protecting endpoints best₀ y₀ best y = n - y
+-- the endpoint that was found is that of the first of the pairs
+end-of : (c : tie.After-first-end) → let a = c .before .before .before .args in
+    FirstEnd (orderedAt (a .ranks .now) (a .n) (a .dist .now) (a .near) (a .target .now) (hopIn (a .hop)) (a .protecting))
+    (hopPairs (a .ranks .now) (a .n) (a .dist .now) (a .near) (a .far) (a .target .now) (hopIn (a .hop)) (a .protecting) (a .endpoints) (a .n)) (c .first-end .result)
+end-of c = let start = c .before .before .before in c .first-end .ensures (start .args .ranks .now) (hopIn (start .args .hop)) refl (start .pre .2)
 
-loop-holds : tie.Need-loop-holds Inv-loop μ-loop
-unfolding firstOf hopPairs below countUp select
-loop-holds c = search needs
+returns : tie.Need-returns
+returns c = sym (first-nothing (earliestIn (c .before .before .before .before .args .before)) _ (end-of (c .before) .none-ends (c .if1 .taken)))
 
-may-end-requires : tie.Need-may-end-requires Inv-loop μ-loop
-may-end-requires c κs = search needs
-
-pair-of-requires : tie.Need-pair-of-requires Inv-loop μ-loop
+pair-of-requires : tie.Need-pair-of-requires
 pair-of-requires c κs = search needs
 
-earlier-requires : tie.Need-earlier-requires Inv-loop μ-loop
+earlier-requires : tie.Need-earlier-requires
 earlier-requires c κs = search needs
 
-add-y : tie.Need-add-y Inv-loop μ-loop
-add-y c = search needs
-
-loop-less : tie.Need-loop-less Inv-loop μ-loop
-loop-less c = search needs
-
-loop-again : tie.Need-loop-again Inv-loop μ-loop
-loop-again c =
-    let at-loop = c .before .before .before in
-    let a = at-loop .before .before .before .args in
-    let i = at-loop .loop .y in
-    let o = earliestIn (a .before) in
-    let e : c .before .may-end .result ≡ mayEnd (a .endpoints) (a .near) (a .far) i = c .before .may-end .ensures in (
-      omega arith,
-      ⊎-elim (λ w. ap earliestIn (w .3) ∙ end-more (a .ranks .now) (a .n) (a .dist .now) (a .near) (a .far) (a .target .now) (hopIn (a .hop)) (a .protecting) (a .endpoints) i o (sym e ∙ w .0 .taken) (at-loop .loop .inv .1) (w .1 .ensures) (w .2 .ensures))
-          (λ w. ap earliestIn (w .1) ∙ end-same (a .ranks .now) (a .n) (a .dist .now) (a .near) (a .far) (a .target .now) (hopIn (a .hop)) (a .protecting) (a .endpoints) i o (sym e ∙ w .0 .left) (at-loop .loop .inv .1)) (c .if1 .came),
-    )
-
-returns : tie.Need-returns Inv-loop μ-loop
-returns c =
-    let a = c .before .before .before .before .args in
-    let e : c .before .loop .y ≡ a .n = omega arith in
-    c .before .loop .inv .1 ∙ ap (λ (k : ℕ). firstOf (earliestIn (a .before)) (hopPairs (a .ranks .now) (a .n) (a .dist .now) (a .near) (a .far) (a .target .now) (hopIn (a .hop)) (a .protecting) (a .endpoints) k)) e
+returns-2 : tie.Need-returns-2
+returns-2 c =
+    let end = c .before .before .before in
+    let found = earliestIn (end .before .before .before .args .before) in
+    c .earlier .ensures ∙ ap (earlierOf found) (c .before .pair-of .ensures) ∙ sym (first-one found _ _ (end-of end .ends (c .before .before .if1 .left)))
 
 pub over-hop-spec : {M : Type 1} → statement M
 over-hop-spec =
-    tie.close
-    (tie.spec
-    Inv-loop
-    μ-loop
-    loop-holds
-    may-end-requires
-    pair-of-requires
-    earlier-requires
-    add-y
-    loop-less
-    loop-again
-    returns)
+    tie.close (tie.spec first-end-requires returns pair-of-requires earlier-requires returns-2)
