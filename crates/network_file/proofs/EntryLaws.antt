@@ -1,10 +1,10 @@
 -- Rows 6 to 9 in order: which row decides at each return, and the network by value.
 -- Assumes nothing.
 use Prim.Native.Nat.{ℕ, _≤_, _<_}
-use mathlib.Core.Path.{_≡_, refl, _∙_}
+use mathlib.Core.Path.{_≡_, refl, ap, _∙_}
 use mathlib.Core.Bool.{Bool}
 use mathlib.Core.Option.{none, some}
-use mathlib.Core.List.{[], _∷_}
+use mathlib.Core.List.{List, [], _∷_}
 use native.Mathlib.Omega.{arith}
 use lib.ListN.{length}
 use Rattle.lfa.specs.Lists.{firstFailing}
@@ -19,8 +19,9 @@ use Rattle.block.specs.First.{firstOr}
 use Rattle.block.specs.Judged.{Sized}
 use Rattle.block.specs.Laws.First.{answer-found, answer-none}
 use Rattle.block.specs.Laws.Rows.{first-here, first-next}
-use Rattle.network_file.specs.Struct.{fromOf, toOf, outOf, backOf, linkColumn, linksIn, prefixesIn, attachedColumn, slotColumn, routerOf, costOf, structOf}
-use Rattle.network_file.specs.Entry.{linkRows, prefixRows, Counted, PrefixesSound, EndsBelow}
+use Rattle.network_file.specs.declared.network.Links.{Links}
+use Rattle.network_file.specs.Struct.{fromOf, toOf, outOf, backOf, linkColumn, linksIn, prefixesIn, attachedColumn, slotColumn, routerOf, costOf, structOf, linksStructOf}
+use Rattle.network_file.specs.Entry.{linkRows, prefixRows, Counted, PrefixesSound, EndsIn, EndsBelow}
 
 -- ---- the numbers of the head
 
@@ -55,11 +56,11 @@ module _ (b : Bytes) (links : ℕ) (right : links ≡ linksOf b) (r6 : ℕ) (e6 
 
   module _ (h6 : links ≤ r6) where
     -- row 6 passes, so both routers of each link are below N
-    pub ends-below : Sized b → EndsBelow b links
+    pub ends-below : Sized b → (from to : List ℕ) → EndsIn b links from to → EndsBelow from to links
     unfolding linkGood linkOf linkIn fromOf toOf
-    ends-below s k h =
+    ends-below s from to are k h =
         let f = link-facts _ _ _ _ _ (none-failing (linkGood b) 0 links (passes (linkGood b) links links r6 refl e6 h6) k (omega arith) (omega arith)) in
-        (omega (arith, f .a-in, s .few-routers), omega (arith, f .b-in, s .few-routers))
+        (omega (arith, are .from-is k h, f .a-in, s .few-routers), omega (arith, are .to-is k h, f .b-in, s .few-routers))
 
     after-6 : firstRow (fileReturned b) (parallelLink ∷ []) ≡ firstRow (fileReturned b) linkRows
     unfolding fileReturned linkRows
@@ -106,8 +107,8 @@ prefixes-sound b e p h =
     let none-applies = none-decides (fileReturned b) prefixRows e badPrefix (getD-in prefixRows 0 badPrefix (omega arith)) in
     none-failing (prefixGood b) 0 (prefixesOf b) none-applies p (omega arith) (omega arith)
 
--- The struct that the code puts together of the columns is that of the file's network.
-pub struct-made : (b : Bytes) (routers links prefixes : ℕ) → routers ≡ routersOf b → Counted b links prefixes →
+-- The structs that the code puts together: the counts and links of the file's network ..
+pub links-made : (b : Bytes) (routers links prefixes : ℕ) → routers ≡ routersOf b → links ≡ linksOf b → prefixes ≡ prefixesOf b →
     record {
       routers = routers;
       links = links;
@@ -116,11 +117,36 @@ pub struct-made : (b : Bytes) (routers links prefixes : ℕ) → routers ≡ rou
       to = linkColumn toOf (linksIn b links);
       out = linkColumn outOf (linksIn b links);
       back = linkColumn backOf (linksIn b links);
-      attached = attachedColumn (prefixesIn b prefixes);
-      at = slotColumn routerOf (prefixesIn b prefixes);
-      own = slotColumn costOf (prefixesIn b prefixes);
-    } ≡ structOf (networkOf b)
-unfolding structOf networkOf linksIn prefixesIn
-struct-made b routers links prefixes n counted =
-    rw (n, counted .links-right, counted .prefixes-right)
-    (rw (length-map-below (linkOf b) (linksOf b), length-map-below (prefixOf b) (prefixesOf b)))
+    } ≡ linksStructOf (networkOf b)
+unfolding linksStructOf networkOf linksIn
+links-made b routers links prefixes n l p = rw (n, l, p) (rw (length-map-below (linkOf b) (linksOf b), length-map-below (prefixOf b) (prefixesOf b)))
+
+-- .. and with the columns of its prefixes the whole of it
+module _ (b : Bytes) (held : Links) (is : held ≡ linksStructOf (networkOf b)) where
+  held-prefixes : held .prefixes ≡ prefixesOf b
+  unfolding linksStructOf networkOf
+  held-prefixes = ap (λ (h : Links). h .prefixes) is ∙ length-map-below (prefixOf b) (prefixesOf b)
+
+  pub held-counted : Sized b → Counted b (held .links) (held .prefixes)
+  unfolding linksStructOf networkOf
+  held-counted s = record {
+    sized = s;
+    links-right = ap (λ (h : Links). h .links) is ∙ length-map-below (linkOf b) (linksOf b);
+    prefixes-right = held-prefixes;
+  }
+
+  pub struct-made :
+      record {
+        routers = held .routers;
+        links = held .links;
+        prefixes = held .prefixes;
+        from = held .from;
+        to = held .to;
+        out = held .out;
+        back = held .back;
+        attached = attachedColumn (prefixesIn b (held .prefixes));
+        at = slotColumn routerOf (prefixesIn b (held .prefixes));
+        own = slotColumn costOf (prefixesIn b (held .prefixes));
+      } ≡ structOf (networkOf b)
+  unfolding structOf linksStructOf networkOf prefixesIn
+  struct-made = rw (held-prefixes, is, length-map-below (prefixOf b) (prefixesOf b))

@@ -1,7 +1,9 @@
 pub mod ColumnLaws
 pub mod TableLaws
 pub mod LinkLaws
+pub mod LinkRowLaws
 pub mod EveryLaws
+pub mod OrLaws
 pub mod SlotLaws
 pub mod PlaceLaws
 pub mod PrefixLaws

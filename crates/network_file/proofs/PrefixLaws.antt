@@ -1,20 +1,21 @@
 -- Rows 8 and 9 at one prefix: what the code finds in its entry is what the row says.
 -- Assumes nothing.
-use Prim.Native.Nat.{ℕ, zero, suc, _+_, _*_, _≤_, _<_}
+use Prim.Native.Nat.{ℕ, zero, suc, _+_, _-_, _*_, _≤_, _<_}
 use mathlib.Core.Path.{_≡_, sym, _∙_}
 use mathlib.Core.Bool.{Bool, true, false, not, _&&_}
 use mathlib.Core.List.{List}
 use native.Mathlib.Omega.{arith}
 use native.Mathlib.Numerals.{add-one}
-use lib.Dec.{eqb}
+use lib.Dec.{eqb, ltb}
 use lib.ListN.{length, getD, set, drop, replicate, length-set, length-replicate, getD-replicate}
-use borrow.Author.Tests.{eq-eqb, ne-eqb, le-leb, lt-leb, not-true, not-false}
+use borrow.Author.Tests.{eq-eqb, ne-eqb, lt-ltb, le-ltb, le-leb, lt-leb, not-true, not-false}
 use Rattle.lfa.specs.Lists.{everyBelow}
-use Rattle.lfa.specs.File.{Bytes, byteAt, allZero, routersOf, prefixEntry, attachments, slotRouter, slotGood, soundPrefix, prefixGood, slotNew, routersNew}
+use Rattle.lfa.specs.File.{Bytes, byteAt, wordAt, allZero, routersOf, prefixEntry, attachments, slotRouter, slotGood, soundPrefix, prefixGood, slotNew, routersNew}
 use Rattle.lfa.specs.Laws.List.{every-gives}
 use Rattle.lfa.specs.Laws.File.RowFacts.{prefix-facts, slot-facts}
 use Rattle.block.specs.Judged.{Sized}
-use Rattle.network_file.specs.Entry.{Slots}
+use Rattle.network_file.specs.Entry.{unusedZero, Slots}
+use Rattle.network_file.proofs.SlotLaws.{eight-tested}
 use Rattle.network_file.proofs.TableLaws.{mark}
 
 -- ---- row 8
@@ -36,9 +37,21 @@ module _ (n : ℕ) (e : Bytes) (count : ℕ) (says : count ≡ getD e 0 0) where
       unfolding soundPrefix attachments byteAt
       second-wrong f = rw (← says, le-leb 1 count some, le-leb count 8 few, ne-eqb (getD e 1 0) 0 f)
 
-      pub slots-tested : {r : Bool} → getD e 1 0 ≡ 0 → r ≡ (everyBelow (slotGood n e) count && allZero (drop (2 + 4 * count) e)) → r ≡ soundPrefix n e
+      slots-tested : {r : Bool} → getD e 1 0 ≡ 0 → r ≡ (everyBelow (slotGood n e) count && allZero (drop (2 + 4 * count) e)) → r ≡ soundPrefix n e
       unfolding soundPrefix attachments byteAt
       slots-tested second q = q ∙ rw (← says, le-leb 1 count some, le-leb count 8 few, eq-eqb (getD e 1 0) 0 second)
+
+      -- The returns after the loops over the slots: one of the routers is too large, or the slots that are not used decide.
+      module _ (second : getD e 1 0 ≡ 0) (long : length e ≡ 34) (some-routers : 1 ≤ n) (few-routers : n ≤ 64) (all : ℕ)
+          (over : ltb all 65536 ≡ everyBelow (λ s. ltb (wordAt e (2 + 4 * s) + (65536 - n)) 65536) 8) where
+        tested : {r : Bool} → r ≡ (ltb all 65536 && everyBelow (unusedZero e count) 8) → r ≡ soundPrefix n e
+        tested q = slots-tested second (q ∙ rw over (eight-tested n e count long few some-routers few-routers))
+
+        pub router-wrong : 65536 ≤ all → false ≡ soundPrefix n e
+        router-wrong h = tested (rw (le-ltb all 65536 h))
+
+        pub unused-decide : {r : Bool} → all < 65536 → r ≡ everyBelow (unusedZero e count) 8 → r ≡ soundPrefix n e
+        unused-decide h q = tested (q ∙ rw (lt-ltb all 65536 h))
 
 -- the test of prefix p, done on its entry
 pub prefix-tested : (b e : Bytes) (routers p : ℕ) {r : Bool} → routers ≡ routersOf b → e ≡ prefixEntry b p → r ≡ soundPrefix routers e → prefixGood b p ≡ r

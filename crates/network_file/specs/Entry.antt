@@ -2,11 +2,12 @@
 -- Assumes nothing.
 use Prim.Native.Nat.{ℕ, _+_, _-_, _*_, _/_, _%_, _≤_, _<_, min}
 use mathlib.Core.Path.{_≡_}
-use mathlib.Core.Bool.{Bool, true, false}
-use mathlib.Core.List.{List, [], _∷_, _++_}
-use lib.Dec.{eqb, ltb}
+use mathlib.Core.Bool.{Bool, true, false, not, _&&_, _||_}
+use mathlib.Core.List.{List, [], _∷_, _++_, map}
+use lib.Dec.{eqb, ltb, leb}
 use lib.ListN.{length, getD}
-use Rattle.lfa.specs.File.{Bytes, linksOf, prefixesOf, linkBlocks, linkOf, prefixGood}
+use Rattle.lfa.specs.Lists.{below}
+use Rattle.lfa.specs.File.{Bytes, wordAt, linksOf, prefixesOf, linkBlocks, linkOf, prefixGood}
 use Rattle.lfa.specs.Refusal.{FileRow, badLink, parallelLink, badPrefix, routerTwice}
 use Rattle.block.specs.Judged.{Sized}
 use Rattle.network_file.specs.Struct.{fromOf, toOf}
@@ -33,11 +34,27 @@ pub record Counted (b : Bytes) (links prefixes : ℕ) : Type 0 where
 abbrev pub PrefixesSound : Bytes → ℕ → Type 0
 PrefixesSound b n = (p : ℕ) → p < n → prefixGood b p ≡ true
 
--- both routers of each of the first n links are below 64
-abbrev pub EndsBelow : Bytes → ℕ → Type 0
-EndsBelow b n = (k : ℕ) → k < n → (fromOf (linkOf b k) < 64) × (toOf (linkOf b k) < 64)
+-- ---- rows 6 and 7 over the links
 
--- ---- row 7 over the links
+-- where the entry of link k stands
+unfoldable pub linkPlace : ℕ → ℕ
+linkPlace k = 512 * (1 + k / 84) + 4 + 6 * (k % 84)
+
+-- two columns hold the routers of the first n links ..
+pub record EndsIn (b : Bytes) (n : ℕ) (from to : List ℕ) : Type 0 where
+  pub from-is : (k : ℕ) → k < n → getD from k 0 ≡ fromOf (linkOf b k)
+  pub to-is : (k : ℕ) → k < n → getD to k 0 ≡ toOf (linkOf b k)
+
+-- .. and routers that are all below 64
+abbrev pub EndsBelow : (from to : List ℕ) → ℕ → Type 0
+EndsBelow from to n = (k : ℕ) → k < n → (getD from k 0 < 64) × (getD to k 0 < 64)
+
+-- row 6 at link k of the columns: its routers, and its costs
+unfoldable pub endsGood : ℕ → (from to : List ℕ) → ℕ → Bool
+endsGood n from to k = ltb (getD from k 0) n && ltb (getD to k 0) n && not (eqb (getD from k 0) (getD to k 0))
+
+unfoldable pub costsGood : (out back : List ℕ) → ℕ → Bool
+costsGood out back k = leb 1 (getD out k 0) && leb 1 (getD back k 0)
 
 -- the cell of two routers in a table of 64 rows and columns: the lower router's row, the other's column
 unfoldable pub pairCell : ℕ → ℕ → ℕ
@@ -49,9 +66,16 @@ pairCell a b = 64 * min a b + (a + b - min a b)
 unfoldable pub placeOf : Bytes → ℕ → ℕ
 placeOf b p = 512 * (1 + linkBlocks (linksOf b) + p / 14) + 4 + 34 * (p % 14)
 
--- row 8 at a slot, its four bytes as one number: in a used slot the two low bytes are below n, another slot is zero
-unfoldable pub slotSound : ℕ → Bool → ℕ → Bool
-slotSound n used word = elim used [ true ↦ ltb (word % 65536) n | false ↦ eqb word 0 ]
+-- row 8 at slot s, of which it says that it is zero unless it is one of the used slots
+unfoldable pub unusedZero : Bytes → ℕ → ℕ → Bool
+unusedZero e count s = ltb s count || eqb (wordAt e (2 + 4 * s) + 65536 * wordAt e (4 + 4 * s)) 0
+
+-- the mask of slot s where `count` slots are used, at cell 8 × count + s: no bit of a used slot, all 32 bits of one that is not
+unfoldable pub unusedMask : ℕ → ℕ → ℕ
+unusedMask count s = elim (ltb s count) [ true ↦ 0 | false ↦ 4294967295 ]
+
+unfoldable pub unusedMasks : List ℕ
+unusedMasks = map (λ k. unusedMask (k / 8) (k % 8)) (below 72)
 
 -- an entry that row 8 passes, as row 9 reads it: at most eight slots are used, and their routers are below 64
 pub record Slots (e : Bytes) : Type 0 where

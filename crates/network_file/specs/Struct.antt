@@ -81,7 +81,7 @@ structOf net =
       own = slotColumn costOf (net .prefixes);
     }
 
--- all of it but the attachments of prefixes
+-- its counts and its links, in the same columns
 unfoldable pub linksStructOf : lfa.Network → Links
 linksStructOf net =
     record {
@@ -94,6 +94,7 @@ linksStructOf net =
       back = linkColumn backOf (net .links);
     }
 
+-- the same of a network by value
 abbrev pub linkPart : Network → Links
 linkPart network =
     record {

@@ -1,14 +1,15 @@
 // Prefixes: rows 8 and 9, and their entries read into columns.
+use super::mask::UNUSED;
 use metric::read::wide;
 ghost use mathlib.Core.Path.{_≡_};
-ghost use mathlib.Core.Bool.{_&&_};
 ghost use Prim.Native.Nat.{ℕ, _+_, _*_, _/_, _%_, _≤_, _<_};
-ghost use lib.ListN.{length, drop};
+ghost use lib.Dec.{eqb, ltb};
+ghost use lib.ListN.{length};
 ghost use Rattle.lfa.specs.Lists.{firstFailing, everyBelow};
-ghost use Rattle.lfa.specs.File.{Bytes, routersOf, linksOf, wordAt, allZero, prefixEntry, attachments, slot, slotGood, soundPrefix, prefixGood, slotNew, routersNew};
+ghost use Rattle.lfa.specs.File.{Bytes, routersOf, linksOf, wordAt, prefixEntry, attachments, slot, soundPrefix, prefixGood, slotNew, routersNew};
 ghost use Rattle.block.specs.First.{firstOr};
 ghost use Rattle.network_file.specs.Struct.{routerOf, costOf, stored, prefixColumns, prefixesIn};
-ghost use Rattle.network_file.specs.Entry.{Counted, placeOf, PrefixesSound, slotSound, Slots};
+ghost use Rattle.network_file.specs.Entry.{Counted, placeOf, PrefixesSound, unusedZero, unusedMasks, Slots};
 
 // One column for the numbers of attachments, a cell for each prefix, and one for each number of a slot, eight cells to a prefix.
 pub(crate) struct PrefixColumns {
@@ -64,37 +65,41 @@ fn slot_word(entry: &[u8], s: usize) -> u32
     word32_of(entry[k], entry[k + 1], entry[k + 2], entry[k + 3])
 }
 
-// Row 8 at one slot. The router of a used slot is below N and its second byte zero, that is, both as one number are below N; a slot
-// that is not used is zero.
-fn sound_slot(routers: usize, used: bool, word: u32) -> bool
-    ensures { λ r. ⌜ r ≡ slotSound routers used word ⌝ }
+// The or over the eight slots of the router, with its zero byte as one number, lifted by so much that the sum reaches 65,536 where
+// the number is too large. An or is below 65,536 exactly where each of its numbers is. The loop has no branch, so that the compiler
+// tests several slots at once.
+fn routers_over(lift: u32, entry: &[u8]) -> u32
+    requires { ⌜ (length (now entry) ≡ 34) × (lift ≤ 65536) ⌝ }
+    ensures { λ r. ⌜ ltb r 65536 ≡ everyBelow (λ s. ltb (wordAt (now (entry .entry)) (2 + 4 * s) + lift) 65536) 8 ⌝ }
 {
-    if used {
-        return ((word % 65536) as usize) < routers;
-    }
-    word == 0
-}
-
-// Row 8 at the eight slots, of which `count` are used. All eight are looked at, also after one that is wrong: a loop that always
-// makes eight turns is faster than one whose end the processor must guess.
-fn sound_slots(routers: usize, entry: &[u8], count: usize) -> bool
-    requires { ⌜ (length (now entry) ≡ 34) × (count ≤ 8) × (routers ≤ 64) ⌝ }
-    ensures { λ r. ⌜ r ≡ (everyBelow (slotGood routers (now (entry .entry))) count && allZero (drop (2 + 4 * count) (now (entry .entry)))) ⌝ }
-{
-    let mut sound = true;
+    let mut all: u32 = 0;
     let mut s: usize = 0;
     while s < 8 {
-        if !sound_slot(routers, s < count, slot_word(entry, s)) {
-            sound = false;
-        }
+        all = all | (slot_word(entry, s) % 65536 + lift);
         s += 1;
     }
-    sound
+    all
 }
 
-// Row 8 at one prefix. The count is tested before a slot is looked at.
-fn sound_prefix(routers: usize, entry: &[u8]) -> bool
-    requires { ⌜ (length (now entry) ≡ 34) × (routers ≤ 64) ⌝ }
+// The or of the slots that are not used, 0 where each of them is zero. The masks stand in a table of the caller: a constant table is
+// put on the stack anew wherever it is read.
+fn unused_slots(count: usize, entry: &[u8], masks: &[u32; 72]) -> u32
+    requires { ⌜ (length (now entry) ≡ 34) × (count ≤ 8) × (now masks ≡ unusedMasks) ⌝ }
+    ensures { λ r. ⌜ eqb r 0 ≡ everyBelow (unusedZero (now (entry .entry)) count) 8 ⌝ }
+{
+    let mut all: u32 = 0;
+    let mut s: usize = 0;
+    while s < 8 {
+        all = all | (slot_word(entry, s) & masks[8 * count + s]);
+        s += 1;
+    }
+    all
+}
+
+// Row 8 at one prefix. The count is tested before a slot is looked at. All eight routers are tested alike: a slot that is not used
+// is zero, and 0 is a router.
+fn sound_prefix(routers: usize, entry: &[u8], masks: &[u32; 72]) -> bool
+    requires { ⌜ (length (now entry) ≡ 34) × (1 ≤ routers) × (routers ≤ 64) × (now masks ≡ unusedMasks) ⌝ }
     ensures { λ r. ⌜ r ≡ soundPrefix routers (now (entry .entry)) ⌝ }
 {
     let count = wide(entry[0]);
@@ -107,7 +112,10 @@ fn sound_prefix(routers: usize, entry: &[u8]) -> bool
     if entry[1] != 0 {
         return false;
     }
-    sound_slots(routers, entry, count)
+    if 65536 <= routers_over(65536 - (routers as u32), entry) {
+        return false;
+    }
+    unused_slots(count, entry, masks) == 0
 }
 
 // Row 8: the first prefix that it turns down, or the number of prefixes.
@@ -115,10 +123,11 @@ pub(crate) fn first_bad_prefix(file: &[u8], routers: usize, links: usize, prefix
     requires { ⌜ Counted (now file) links prefixes × (routers ≡ routersOf (now file)) ⌝ }
     ensures { λ r. ⌜ r ≡ firstOr prefixes (firstFailing (prefixGood (now (file .entry))) 0 prefixes) ⌝ }
 {
+    let masks = UNUSED;
     let mut place = first_place(links);
     let mut p: usize = 0;
     while p < prefixes {
-        if !sound_prefix(routers, entry_at(file, place)) {
+        if !sound_prefix(routers, entry_at(file, place), &masks) {
             return p;
         }
         place = next_place(place);

@@ -1,7 +1,7 @@
 -- `sound_prefix` is the test of row 8.
 -- Assumes nothing.
 use borrow.Author.Needs.{needs}
-use Rattle.network_file.proofs.PrefixLaws.{count-none, count-many, second-wrong, slots-tested}
+use Rattle.network_file.proofs.PrefixLaws.{count-none, count-many, second-wrong, router-wrong, unused-decide}
 use Rattle.network_file.proofs.prefix.sound_prefix.Statement.{statement}
 use Rattle.network_file.proofs.prefix.sound_prefix.Tie as tie
 
@@ -23,15 +23,36 @@ shared-slice-read-if3 c = search needs
 returns-3 : tie.Need-returns-3
 returns-3 c = second-wrong _ _ _ (c .before .before .before .before .wide .ensures) (c .before .before .before .if1 .left) (c .before .before .if2 .left) (c .if3 .taken)
 
-sound-slots-requires : tie.Need-sound-slots-requires
-sound-slots-requires c κs = search needs
+cast-routers-over : tie.Need-cast-routers-over
+cast-routers-over c = search needs
+
+sub-routers-over : tie.Need-sub-routers-over
+sub-routers-over c = search needs
+
+routers-over-requires : tie.Need-routers-over-requires
+routers-over-requires c κs = search needs
 
 returns-4 : tie.Need-returns-4
 returns-4 c =
-    let second = c .before in
+    let second = c .before .before in
     let few = second .before .before in
     let some = few .before in
-    slots-tested _ _ _ (some .before .wide .ensures) (some .if1 .left) (few .if2 .left) (second .if3 .left) (c .sound-slots .ensures)
+    let pre = some .before .before .before .before .pre in
+    router-wrong _ _ _ (some .before .wide .ensures) (some .if1 .left) (few .if2 .left) (second .if3 .left) (pre .0) (pre .1) (pre .2)
+    _ (c .before .routers-over .ensures) (c .if4 .taken)
+
+unused-slots-requires : tie.Need-unused-slots-requires
+unused-slots-requires c κs = search needs
+
+returns-5 : tie.Need-returns-5
+returns-5 c =
+    let over = c .before .before in
+    let second = over .before in
+    let few = second .before .before in
+    let some = few .before in
+    let pre = some .before .before .before .before .pre in
+    unused-decide _ _ _ (some .before .wide .ensures) (some .if1 .left) (few .if2 .left) (second .if3 .left) (pre .0) (pre .1) (pre .2)
+    _ (over .routers-over .ensures) (c .before .if4 .left) (c .unused-slots .ensures)
 
 pub sound-prefix-spec : {M : Type 1} → statement M
 sound-prefix-spec =
@@ -43,5 +64,9 @@ sound-prefix-spec =
     returns-2
     shared-slice-read-if3
     returns-3
-    sound-slots-requires
-    returns-4)
+    cast-routers-over
+    sub-routers-over
+    routers-over-requires
+    returns-4
+    unused-slots-requires
+    returns-5)
