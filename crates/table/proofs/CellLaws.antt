@@ -14,8 +14,7 @@ use lib.Signed.{ltZ}
 use lib.ListN.{getD, set, length-set}
 use lib.Seq.{getD-set-same, getD-set-other}
 use mir.Syntax.{Width}
-use mir.Val.{toZ}
-use mir.Val.{hbits}
+use mir.Val.{toZ, hbits}
 use mir.ValLaws.{toZ-pos}
 use borrow.Author.Tests.{ltb-true, ltb-false, eqb-true, eq-eqb}
 use Rattle.lfa.specs.Distance.{unreachable}

@@ -1,8 +1,7 @@
 // The test of the table in sums of 16 bits, for a table whose finite cells are at most 8,190.
 //
 // The cells are copied to rows of 64 columns; the cells that are not used hold what stands for unreachable. Each arc then lowers one whole
-// row of the sums, and all 4,096 cells are compared: no number of turns depends on the network, and the loops over cells go over eight
-// cells at once.
+// row of the sums, and all 4,096 cells are compared: these loops have as many turns for every network, and go over eight cells at once.
 use metric::read::wide;
 ghost use mathlib.Core.Path.{_≡_};
 ghost use mathlib.Core.List.{List};
