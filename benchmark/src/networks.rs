@@ -26,25 +26,31 @@ pub fn one_block() -> Vec<u8> {
     file_of(1, &[], &[])
 }
 
-/// 64 routers in a ring, and a chord from each to the next but one: 128 links.
-///
-/// A step up costs 1, a chord up 3, a step down 62, and so the least path goes
-/// up, step by step, for as many as 62 steps. Links are numbered from the top
-/// down. So a method that relaxes the links in file order gets only one more
-/// router right in each pass, and every chord first puts a distance that is
-/// too large where a step later puts the right one. The step down is the least
-/// path between two neighbours, so that most links have a repair. A chord down
-/// costs as much as it may without being under maintenance, so that it is a
-/// first hop to be tried.
+/// The ring with chords of 64 routers: 128 links.
 pub fn ring_with_chords() -> Vec<u8> {
+    ring_with_chords_of(64)
+}
+
+/// So many routers in a ring, at least 5, and a chord from each to the next but
+/// one: twice as many links.
+///
+/// A step up costs 1, a chord up 3, a step down two less than there are routers,
+/// 62 of 64, and so the least path goes up, step by step, for as many as 62
+/// steps. Links are numbered from the top down. So a method that relaxes the
+/// links in file order gets only one more router right in each pass, and every
+/// chord first puts a distance that is too large where a step later puts the
+/// right one. The step down is the least path between two neighbours, so that
+/// most links have a repair. A chord down costs as much as it may without being
+/// under maintenance, so that it is a first hop to be tried.
+pub fn ring_with_chords_of(routers: u8) -> Vec<u8> {
     let mut links: Vec<Link> = Vec::new();
-    for router in (0..64).rev() {
-        links.push((router, (router + 2) % 64, 3, 65_534));
+    for router in (0..routers).rev() {
+        links.push((router, (router + 2) % routers, 3, 65_534));
     }
-    for router in (0..64).rev() {
-        links.push((router, (router + 1) % 64, 1, 62));
+    for router in (0..routers).rev() {
+        links.push((router, (router + 1) % routers, 1, u16::from(routers) - 2));
     }
-    file_of(64, &links, &prefixes(&mut Random(1)))
+    file_of(routers, &links, &prefixes(routers, &mut Random(1)))
 }
 
 /// Eight rows of eight routers, 112 links, all of cost 1.
@@ -52,39 +58,46 @@ pub fn grid() -> Vec<u8> {
     let right = (0..64u8).filter(|router| router % 8 < 7).map(|router| (router, router + 1, 1, 1));
     let down = (0..56u8).map(|router| (router, router + 8, 1, 1));
     let links: Vec<Link> = right.chain(down).collect();
-    file_of(64, &links, &prefixes(&mut Random(2)))
+    file_of(64, &links, &prefixes(64, &mut Random(2)))
 }
 
-/// 64 routers and 128 links, costs from 1 to 1000 that differ by direction.
-/// Each router but the first is joined to an earlier one, so that all are
-/// reached.
+/// The random network of 64 routers: 128 links.
 pub fn random() -> Vec<u8> {
+    random_of(64)
+}
+
+/// So many routers, at least 8, and twice as many links, costs from 1 to 1000
+/// that differ by direction. Each router but the first is joined to an earlier
+/// one, so that all are reached.
+pub fn random_of(routers: u8) -> Vec<u8> {
     let source = &mut Random(3);
+    let count = u64::from(routers);
     let mut links: Vec<Link> = Vec::new();
-    for router in 1..64 {
-        let earlier = source.below(router) as u8;
-        links.push((earlier, router as u8, source.cost(), source.cost()));
+    for router in 1..routers {
+        let earlier = source.below(u64::from(router)) as u8;
+        links.push((earlier, router, source.cost(), source.cost()));
     }
-    while links.len() < 128 {
-        let (a, b) = (source.below(64) as u8, source.below(64) as u8);
+    while links.len() < 2 * usize::from(routers) {
+        let (a, b) = (source.below(count) as u8, source.below(count) as u8);
         let joined =
             links.iter().any(|link| (link.0, link.1) == (a, b) || (link.1, link.0) == (a, b));
         if a != b && !joined {
             links.push((a, b, source.cost(), source.cost()));
         }
     }
-    file_of(64, &links, &prefixes(source))
+    file_of(routers, &links, &prefixes(routers, source))
 }
 
-/// 128 prefixes with 1 to 8 attachments among 64 routers.
-fn prefixes(source: &mut Random) -> Vec<Prefix> {
-    (0..128).map(|place| prefix(1 + place % 8, source)).collect()
+/// Two prefixes for each router, with 1 to 8 attachments among the routers.
+fn prefixes(routers: u8, source: &mut Random) -> Vec<Prefix> {
+    let count = 2 * usize::from(routers);
+    (0..count).map(|place| prefix(1 + place % 8, routers, source)).collect()
 }
 
-fn prefix(attachments: usize, source: &mut Random) -> Prefix {
+fn prefix(attachments: usize, routers: u8, source: &mut Random) -> Prefix {
     let mut prefix = Prefix::new();
     while prefix.len() < attachments {
-        let router = source.below(64) as u8;
+        let router = source.below(u64::from(routers)) as u8;
         if prefix.iter().all(|(other, _)| *other != router) {
             prefix.push((router, source.below(4) as u16));
         }
