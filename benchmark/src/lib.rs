@@ -13,6 +13,8 @@ pub mod planner;
 pub mod plot;
 pub mod questions;
 pub mod side;
+pub mod stack;
+pub mod stack_calls;
 pub mod tables;
 pub mod timing;
 pub mod written;
