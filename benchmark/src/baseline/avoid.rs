@@ -8,7 +8,10 @@
 //! which is below no sum, whether that wraps round or not.
 
 use super::graph::Graph;
-use crate::answer::{Network, NO_PATH};
+use super::links::Links;
+use super::prefixes::Prefixes;
+use super::table::Table;
+use crate::answer::NO_PATH;
 
 /// The protected link, seen from the end that the question names.
 pub struct Protected {
@@ -19,13 +22,10 @@ pub struct Protected {
 }
 
 impl Protected {
-    pub fn of(network: &Network, link: usize, end: usize) -> Protected {
-        let (a, b) = (usize::from(network.from[link]), usize::from(network.to[link]));
-        let (out, back) = (u32::from(network.out[link]), u32::from(network.back[link]));
-        match end {
-            0 => Protected { near: a, far: b, out, back },
-            _ => Protected { near: b, far: a, out: back, back: out },
-        }
+    pub fn of(links: &Links, link: usize, end: usize) -> Protected {
+        let both = links.both(link);
+        let (out, back) = (both[end], both[1 - end]);
+        Protected { near: out.from, far: out.to, out: out.cost, back: back.cost }
     }
 }
 
@@ -38,102 +38,88 @@ pub struct Target {
 
 impl Target {
     /// A router.
-    pub fn router(graph: &Graph, work: &[u32], router: usize) -> Target {
+    pub fn router(table: Table, router: usize) -> Target {
         let mut to = [NO_PATH; 64];
-        for (cell, row) in to.iter_mut().zip(rows(graph, work)) {
+        for (cell, row) in to.iter_mut().zip(table.rows()) {
             *cell = row[router];
         }
         Target { to, attached: 0 }
     }
 
     /// A prefix.
-    pub fn prefix(network: &Network, graph: &Graph, work: &[u32], prefix: usize) -> Target {
-        let count = usize::from(network.attached[prefix]);
-        let at = &network.at[8 * prefix..][..count];
-        let own = &network.own[8 * prefix..][..count];
-        let mut to = [NO_PATH; 64];
-        for (cell, row) in to.iter_mut().zip(rows(graph, work)) {
-            for (router, cost) in at.iter().zip(own) {
-                *cell = row[usize::from(*router)].saturating_add(u32::from(*cost)).min(*cell);
+    pub fn prefix(table: Table, prefixes: &Prefixes, prefix: usize) -> Target {
+        let mut target = Target { to: [NO_PATH; 64], attached: 0 };
+        for (router, cost) in prefixes.attachments(prefix) {
+            target.attached |= 1 << router;
+            for (cell, row) in target.to.iter_mut().zip(table.rows()) {
+                *cell = row[router].saturating_add(cost).min(*cell);
             }
         }
-        let attached = at.iter().fold(0, |set, router| set | 1 << (router & 63));
-        Target { to, attached }
+        target
     }
 }
 
-/// The rows of the distances.
-fn rows<'a>(graph: &Graph, work: &'a [u32]) -> std::slice::ChunksExact<'a, u32> {
-    work[..graph.routers * graph.routers].chunks_exact(graph.routers)
-}
-
-/// The distances from one router.
-pub fn row<'a>(graph: &Graph, work: &'a [u32], router: usize) -> &'a [u32] {
-    &work[router * graph.routers..][..graph.routers]
+/// The set of the numbers, below 64, of the tests that hold. The flags of the tests are
+/// bytes first, which the compiler finds many at once of; a product puts eight of them
+/// side by side.
+#[inline]
+pub fn set_where(tests: impl Iterator<Item = bool>) -> u64 {
+    let mut flags = [0u8; 64];
+    flags.iter_mut().zip(tests).for_each(|(flag, test)| *flag = u8::from(test));
+    let eight = |flags: &[u8]| u64::from_le_bytes(flags.try_into().expect("eight bytes"));
+    let bits = |flags: u64| flags.wrapping_mul(0x0102_0408_1020_4080) >> 56;
+    flags.chunks_exact(8).rev().fold(0, |set, flags| set << 8 | bits(eight(flags)))
 }
 
 /// The routers that x avoids the link on the way to.
-pub fn avoiding_from(graph: &Graph, work: &[u32], link: &Protected, x: usize) -> u64 {
-    let own = row(graph, work, x);
+pub fn avoiding_from(table: Table, link: &Protected, x: usize) -> u64 {
+    let own = table.row(x);
     let over = own[link.near].wrapping_add(link.out);
     let under = own[link.far].wrapping_add(link.back);
-    let from_near = row(graph, work, link.near);
-    let from_far = row(graph, work, link.far);
-    let mut set = 0;
-    for (y, ((own, near), far)) in own.iter().zip(from_near).zip(from_far).enumerate() {
-        let avoids = (*own < over.wrapping_add(*far)) & (*own < under.wrapping_add(*near));
-        set |= u64::from(avoids) << y;
-    }
-    set
+    let cells = own.iter().zip(table.row(link.near)).zip(table.row(link.far));
+    set_where(cells.map(|((own, near), far)| {
+        (*own < over.wrapping_add(*far)) & (*own < under.wrapping_add(*near))
+    }))
 }
 
 /// The routers on the way to which some walk from x visits the far router.
-pub fn visiting_from(graph: &Graph, work: &[u32], link: &Protected, x: usize) -> u64 {
-    let own = row(graph, work, x);
+pub fn visiting_from(table: Table, link: &Protected, x: usize) -> u64 {
+    let own = table.row(x);
     let over = own[link.far];
-    let mut set = 0;
-    for (y, (own, far)) in own.iter().zip(row(graph, work, link.far)).enumerate() {
-        set |= u64::from(over.wrapping_add(*far) == *own) << y;
-    }
-    set
+    let cells = own.iter().zip(table.row(link.far));
+    set_where(cells.map(|(own, far)| over.wrapping_add(*far) == *own))
 }
 
 /// The routers that avoid the link on the way to a target. A router that
 /// cannot reach S may be wrong in the set; no first hop avoids to it.
-pub fn avoiding_to(graph: &Graph, work: &[u32], link: &Protected, to: &[u32; 64]) -> u64 {
+pub fn avoiding_to(table: Table, link: &Protected, to: &[u32; 64]) -> u64 {
     let over = link.out.wrapping_add(to[link.far & 63]);
     let under = link.back.wrapping_add(to[link.near & 63]);
-    let mut set = 0;
-    for (y, (row, own)) in rows(graph, work).zip(to).enumerate() {
-        let avoids =
-            (*own < row[link.near].wrapping_add(over)) & (*own < row[link.far].wrapping_add(under));
-        set |= u64::from(avoids) << y;
-    }
-    set
+    set_where(table.rows().zip(to).map(|(row, own)| {
+        (*own < row[link.near].wrapping_add(over)) & (*own < row[link.far].wrapping_add(under))
+    }))
 }
 
 /// The routers from which some walk towards a prefix crosses the link. The
 /// distance test tells from which a tight path does; of these, the ones are
 /// looked for that come to the link before they come to an attached router. A
 /// tight arc leads to a smaller distance, so the link is crossed one way only.
-pub fn crossing(graph: &Graph, work: &[u32], link: &Protected, target: &Target) -> u64 {
+pub fn crossing(graph: &Graph, table: Table, link: &Protected, target: &Target) -> u64 {
     let to = &target.to;
     let (near, far) = (link.near & 63, link.far & 63);
     let over = to[far].wrapping_add(link.out) == to[near];
     let under = to[near].wrapping_add(link.back) == to[far];
     let seeds = u64::from(over) << near | u64::from(under) << far;
-    let open = !avoiding_to(graph, work, link, to) & u64::MAX >> (64 - graph.routers);
+    let open = !avoiding_to(table, link, to) & u64::MAX >> (64 - table.routers);
     leading(graph, target, seeds & !target.attached, open)
 }
 
 /// The routers from which some walk towards a prefix visits the far router, that router
 /// among them. They are looked for as the ones that cross the link are.
-pub fn visiting(graph: &Graph, work: &[u32], link: &Protected, target: &Target) -> u64 {
+pub fn visiting(graph: &Graph, table: Table, link: &Protected, target: &Target) -> u64 {
     let over = target.to[link.far & 63];
-    let mut open = 0;
-    for (x, (row, own)) in rows(graph, work).zip(&target.to).enumerate() {
-        open |= u64::from(row[link.far].wrapping_add(over) == *own) << x;
-    }
+    let cells = table.rows().zip(&target.to);
+    let open = set_where(cells.map(|(row, own)| row[link.far].wrapping_add(over) == *own));
     leading(graph, target, 1 << link.far, open)
 }
 

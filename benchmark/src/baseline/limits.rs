@@ -2,6 +2,7 @@
 //! but whether it keeps them, so that all cells are tested without a branch for
 //! each, and many of them at once.
 
+use super::prefixes::{no_router, repeated, ONES, UNUSED};
 use crate::answer::Network;
 
 /// Whether a network keeps the limits. What is not used is not looked at.
@@ -53,12 +54,6 @@ fn counts_good(network: &Network) -> bool {
     counts.iter().fold(0, |bad, count| bad | u8::from(count.wrapping_sub(1) > 7)) == 0
 }
 
-/// 1 in each of the eight bytes of a number.
-const ONES: u64 = 0x0101_0101_0101_0101;
-
-/// A number for each of the eight slots, which is no router's.
-const UNUSED: u64 = 0x4746_4544_4342_4140;
-
 /// The bytes of so many slots, for 0 to 8 of them.
 const USED: [u64; 16] = {
     let mut used = [u64::MAX; 16];
@@ -74,7 +69,6 @@ const USED: [u64; 16] = {
 /// are the bytes of one number, those that are not used as in `UNUSED`. In `bad`
 /// the highest bit of a byte tells that something is wrong.
 fn slots_good(network: &Network) -> bool {
-    let over = (128 - network.routers as u64) * ONES;
     let mut named = [UNUSED; 128];
     let mut bad = 0;
     let slots = network.at.chunks_exact(8);
@@ -83,16 +77,9 @@ fn slots_good(network: &Network) -> bool {
     {
         let used = USED[usize::from(count & 15)];
         let routers = u64::from_le_bytes(at.try_into().expect("eight bytes")) & used;
-        bad |= routers | routers.wrapping_add(over);
+        bad |= no_router(routers, network.routers);
         *named = routers | UNUSED & !used;
     }
-    let repeated = |named: &u64| !((1..=4).fold(u64::MAX, |all, turn| all & differ(*named, turn)));
-    bad = named.iter().fold(bad, |bad, named| bad | repeated(named));
+    bad = named.iter().fold(bad, |bad, named| bad | repeated(*named));
     bad & (128 * ONES) == 0
-}
-
-/// The highest bit of a byte is set where this byte and the one so many places
-/// below it, counted round, differ. Both are below 128.
-fn differ(named: u64, turn: u32) -> u64 {
-    (named ^ named.rotate_left(8 * turn)).wrapping_add(127 * ONES)
 }

@@ -5,6 +5,8 @@
 mod avoid;
 mod graph;
 mod limits;
+mod links;
+mod prefixes;
 mod read;
 mod route;
 mod rows;
@@ -17,29 +19,32 @@ use crate::answer::{self, Answer, Network, Refusal, Space, DONE, REFUSED, SET};
 use crate::side::Side;
 use avoid::{Protected, Target};
 use graph::Graph;
+use links::Links;
 use rows::{arranged, enough_cells, long_enough, named, numbered};
+use table::Table;
 
 /// The program that was written for speed.
 pub struct Baseline;
 
-/// Rows 1 to 9 and the network.
-fn opened(file: &[u8]) -> Result<Network, Refusal> {
-    let mut network = answer::BLANK;
-    read::read(file, &mut network)?;
-    Ok(network)
+/// The distances, which are then in the work area.
+fn filled<'a>(graph: &Graph, links: &Links, work: &'a mut [u32]) -> Table<'a> {
+    graph.fill(work);
+    Table::new(links.routers, work)
 }
 
-/// The arcs of a network, whose distances are then in the work area.
-fn filled(network: &Network, work: &mut [u32]) -> Graph {
-    let graph = Graph::of(network);
-    graph.fill(work);
-    graph
+fn load(file: &[u8], network: &mut Network) -> Result<(), Refusal> {
+    let mut links = Links::NONE;
+    let prefixes = read::read(file, &mut links)?;
+    links.put(network);
+    prefixes.put(network);
+    Ok(())
 }
 
 fn distances(file: &[u8], work: &mut [u32]) -> Result<Answer, Refusal> {
-    let network = opened(file)?;
-    enough_cells(&network, work)?;
-    filled(&network, work);
+    let mut links = Links::NONE;
+    read::read(file, &mut links)?;
+    enough_cells(&links, work)?;
+    filled(&Graph::of(&links), &links, work);
     Ok(answer::of(DONE))
 }
 
@@ -50,12 +55,13 @@ fn space(
     link: usize,
     end: usize,
 ) -> Result<Answer, Refusal> {
-    let network = opened(file)?;
-    enough_cells(&network, work)?;
-    named(&network, link, end)?;
-    let graph = filled(&network, work);
-    let protected = Protected::of(&network, link, end);
-    Ok(answer::with_value(SET, search::space(space, &graph, work, &protected)))
+    let mut links = Links::NONE;
+    read::read(file, &mut links)?;
+    enough_cells(&links, work)?;
+    named(&links, link, end)?;
+    let table = filled(&Graph::of(&links), &links, work);
+    let protected = Protected::of(&links, link, end);
+    Ok(answer::with_value(SET, search::space(space, table, &links, &protected)))
 }
 
 fn link_repair(
@@ -65,13 +71,13 @@ fn link_repair(
     link: usize,
     end: usize,
 ) -> Result<Answer, Refusal> {
-    let network = opened(file)?;
-    enough_cells(&network, work)?;
+    let mut links = Links::NONE;
+    read::read(file, &mut links)?;
+    enough_cells(&links, work)?;
     let ranks = arranged(ranks)?;
-    named(&network, link, end)?;
-    let graph = filled(&network, work);
-    let protected = Protected::of(&network, link, end);
-    search::link_repair(&graph, work, &ranks, &protected)
+    named(&links, link, end)?;
+    let table = filled(&Graph::of(&links), &links, work);
+    search::link_repair(&links, table, &ranks, &Protected::of(&links, link, end))
 }
 
 fn prefix_repair(
@@ -80,15 +86,17 @@ fn prefix_repair(
     ranks: &[u8],
     (link, end, prefix): (usize, usize, usize),
 ) -> Result<Answer, Refusal> {
-    let network = opened(file)?;
-    enough_cells(&network, work)?;
+    let mut links = Links::NONE;
+    let prefixes = read::read(file, &mut links)?;
+    enough_cells(&links, work)?;
     let ranks = arranged(ranks)?;
-    named(&network, link, end)?;
-    numbered(&network, prefix)?;
-    let graph = filled(&network, work);
-    let protected = Protected::of(&network, link, end);
-    let target = Target::prefix(&network, &graph, work, prefix);
-    search::repair(&graph, work, &ranks, &protected, &target)
+    named(&links, link, end)?;
+    numbered(&prefixes, prefix)?;
+    let graph = Graph::of(&links);
+    let table = filled(&graph, &links, work);
+    let protected = Protected::of(&links, link, end);
+    let target = Target::prefix(table, &prefixes, prefix);
+    search::repair(&links, &graph, table, &ranks, &protected, &target)
 }
 
 fn route(
@@ -99,17 +107,19 @@ fn route(
     choices: &[u8],
     buffer: &mut [u8],
 ) -> Result<Answer, Refusal> {
-    let network = opened(file)?;
-    enough_cells(&network, work)?;
-    long_enough(&network, buffer)?;
+    let mut links = Links::NONE;
+    let prefixes = read::read(file, &mut links)?;
+    enough_cells(&links, work)?;
+    long_enough(&links, buffer)?;
     let ranks = arranged(ranks)?;
-    named(&network, link, end)?;
-    numbered(&network, prefix)?;
-    let graph = filled(&network, work);
-    let protected = Protected::of(&network, link, end);
-    let target = Target::prefix(&network, &graph, work, prefix);
-    let answer = search::repair(&graph, work, &ranks, &protected, &target)?;
-    Ok(route::play(&graph, work, protected.near, &answer, &target, choices, buffer))
+    named(&links, link, end)?;
+    numbered(&prefixes, prefix)?;
+    let graph = Graph::of(&links);
+    let table = filled(&graph, &links, work);
+    let protected = Protected::of(&links, link, end);
+    let target = Target::prefix(table, &prefixes, prefix);
+    let answer = search::repair(&links, &graph, table, &ranks, &protected, &target)?;
+    Ok(route::play(&graph, table, protected.near, &answer, &target, choices, buffer))
 }
 
 /// A refusal as an answer.
@@ -122,7 +132,7 @@ impl Side for Baseline {
 
     fn load(file: &[u8]) -> Network {
         let mut network = answer::BLANK;
-        if let Err(Refusal { number, value }) = read::read(file, &mut network) {
+        if let Err(Refusal { number, value }) = load(file, &mut network) {
             return Network { kind: REFUSED, number, value, ..answer::BLANK };
         }
         network

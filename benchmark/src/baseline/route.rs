@@ -2,6 +2,7 @@
 
 use super::avoid::Target;
 use super::graph::Graph;
+use super::table::Table;
 use crate::answer::{self, Answer, PAIR, PLAYED};
 
 /// The play: where it stands, and what it has written.
@@ -48,7 +49,7 @@ impl Play<'_> {
 /// Plays the route of a pair; any other answer is passed on.
 pub fn play(
     graph: &Graph,
-    work: &[u32],
+    table: Table,
     near: usize,
     answer: &Answer,
     target: &Target,
@@ -62,7 +63,7 @@ pub fn play(
     play.arrive(near);
     play.arrive(answer.first);
     if answer.first != answer.endpoint {
-        let endpoint = Target::router(graph, work, answer.endpoint);
+        let endpoint = Target::router(table, answer.endpoint);
         while play.at != answer.endpoint {
             play.step(&endpoint);
         }

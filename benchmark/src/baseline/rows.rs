@@ -1,30 +1,31 @@
 //! The rows that judge what is asked beside the file: 10 to 13, 15 and 18.
 
-use super::graph::Graph;
+use super::links::Links;
+use super::prefixes::Prefixes;
 use super::search::Ranks;
-use super::table;
-use crate::answer::{Network, Refusal};
+use super::table::Table;
+use crate::answer::Refusal;
 
 /// Row 10.
-pub fn enough_cells(network: &Network, work: &[u32]) -> Result<(), Refusal> {
-    let cells = network.routers * network.routers;
-    if work.len() < cells {
+pub fn enough_cells(links: &Links, lent: &[u32]) -> Result<(), Refusal> {
+    let cells = links.routers * links.routers;
+    if lent.len() < cells {
         return Err(Refusal::new(10, cells));
     }
     Ok(())
 }
 
 /// Row 18.
-pub fn right_table(graph: &Graph, cells: &[u32]) -> Result<(), Refusal> {
-    if !table::right(graph, cells) {
+pub fn right_table(table: Table, links: &Links) -> Result<(), Refusal> {
+    if !table.right(links) {
         return Err(Refusal::new(18, 0));
     }
     Ok(())
 }
 
 /// Row 11.
-pub fn long_enough(network: &Network, buffer: &[u8]) -> Result<(), Refusal> {
-    let bytes = 2 * network.routers;
+pub fn long_enough(links: &Links, buffer: &[u8]) -> Result<(), Refusal> {
+    let bytes = 2 * links.routers;
     if buffer.len() < bytes {
         return Err(Refusal::new(11, bytes));
     }
@@ -43,17 +44,17 @@ pub fn arranged(ranks: &[u8]) -> Result<Ranks, Refusal> {
 }
 
 /// Row 12.
-pub fn named(network: &Network, link: usize, end: usize) -> Result<(), Refusal> {
-    if link >= network.links || end > 1 {
-        return Err(Refusal::new(12, network.links));
+pub fn named(links: &Links, link: usize, end: usize) -> Result<(), Refusal> {
+    if link >= links.count || end > 1 {
+        return Err(Refusal::new(12, links.count));
     }
     Ok(())
 }
 
 /// Row 13.
-pub fn numbered(network: &Network, prefix: usize) -> Result<(), Refusal> {
-    if prefix >= network.prefixes {
-        return Err(Refusal::new(13, network.prefixes));
+pub fn numbered(prefixes: &Prefixes, prefix: usize) -> Result<(), Refusal> {
+    if prefix >= prefixes.count {
+        return Err(Refusal::new(13, prefixes.count));
     }
     Ok(())
 }

@@ -3,7 +3,9 @@
 //! forbid it has been tested.
 
 use super::limits;
-use super::read::{BLOCK, LINKS_IN_BLOCK, LINK_ENTRY, PREFIXES_IN_BLOCK, PREFIX_ENTRY};
+use super::links::{LINKS_IN_BLOCK, LINK_ENTRY};
+use super::prefixes::{PREFIXES_IN_BLOCK, PREFIX_ENTRY};
+use super::read::BLOCK;
 use crate::answer::Network;
 
 /// Writes the file of a network, and returns its length; 0, and nothing is
