@@ -2,7 +2,7 @@
 -- the cell of the router that the arc leads to. Other numbers stand for the cells in sums: these are small enough for sums of 16 bits or
 -- of 32 bits. Both forms of the sums have the same laws.
 -- Assumes nothing.
-use Prim.Native.Nat.{ℕ, _+_, _%_, _^_, _≤_, _<_, min}
+use Prim.Native.Nat.{ℕ, _+_, _≤_, _<_, min}
 use mathlib.Core.Path.{_≡_}
 use mathlib.Core.Logic.{_⊎_}
 use mathlib.Core.Bool.{Bool, true}
@@ -33,7 +33,7 @@ form32 n = record { longest = largest; limit = 1073741824; top = 65535; width = 
 
 -- sums of 16 bits, in rows of 64 cells
 abbrev pub form16 : Form
-form16 = record { longest = 8190; limit = 16383; top = 8191; width = 64 }
+form16 = record { longest = 8191; limit = 16384; top = 8192; width = 64 }
 
 -- the cell of row x and column t
 abbrev pub cellOf : Form → List ℕ → ℕ → ℕ → ℕ
@@ -68,25 +68,21 @@ pub record Summands (count : ℕ) (table cells : List ℕ) : Type 0 where
   pub long : length cells ≡ 4096
   pub cell : (i : ℕ) → i < count → Stands largest 1073741824 (getD table i 0) (getD cells i 0)
 
--- a cell copied for sums of 16 bits: the number stands for it where one more than the cell, in 32 bits, is small
-pub record Narrowed (d s : ℕ) : Type 0 where
-  pub most : s ≤ 16383
-  pub small : (d + 1) % 2 ^ 32 ≤ 8191 → Real 8190 16383 d s
+-- none of the first cells is above a number
+abbrev pub AtMost : ℕ → List ℕ → ℕ → Type 0
+AtMost count table m = (i : ℕ) → i < count → getD table i 0 ≤ m
 
--- so many cells of a table, from a place on, copied to another place; the other cells are as they were. Where the number that was worked
--- out with it is small, the copies stand for the cells.
-pub record RowCopied (count by place : ℕ) (table before after : List ℕ) (all : ℕ) : Type 0 where
+-- so many cells of a table, from a place on, copied to another place; the other cells are as they were
+pub record RowCopied (count by place : ℕ) (table before after : List ℕ) : Type 0 where
   pub long : length after ≡ length before
-  pub most : (t : ℕ) → t < count → getD after (place + t) 0 ≤ 16383
-  pub small : all ≤ 8191 → (t : ℕ) → t < count → Real 8190 16383 (getD table (by + t) 0) (getD after (place + t) 0)
+  pub cell : (t : ℕ) → t < count → getD after (place + t) 0 ≡ getD table (by + t) 0
   pub rest : (i : ℕ) → (place ≤ i → place + count ≤ i) → getD after i 0 ≡ getD before i 0
 
 -- the first m rows of n cells, copied to rows of 64 cells; the other cells hold the limit
-pub record RowsCopied (n m : ℕ) (table cells : List ℕ) (all : ℕ) : Type 0 where
+pub record RowsCopied (n m : ℕ) (table cells : List ℕ) : Type 0 where
   pub long : length cells ≡ 4096
-  pub most : (x t : ℕ) → x < m → t < n → areaCell 64 cells x t ≤ 16383
-  pub small : all ≤ 8191 → (x t : ℕ) → x < m → t < n → Real 8190 16383 (areaCell n table x t) (areaCell 64 cells x t)
-  pub rest : (x t : ℕ) → x < 64 → t < 64 → (m ≤ x) ⊎ (n ≤ t) → areaCell 64 cells x t ≡ 16383
+  pub cell : (x t : ℕ) → x < m → t < n → areaCell 64 cells x t ≡ areaCell n table x t
+  pub rest : (x t : ℕ) → x < 64 → t < 64 → (m ≤ x) ⊎ (n ≤ t) → areaCell 64 cells x t ≡ 16384
 
 -- ---- the sums
 

@@ -19,7 +19,7 @@ mod costs;
 mod narrow;
 mod sums;
 
-// Whether each cell is 0 on the diagonal, and elsewhere the least sum: by sums of 16 bits where each finite cell is small enough for them,
+// Whether each cell is 0 on the diagonal, and elsewhere the least sum: by sums of 16 bits where each cell is small enough for them,
 // and else by sums of 32 bits.
 fn agrees<'a>(
     n: usize,
@@ -33,11 +33,11 @@ fn agrees<'a>(
     requires { ⌜ ColumnsWithin n links (now from) (now to) × (n * n ≤ length (now table)) ⌝ }
     ensures { λ r. ⌜ Tested (arcsIn (now (from .entry)) (now (to .entry)) (now (out .entry)) (now (back .entry)) links) n (now (table .entry)) r ⌝ }
 {
-    let mut cells = [narrow::LIMIT; 4096];
-    let all = narrow::copy_rows(n, table, &mut cells);
-    if narrow::SMALL < all {
+    if narrow::LONGEST < narrow::all_bits(n * n, table) {
         return sums::agrees(n, links, from, to, out, back, table);
     }
+    let mut cells = [narrow::LIMIT; 4096];
+    narrow::copy_rows(n, table, &mut cells);
     narrow::agrees(n, links, from, to, out, back, &cells)
 }
 

@@ -1,66 +1,78 @@
-// The test of the table in sums of 16 bits, for a table whose finite cells are at most 8,190.
+// The test of the table in sums of 16 bits, for a table whose cells are all at most 8,191.
 //
 // The cells are copied to rows of 64 columns; the cells that are not used hold what stands for unreachable. Each arc then lowers one whole
 // row of the sums, and all 4,096 cells are compared: these loops have as many turns for every network, and go over eight cells at once.
 use metric::read::wide;
 ghost use mathlib.Core.Path.{_≡_};
 ghost use mathlib.Core.List.{List};
-ghost use lib.ListN.{length, replicate};
+ghost use lib.ListN.{length, getD, replicate};
 ghost use Prim.Native.Nat.{ℕ, _+_, _*_, _≤_, _<_, min};
 ghost use Rattle.metric.specs.Fit.{ColumnsWithin};
 ghost use Rattle.metric.specs.Columns.{arcsIn};
-ghost use Rattle.table.specs.Sums.{form16, Narrowed, RowCopied, RowsCopied, Copied, Limited, Cleared, RowLowered, LeastSums, Differs, SameCells, Tested};
+ghost use Rattle.table.specs.Sums.{form16, AtMost, RowCopied, RowsCopied, Copied, Limited, Cleared, RowLowered, LeastSums, Differs, SameCells, Tested};
 
-// What stands for unreachable in sums: more than a hop and a finite cell.
-pub(crate) const LIMIT: u16 = 16383;
+// What stands for unreachable in sums: more than a hop and a cell.
+pub(crate) const LIMIT: u16 = 16384;
 
-// What a hop counts as that costs more: more than any finite cell, so that a sum with it is no distance that the table may hold.
-const TOP: u16 = 8191;
+// What a hop counts as that costs more: more than any cell, so that a sum with it is no distance that the table may hold.
+const TOP: u16 = 8192;
 
-// One more than the longest finite cell.
-pub(crate) const SMALL: u32 = 8191;
+// No cell is larger.
+pub(crate) const LONGEST: u32 = 8191;
 
-// What stands for a cell in sums: the cell where it is small, and for unreachable, which is 2^32 - 1, the limit.
-fn narrow_cell(cell: u32) -> u16
-    ensures { λ r. ⌜ Narrowed cell r ⌝ }
-{
-    (cell % 16384) as u16
-}
-
-// Copies one row of the table. The answer is at most 8,191 only where each cell of the row is at most 8,190 or unreachable: one more than
-// the cell, in 32 bits, is then at most 8,191.
-fn copy_row(n: usize, by: usize, at: usize, table: &[u32], cells: &mut [u16; 4096]) -> u32
-    requires { ⌜ (n ≤ 64) × (by + n ≤ length (now table)) × (at + n ≤ 4096) × (length (now cells) ≡ 4096) ⌝ }
-    ensures { λ r. ⌜ RowCopied n by at (now (table .entry)) (now (cells .entry)) (now (cells .exit)) r ⌝ }
+// The bits that so many cells have: as a number, none of the cells is above it.
+pub(crate) fn all_bits(count: usize, table: &[u32]) -> u32
+    requires { ⌜ count ≤ length (now table) ⌝ }
+    ensures { λ r. ⌜ AtMost count (now (table .entry)) r ⌝ }
 {
     let mut all: u32 = 0;
+    let mut i = 0;
+    while i < count {
+        all = all | table[i];
+        i += 1;
+    }
+    all
+}
+
+// The cell in 16 bits. It is first brought within the range of signed numbers of 16 bits, where it already is: for this the processor has
+// an instruction that takes eight cells at once.
+fn narrow_cell(cell: u32) -> u16
+    requires { ⌜ cell < 8192 ⌝ }
+    ensures { λ r. ⌜ r ≡ cell ⌝ }
+{
+    let signed = cell as i32;
+    let low = if signed < -32768 { -32768 } else { signed };
+    let cut = if low > 32767 { 32767 } else { low };
+    (cut as i16) as u16
+}
+
+// Copies one row of the table.
+fn copy_row(n: usize, by: usize, at: usize, table: &[u32], cells: &mut [u16; 4096])
+    requires { ⌜ (by + n ≤ length (now table)) × (at + n ≤ 4096) × (length (now cells) ≡ 4096) × ((t : ℕ) → t < n → getD (now table) (by + t) 0 ≤ 8191) ⌝ }
+    ensures { λ _. ⌜ RowCopied n by at (now (table .entry)) (now (cells .entry)) (now (cells .exit)) ⌝ }
+{
     let mut t = 0;
     while t < n {
-        let cell = table[by + t];
-        all = all | std::num::wrapping_add_u32(cell, 1);
-        cells[at + t] = narrow_cell(cell);
+        cells[at + t] = narrow_cell(table[by + t]);
         t += 1;
     }
-    all
 }
 
-// Copies the rows of the table, and answers the same for all of them.
-pub(crate) fn copy_rows(n: usize, table: &[u32], cells: &mut [u16; 4096]) -> u32
-    requires { ⌜ (n ≤ 64) × (n * n ≤ length (now table)) × (now cells ≡ replicate 4096 16383) ⌝ }
-    ensures { λ r. ⌜ RowsCopied n n (now (table .entry)) (now (cells .exit)) r ⌝ }
+// Copies the rows of the table.
+pub(crate) fn copy_rows(n: usize, table: &[u32], cells: &mut [u16; 4096])
+    requires { ⌜ (n ≤ 64) × (n * n ≤ length (now table)) × AtMost (n * n) (now table) 8191 × (now cells ≡ replicate 4096 16384) ⌝ }
+    ensures { λ _. ⌜ RowsCopied n n (now (table .entry)) (now (cells .exit)) ⌝ }
 {
-    let mut all: u32 = 0;
     let mut x = 0;
     while x < n {
-        all = all | copy_row(n, x * n, x * 64, table, cells);
+        copy_row(n, x * n, x * 64, table, cells);
         x += 1;
     }
-    all
 }
 
 // Sets the diagonal of the sums to 0.
 fn clear_diagonal(n: usize, sums: &mut [u16; 4096])
-    requires { ⌜ (n ≤ 64) × (now sums ≡ replicate 4096 16383) ⌝ }
+    requires { ⌜ (n ≤ 64) × (now sums ≡ replicate 4096 16384) ⌝ }
     ensures { λ _. ⌜ Cleared form16 n (now (sums .exit)) ⌝ }
 {
     let mut x = 0;
@@ -80,7 +92,7 @@ fn least(a: u16, b: u16) -> u16
 
 // What a hop counts as.
 fn hop_of(cost: u16) -> u16
-    ensures { λ r. ⌜ r ≡ min cost 8191 ⌝ }
+    ensures { λ r. ⌜ r ≡ min cost 8192 ⌝ }
 {
     if cost < TOP { cost } else { TOP }
 }
@@ -143,7 +155,7 @@ fn same_cells(cells: &[u16; 4096], sums: &[u16; 4096]) -> bool
     differing == 0
 }
 
-// Whether each cell is 0 on the diagonal, and elsewhere the least sum, by the copy of a table whose finite cells are small.
+// Whether each cell is 0 on the diagonal, and elsewhere the least sum, by the copy of a table whose cells are small.
 pub(crate) fn agrees<'a>(
     n: usize,
     links: usize,

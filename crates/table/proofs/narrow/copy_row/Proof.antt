@@ -10,28 +10,27 @@ use Rattle.table.proofs.narrow.copy_row.Statement.{statement}
 use Rattle.table.proofs.narrow.copy_row.Tie as tie
 
 abbrev Inv-loop : tie.InvT-loop
-Inv-loop n by at table cells₀ all₀ t₀ cells all t = (t ≤ n) × RowCopied t by at table cells₀ cells all
+Inv-loop n by at table cells₀ t₀ cells t = (t ≤ n) × RowCopied t by at table cells₀ cells
 
 abbrev μ-loop : tie.MeasureT-loop
-μ-loop n by at table cells₀ all₀ t₀ cells all t = n - t
+μ-loop n by at table cells₀ t₀ cells t = n - t
 
 loop-holds : tie.Need-loop-holds Inv-loop μ-loop
 loop-holds c = (omega arith, copied-none)
 
-add-cell : tie.Need-add-cell Inv-loop μ-loop
-add-cell c = search needs
+add-narrow-cell : tie.Need-add-narrow-cell Inv-loop μ-loop
+add-narrow-cell c = search needs
 
-mul-cell : tie.Need-mul-cell Inv-loop μ-loop
-mul-cell c = search needs
+mul-narrow-cell : tie.Need-mul-narrow-cell Inv-loop μ-loop
+mul-narrow-cell c = search needs
 
-shared-slice-read-cell : tie.Need-shared-slice-read-cell Inv-loop μ-loop
-shared-slice-read-cell c = search needs
-
-wrapping-add-u32-requires : tie.Need-wrapping-add-u32-requires Inv-loop μ-loop
-wrapping-add-u32-requires c κs = search needs
+shared-slice-read-narrow-cell : tie.Need-shared-slice-read-narrow-cell Inv-loop μ-loop
+shared-slice-read-narrow-cell c = search needs
 
 narrow-cell-requires : tie.Need-narrow-cell-requires Inv-loop μ-loop
-narrow-cell-requires c κs = search needs
+narrow-cell-requires c κs =
+    let turn = c .before in
+    omega (arith, turn .before .before .before .pre .3 (turn .before .loop .t) (turn .loop-test .taken))
 
 add-cells : tie.Need-add-cells Inv-loop μ-loop
 add-cells c = search needs
@@ -50,14 +49,14 @@ loop-less c = search needs
 
 loop-again : tie.Need-loop-again Inv-loop μ-loop
 loop-again c =
-    let at-loop = c .before .before .before .before in
-    (omega arith, copied-more (omega arith) (at-loop .loop .inv .1) (c .narrow-cell .ensures) (c .before .wrapping-add-u32 .ensures))
+    let at-loop = c .before .before .before in
+    (omega arith, copied-more (omega arith) (at-loop .loop .inv .1) (c .narrow-cell .ensures))
 
 returns : tie.Need-returns Inv-loop μ-loop
 returns c =
     let a = c .before .before .before .args in
     let e : c .before .loop .t ≡ a .n = omega arith in
-    subst (λ (t : ℕ). RowCopied t (a .by) (a .at) (a .table .now) (a .cells .now) (c .before .loop .cells) (c .before .loop .all)) e (c .before .loop .inv .1)
+    subst (λ (t : ℕ). RowCopied t (a .by) (a .at) (a .table .now) (a .cells .now) (c .before .loop .cells)) e (c .before .loop .inv .1)
 
 pub copy-row-spec : {M : Type 1} → statement M
 copy-row-spec =
@@ -66,10 +65,9 @@ copy-row-spec =
     Inv-loop
     μ-loop
     loop-holds
-    add-cell
-    mul-cell
-    shared-slice-read-cell
-    wrapping-add-u32-requires
+    add-narrow-cell
+    mul-narrow-cell
+    shared-slice-read-narrow-cell
     narrow-cell-requires
     add-cells
     mul-cells

@@ -84,7 +84,7 @@ loop-again c =
     let start = turn .before .before .before in
     let a = start .args in
     let t = turn .before .loop .t in
-    let v : c .least .result ≡ min (areaCell 64 (turn .before .loop .sums) (a .a) t) (min (a .cost) 8191 + areaCell 64 (a .cells .now) (a .b) t) =
+    let v : c .least .result ≡ min (areaCell 64 (turn .before .loop .sums) (a .a) t) (min (a .cost) 8192 + areaCell 64 (a .cells .now) (a .b) t) =
     omega (arith, c .least .ensures, turn .before .before .hop-of .ensures) in
     (omega arith, row-more (omega arith) (start .pre .3 .long) (start .pre .0) (turn .loop-test .taken) (turn .before .loop .inv .1) v)
 
