@@ -29,7 +29,7 @@ use Rattle.metric.specs.Laws.Area.{area-filled}
 use Rattle.metric.specs.Laws.Columns.{columns-within}
 use Rattle.metric.specs.Laws.RightTable.{right-least, filled-right}
 use Rattle.table.specs.Calls.{bothSome, costsFit, tableHolds}
-use Rattle.table.specs.Sums.{Small, Tested}
+use Rattle.table.specs.Sums.{Small, Capped, Tested}
 
 -- ---- the costs
 
@@ -58,7 +58,7 @@ module _ (links : ℕ) (out back : List ℕ) where
       same-test _ _ (λ e. every-make (bothSome out back) links (q .holds (ltb-true 0 least e))) (λ e. lt-ltb 0 least (q .told (every-gives (bothSome out back) links e)))
 
   -- where they passed, each hop costs something
-  costs-some : (from to : List ℕ) → costsFit links out back ≡ true → {x z c l : ℕ} → List·Memᴰ (arc x z c l) (arcsIn from to out back links) → 0 < c
+  pub costs-some : (from to : List ℕ) → costsFit links out back ≡ true → {x z c l : ℕ} → List·Memᴰ (arc x z c l) (arcsIn from to out back links) → 0 < c
   unfolding costsFit arcsIn linksIn
   costs-some from to fits {x} {z} {c} m =
       let r = arcs-give 0 (map held (below links)) m in
@@ -98,7 +98,7 @@ module _ {n links : ℕ} {from to : List ℕ} (w : ColumnsWithin n links from to
   pub tested-answer : {table : List ℕ} {r : Bool} → n * n ≤ length table → Tested (arcsIn from to out back links) n table r →
       r ≡ holdsDistances (networkIn n links from to out back) table
   unfolding net hops arcs arcsIn
-  tested-answer {table} {r} long q = same-test r (holdsDistances net table) (λ e. holds-make net table (found (q .right e))) (λ e. let h = holds-gives net table e in q .passes (right h) (small h))
+  tested-answer {table} {r} long q = same-test r (holdsDistances net table) (λ e. holds-make net table (found (q .right e))) (λ e. let h = holds-gives net table e in q .passes (right h) (λ k. small h k))
     where
       found : RightTable hops n table → HoldsDistances net table
       found right = record { enough = long; each = λ x t hx ht. right-least hops n table within right descends (distanceIn (distances net)) least x t hx ht }
@@ -106,11 +106,11 @@ module _ {n links : ℕ} {from to : List ℕ} (w : ColumnsWithin n links from to
       right : HoldsDistances net table → RightTable hops n table
       right h = rw (area-filled net table long (h .each)) (filled-right net within table)
 
-      sound : Sound n hops
-      sound = record { few = w .few-routers; within = within; height = level; descends = descends; capped = λ m. q .capped m }
+      sound : Capped hops → Sound n hops
+      sound k = record { few = w .few-routers; within = within; height = level; descends = descends; capped = λ m. k .most m }
 
-      small : HoldsDistances net table → Small n table
-      small h x t hx ht f = let e = h .each x t hx ht in omega (arith, distance-small n hops (distanceIn (distances net)) sound least x t hx (omega arith))
+      small : HoldsDistances net table → Capped hops → Small n table
+      small h k x t hx ht f = let e = h .each x t hx ht in omega (arith, distance-small n hops (distanceIn (distances net)) (sound k) least x t hx (omega arith))
 
 -- ---- the returns
 

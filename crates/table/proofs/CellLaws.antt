@@ -18,7 +18,7 @@ use mir.Val.{toZ, hbits}
 use mir.ValLaws.{toZ-pos}
 use borrow.Author.Tests.{ltb-true, ltb-false, eqb-true, eq-eqb}
 use Rattle.lfa.specs.Distance.{unreachable}
-use Rattle.table.specs.Sums.{Form, largest, form32, form16, Real, finite, infinite, Stands, real, wrong, Copied, Limited, Summands, Differs, Same, SameCells}
+use Rattle.table.specs.Sums.{Form, largest, form32, Real, finite, infinite, Stands, real, wrong, Copied, Limited, Summands, Differs, Same, SameCells}
 
 -- ---- the smaller of two numbers
 
@@ -62,9 +62,6 @@ pub record Sized (f : Form) : Type 0 where
 
 pub sized32 : (n : ℕ) → Sized (form32 n)
 sized32 n = record { gap = omega arith; fits = omega arith; over = inl (omega arith) }
-
-pub sized16 : Sized form16
-sized16 = record { gap = omega arith; fits = omega arith; over = inr (omega arith) }
 
 pub stands-most : {longest limit d s : ℕ} → longest ≤ limit → Stands longest limit d s → s ≤ limit + 1
 stands-most h (real (finite k e)) = omega arith
@@ -147,25 +144,25 @@ module _ {a b : ℕ} where
   pub differs-one : (a ≡ b → ⊥) → Differs a b 1
   differs-one ne = record { most = omega arith; same = λ z. absurd (omega arith); none = λ e. absurd (ne e) }
 
-pub record Differing (i : ℕ) (xs ys : List ℕ) (d : ℕ) : Type 0 where
+pub record Differing (i : ℕ) (f g : ℕ → ℕ) (d : ℕ) : Type 0 where
   pub few : d ≤ i
-  pub holds : d ≡ 0 → Same i xs ys
-  pub told : Same i xs ys → d ≡ 0
+  pub holds : d ≡ 0 → Same i f g
+  pub told : Same i f g → d ≡ 0
 
-module _ (xs ys : List ℕ) where
-  pub differing-none : Differing 0 xs ys 0
+module _ (f g : ℕ → ℕ) where
+  pub differing-none : Differing 0 f g 0
   differing-none = record { few = omega arith; holds = λ e j h. absurd (omega arith); told = λ s. omega arith }
 
-  pub differing-more : {i d r : ℕ} → Differing i xs ys d → Differs (getD xs i 0) (getD ys i 0) r → Differing (i + 1) xs ys (d + r)
+  pub differing-more : {i d r : ℕ} → Differing i f g d → Differs (f i) (g i) r → Differing (i + 1) f g (d + r)
   differing-more {i} {d} {r} q one = record {
     few = omega arith;
     holds = λ e j h. go e j h (ℕ-discrete j i);
     told = λ s. omega (arith, q .told (λ j h. s j (omega arith)), one .none (s i (omega arith)));
   }
     where
-      go : d + r ≡ 0 → (j : ℕ) → j < i + 1 → Dec (j ≡ i) → getD xs j 0 ≡ getD ys j 0
+      go : d + r ≡ 0 → (j : ℕ) → j < i + 1 → Dec (j ≡ i) → f j ≡ g j
       go e j h (yes s) = rw s (one .same (omega arith))
       go e j h (no s) = q .holds (omega arith) j (omega arith)
 
-  pub differing-told : {i d : ℕ} → Differing i xs ys d → SameCells i xs ys (eqb d 0)
+  pub differing-told : {i d : ℕ} → Differing i f g d → SameCells i f g (eqb d 0)
   differing-told {i} {d} q = record { holds = λ e. q .holds (eqb-true d 0 e); told = λ s. eq-eqb d 0 (q .told s) }

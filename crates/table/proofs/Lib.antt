@@ -2,4 +2,9 @@ pub mod CellLaws
 pub mod SumLaws
 pub mod NarrowLaws
 pub mod TestLaws
+pub mod ArcLaws
+pub mod KeepLaws
+pub mod BitLaws
+pub mod RowLaws
 pub mod CallLaws
+pub mod AgreeLaws

@@ -18,9 +18,9 @@ use borrow.Author.Tests.{ltb-true}
 use lib.Bits.{bitOr, or-add-and, and-le-l, and-le-r}
 use lib.ListN.{length, getD, set, replicate, length-set, length-replicate, getD-replicate}
 use lib.Seq.{getD-set-same, getD-set-other}
-use Rattle.metric.specs.Fit.{ColumnsWithin}
 use Rattle.metric.specs.Area.{areaCell}
-use Rattle.table.specs.Sums.{form16, finite, real, Copied, Limited, AtMost, RowCopied, RowsCopied}
+use Rattle.table.specs.Sums.{AtMost, RowCopied, RowsCopied}
+use Rattle.table.specs.Rows.{Little}
 
 -- ---- the largest cell
 
@@ -96,11 +96,11 @@ apart {x} {t} {m} {n} ht few ne h = go (ℕ-discrete x m)
     go (yes e) = omega (arith, ne e)
     go (no e) = omega arith
 
-pub rows-none : (n : ℕ) (table : List ℕ) → RowsCopied n 0 table (replicate 4096 16384)
+pub rows-none : (n : ℕ) (table : List ℕ) → RowsCopied n 0 table (replicate 4096 16383)
 rows-none n table = record {
-  long = length-replicate {A = ℕ} 4096 16384;
+  long = length-replicate {A = ℕ} 4096 16383;
   cell = λ x t h. absurd (omega arith);
-  rest = λ x t hx ht _. getD-replicate 4096 (x * 64 + t) 16384 0 (omega arith);
+  rest = λ x t hx ht _. getD-replicate 4096 (x * 64 + t) 16383 0 (omega arith);
 }
 
 -- one row more
@@ -120,27 +120,15 @@ rows-more {n} {m} {table} {before} {after} few q row = record {
 
 -- ---- the copy
 
-module _ {n all : ℕ} {table cells : List ℕ} (few : n ≤ 64) (most : AtMost (n * n) table all) (small : all ≤ 8191) (q : RowsCopied n n table cells) where
-  -- no cell of the table is larger than those that 16 bits are for
-  cell-small : (x t : ℕ) → x < n → t < n → areaCell n table x t ≤ 8191
-  cell-small x t hx ht = omega (arith, most (x * n + t) (digits-lt hx ht))
-
-  pub rows-limited : Limited form16 cells
-  rows-limited = record { few = omega arith; long = q .long; small = λ x t hx ht. go x t hx ht (decLt x n) (decLt t n) }
+module _ {n : ℕ} {table cells : List ℕ} (few : n ≤ 64) (most : (x t : ℕ) → x < n → t < n → areaCell n table x t ≤ 8191) (q : RowsCopied n n table cells) where
+  pub rows-little : Little cells
+  rows-little x t hx ht = go (decLt x n) (decLt t n)
     where
-      go : (x t : ℕ) → x < 64 → t < 64 → Dec (x < n) → Dec (t < n) → areaCell 64 cells x t ≤ 16385
-      go x t hx ht (yes k) (yes l) = omega (arith, q .cell x t k l, cell-small x t k l)
-      go x t hx ht (yes k) (no l) = omega (arith, q .rest x t hx ht (inr (omega arith)))
-      go x t hx ht (no k) _ = omega (arith, q .rest x t hx ht (inl (omega arith)))
+      go : Dec (x < n) → Dec (t < n) → areaCell 64 cells x t ≤ 16383
+      go (yes k) (yes l) = omega (arith, q .cell x t k l, most x t k l)
+      go (yes k) (no l) = omega (arith, q .rest x t hx ht (inr (omega arith)))
+      go (no k) _ = omega (arith, q .rest x t hx ht (inl (omega arith)))
 
-  pub rows-copied : Copied form16 n table cells
-  rows-copied = record { few = few; stands = λ x t hx ht. real (finite (cell-small x t hx ht) (q .cell x t hx ht)); rest = q .rest }
-
--- each router's number is a row of the copy
-pub rows-hold : {n links : ℕ} {from to : List ℕ} → ColumnsWithin n links from to → ColumnsWithin 64 links from to
-rows-hold w = record {
-  few-routers = omega arith;
-  few-links = w .few-links;
-  from-in = λ k h. omega (arith, w .from-in k h, w .few-routers);
-  to-in = λ k h. omega (arith, w .to-in k h, w .few-routers);
-}
+-- no cell is above the bits of all cells
+pub cells-small : {n all : ℕ} (table : List ℕ) → AtMost (n * n) table all → all ≤ 8191 → (x t : ℕ) → x < n → t < n → areaCell n table x t ≤ 8191
+cells-small {n} table most h x t hx ht = omega (arith, most (x * n + t) (digits-lt hx ht))

@@ -1,4 +1,4 @@
--- Each cell is the least sum exactly where the table is right and its finite cells are small, in either form of the sums.
+-- Each cell is the least sum exactly where the table is right and its finite cells are small.
 -- Assumes nothing.
 use Prim.Native.Nat.{ℕ, _+_, _*_, _≤_, _<_}
 use mathlib.Core.Path.{_≡_, sym, _∙_}
@@ -102,7 +102,7 @@ module _ {f : Form} {hops : List Arc} {n : ℕ} {table cells first sums : List �
   rest-same : (x t : ℕ) → x < f .width → t < f .width → (n ≤ x) ⊎ (n ≤ t) → cellOf f cells x t ≡ cellOf f sums x t
   rest-same x t hx ht o = q .rest x t hx ht o ∙ sym (sum-rest x t hx ht o)
 
-  right-same : RightTable hops n table → Small n table → Same (f .width * f .width) cells sums
+  right-same : RightTable hops n table → Small n table → Same (f .width * f .width) (λ i. getD cells i 0) (λ i. getD sums i 0)
   right-same right small = each-place (λ i. getD cells i 0 ≡ getD sums i 0) (λ x t hx ht. go x t hx ht (decLt x n) (decLt t n))
     where
       go : (x t : ℕ) → x < f .width → t < f .width → Dec (x < n) → Dec (t < n) → cellOf f cells x t ≡ cellOf f sums x t
@@ -110,9 +110,8 @@ module _ {f : Form} {hops : List Arc} {n : ℕ} {table cells first sums : List �
       go x t hx ht (yes k) (no l) = rest-same x t hx ht (inr (omega arith))
       go x t hx ht (no k) _ = rest-same x t hx ht (inl (omega arith))
 
-  pub same-tested : {r : Bool} → SameCells (f .width * f .width) cells sums r → Tested hops n table r
+  pub same-tested : {r : Bool} → SameCells (f .width * f .width) (λ i. getD cells i 0) (λ i. getD sums i 0) r → Tested hops n table r
   same-tested s = record {
-    capped = λ m. low .capped m;
     right = λ e. same-right (λ x t hx ht. s .holds e (x * f .width + t) (digits-lt (wide hx) (wide ht)));
-    passes = λ right small. s .told (right-same right small);
+    passes = λ right small. s .told (right-same right (small record { most = λ m. low .capped m }));
   }

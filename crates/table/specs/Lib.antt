@@ -1,3 +1,4 @@
 pub mod Calls
 pub mod Sums
+pub mod Rows
 pub mod Laws

@@ -1,6 +1,5 @@
 -- The test of a table: a cell off the diagonal is to be the least sum, over the arcs that leave its row's router, of the arc's cost and
--- the cell of the router that the arc leads to. Other numbers stand for the cells in sums: these are small enough for sums of 16 bits or
--- of 32 bits. Both forms of the sums have the same laws.
+-- the cell of the router that the arc leads to. Other numbers stand for the cells in sums: these are small enough for sums of 32 bits.
 -- Assumes nothing.
 use Prim.Native.Nat.{ℕ, _+_, _≤_, _<_, min}
 use mathlib.Core.Path.{_≡_}
@@ -30,10 +29,6 @@ largest = 4194240
 -- sums of 32 bits, in rows of n cells: every distance of a network may stand in them
 abbrev pub form32 : ℕ → Form
 form32 n = record { longest = largest; limit = 1073741824; top = 65535; width = n }
-
--- sums of 16 bits, in rows of 64 cells
-abbrev pub form16 : Form
-form16 = record { longest = 8191; limit = 16384; top = 8192; width = 64 }
 
 -- the cell of row x and column t
 abbrev pub cellOf : Form → List ℕ → ℕ → ℕ → ℕ
@@ -82,7 +77,7 @@ pub record RowCopied (count by place : ℕ) (table before after : List ℕ) : Ty
 pub record RowsCopied (n m : ℕ) (table cells : List ℕ) : Type 0 where
   pub long : length cells ≡ 4096
   pub cell : (x t : ℕ) → x < m → t < n → areaCell 64 cells x t ≡ areaCell n table x t
-  pub rest : (x t : ℕ) → x < 64 → t < 64 → (m ≤ x) ⊎ (n ≤ t) → areaCell 64 cells x t ≡ 16384
+  pub rest : (x t : ℕ) → x < 64 → t < 64 → (m ≤ x) ⊎ (n ≤ t) → areaCell 64 cells x t ≡ 16383
 
 -- ---- the sums
 
@@ -118,21 +113,24 @@ pub record Differs (a b r : ℕ) : Type 0 where
   pub same : r ≡ 0 → a ≡ b
   pub none : a ≡ b → r ≡ 0
 
--- the first cells of two lists are the same
-abbrev pub Same : ℕ → (xs ys : List ℕ) → Type 0
-Same count xs ys = (i : ℕ) → i < count → getD xs i 0 ≡ getD ys i 0
+-- so many numbers are the same
+abbrev pub Same : ℕ → (f g : ℕ → ℕ) → Type 0
+Same count f g = (i : ℕ) → i < count → f i ≡ g i
 
 -- whether they are
-pub record SameCells (count : ℕ) (xs ys : List ℕ) (r : Bool) : Type 0 where
-  pub holds : r ≡ true → Same count xs ys
-  pub told : Same count xs ys → r ≡ true
+pub record SameCells (count : ℕ) (f g : ℕ → ℕ) (r : Bool) : Type 0 where
+  pub holds : r ≡ true → Same count f g
+  pub told : Same count f g → r ≡ true
 
 -- each finite cell of the table is at most the largest real distance
 abbrev pub Small : ℕ → List ℕ → Type 0
 Small n table = (x t : ℕ) → x < n → t < n → areaCell n table x t < unreachable → areaCell n table x t ≤ largest
 
+-- each arc costs at most what 16 bits hold
+pub record Capped (hops : List Arc) : Type 0 where
+  pub most : {x z c l : ℕ} → List·Memᴰ (arc x z c l) hops → c ≤ 65535
+
 -- whether the table is right
 pub record Tested (hops : List Arc) (n : ℕ) (table : List ℕ) (r : Bool) : Type 0 where
-  pub capped : {x z c l : ℕ} → List·Memᴰ (arc x z c l) hops → c ≤ 65535
   pub right : r ≡ true → RightTable hops n table
-  pub passes : RightTable hops n table → Small n table → r ≡ true
+  pub passes : RightTable hops n table → (Capped hops → Small n table) → r ≡ true

@@ -8,19 +8,22 @@ use costs::costs_fit;
 use fit::links_fit;
 use metric::read::cells_fit;
 ghost use mathlib.Core.Path.{_≡_};
+ghost use mathlib.Core.Bool.{true};
 ghost use lib.ListN.{length};
 ghost use Prim.Native.Nat.{_*_, _≤_};
 ghost use Rattle.metric.specs.Fit.{ColumnsWithin};
 ghost use Rattle.metric.specs.Columns.{arcsIn};
-ghost use Rattle.table.specs.Calls.{tableHolds};
+ghost use Rattle.table.specs.Calls.{costsFit, tableHolds};
 ghost use Rattle.table.specs.Sums.{Tested};
 
+mod arcs;
 mod costs;
 mod narrow;
+mod rows;
 mod sums;
 
-// Whether each cell is 0 on the diagonal, and elsewhere the least sum: by sums of 16 bits where each cell is small enough for them,
-// and else by sums of 32 bits.
+// Whether each cell is 0 on the diagonal, and elsewhere the least sum. No arc may cost less than its cell. The rest is tested by sums of 16
+// bits, over the arcs that cost as much, where each cell is small enough for them, and else by sums of 32 bits over all arcs.
 fn agrees<'a>(
     n: usize,
     links: usize,
@@ -30,15 +33,19 @@ fn agrees<'a>(
     back: &'a [u16; 128],
     table: &[u32],
 ) -> bool
-    requires { ⌜ ColumnsWithin n links (now from) (now to) × (n * n ≤ length (now table)) ⌝ }
+    requires { ⌜ ColumnsWithin n links (now from) (now to) × (n * n ≤ length (now table)) × (costsFit links (now out) (now back) ≡ true) ⌝ }
     ensures { λ r. ⌜ Tested (arcsIn (now (from .entry)) (now (to .entry)) (now (out .entry)) (now (back .entry)) links) n (now (table .entry)) r ⌝ }
 {
+    let mut heads = [0u64; 64];
+    if !arcs::keep_arcs(n, links, from, to, out, back, table, &mut heads) {
+        return false;
+    }
     if narrow::LONGEST < narrow::all_bits(n * n, table) {
         return sums::agrees(n, links, from, to, out, back, table);
     }
     let mut cells = [narrow::LIMIT; 4096];
     narrow::copy_rows(n, table, &mut cells);
-    narrow::agrees(n, links, from, to, out, back, &cells)
+    rows::rows_right(n, &heads, &cells)
 }
 
 // Whether the first routers * routers cells of the table are the distances, row by row, row = start.

@@ -6,7 +6,7 @@ use metric::Distance;
 use metric::read::cost_of;
 use metric::read::wide;
 ghost use mathlib.Core.Path.{_≡_};
-ghost use lib.ListN.{length, replicate};
+ghost use lib.ListN.{length, getD, replicate};
 ghost use Prim.Native.Nat.{_*_, _≤_, _<_, min};
 ghost use Rattle.metric.specs.Fit.{ColumnsWithin};
 ghost use Rattle.metric.specs.Columns.{arcsIn};
@@ -112,7 +112,7 @@ fn differs(a: u32, b: u32) -> u32
 // Whether the first cells of both are the same: the number of those that differ is 0.
 fn same_cells(count: usize, cells: &[u32; 4096], sums: &[u32; 4096]) -> bool
     requires { ⌜ count ≤ 4096 ⌝ }
-    ensures { λ r. ⌜ SameCells count (now (cells .entry)) (now (sums .entry)) r ⌝ }
+    ensures { λ r. ⌜ SameCells count (λ i. getD (now (cells .entry)) i 0) (λ i. getD (now (sums .entry)) i 0) r ⌝ }
 {
     let mut differing: u32 = 0;
     let mut i = 0;

@@ -27,6 +27,9 @@ sized c = cells-give _ _ (fits c)
 linked : (c : tie.Else2) → let a = c .before .before .before .before .before .args in ColumnsWithin (a .routers) (a .links) (a .from .now) (a .to .now)
 linked c = links-give _ _ _ _ (sized c .0) (joins c)
 
+priced : (c : tie.Else3) → let a = c .before .before .before .before .before .before .before .args in costsFit (a .links) (a .out .now) (a .back .now) ≡ true
+priced c = sym (c .before .costs-fit .ensures) ∙ not-false _ (c .if3 .left)
+
 cells-fit-requires : tie.Need-cells-fit-requires
 cells-fit-requires c κs = search needs
 
@@ -46,14 +49,13 @@ returns-3 : tie.Need-returns-3
 returns-3 c = costs-refused _ _ _ _ _ _ _ (sym (c .before .costs-fit .ensures) ∙ not-true _ (c .if3 .taken))
 
 agrees-requires : tie.Need-agrees-requires
-agrees-requires c κs = (linked (c .before .before), sized (c .before .before) .1)
+agrees-requires c κs = (linked (c .before .before), sized (c .before .before) .1, priced c)
 
 returns-4 : tie.Need-returns-4
 returns-4 c =
-    let priced = c .before in
-    let joined = priced .before .before in
+    let joined = c .before .before .before in
     let a = joined .before .before .before .before .before .args in
-    let costs : costsFit (a .links) (a .out .now) (a .back .now) ≡ true = sym (priced .before .costs-fit .ensures) ∙ not-false _ (priced .if3 .left) in
+    let costs = priced (c .before) in
     answered _ _ _ _ _ _ _ (fits joined) (joins joined) costs (tested-answer (linked joined) (a .out .now) (a .back .now) costs (sized joined .1) (c .agrees .ensures))
 
 pub holds-distances-spec : {M : Type 1} → statement M

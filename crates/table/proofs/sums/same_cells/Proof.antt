@@ -3,13 +3,14 @@
 use Prim.Native.Nat.{ℕ, _-_, _≤_}
 use mathlib.Core.Path.{_≡_, subst}
 use native.Mathlib.Omega.{arith}
+use lib.ListN.{getD}
 use borrow.Author.Needs.{needs}
 use Rattle.table.proofs.CellLaws.{Differing, differing-none, differing-more, differing-told}
 use Rattle.table.proofs.sums.same_cells.Statement.{statement}
 use Rattle.table.proofs.sums.same_cells.Tie as tie
 
 abbrev Inv-loop : tie.InvT-loop
-Inv-loop count cells sums differing₀ i₀ differing i = (i ≤ count) × Differing i cells sums differing
+Inv-loop count cells sums differing₀ i₀ differing i = (i ≤ count) × Differing i (λ j. getD cells j 0) (λ j. getD sums j 0) differing
 
 abbrev μ-loop : tie.MeasureT-loop
 μ-loop count cells sums differing₀ i₀ differing i = count - i
@@ -50,7 +51,7 @@ returns : tie.Need-returns Inv-loop μ-loop
 returns c =
     let args = c .before .before .args in
     let e : c .before .loop .i ≡ args .count = omega arith in
-    differing-told (args .cells .now) (args .sums .now) (subst (λ (i : ℕ). Differing i (args .cells .now) (args .sums .now) (c .before .loop .differing)) e (c .before .loop .inv .1))
+    differing-told (λ j. getD (args .cells .now) j 0) (λ j. getD (args .sums .now) j 0) (subst (λ (i : ℕ). Differing i (λ j. getD (args .cells .now) j 0) (λ j. getD (args .sums .now) j 0) (c .before .loop .differing)) e (c .before .loop .inv .1))
 
 pub same-cells-spec : {M : Type 1} → statement M
 same-cells-spec =
