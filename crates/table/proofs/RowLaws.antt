@@ -1,6 +1,6 @@
 -- The sums of one row over the routers of a set, column by column and router by router.
 -- Assumes nothing.
-use Prim.Native.Nat.{ℕ, _+_, _≤_, _<_, min}
+use Prim.Native.Nat.{ℕ, _+_, _-_, _≤_, _<_, min}
 use mathlib.Core.Path.{_≡_, refl, sym, ap, _∙_}
 use mathlib.Core.Logic.{_⊎_, inl, inr}
 use mathlib.Core.Bool.{Bool, true, false, false≢true}
@@ -8,7 +8,7 @@ use mathlib.Core.List.{List}
 use native.Mathlib.Omega.{arith}
 use native.Mathlib.Decide.{ℕ-discrete, decLt}
 use lib.ListN.{length, getD, set, replicate, length-set, length-replicate, getD-replicate}
-use lib.Seq.{getD-set-same, getD-set-other}
+use lib.Seq.{getD-set-same, getD-set-other, ext-getD}
 use Rattle.lfa.specs.Space.{has}
 use Rattle.metric.specs.Area.{areaCell}
 use Rattle.metric.specs.Laws.Set.{has-none}
@@ -50,6 +50,37 @@ pub record RowSums (x heads left : ℕ) (cells sums : List ℕ) : Type 0 where
 
 abbrev limits : List ℕ
 limits = replicate 64 16383
+
+-- The first sums, read from place 64 - x on: the first t of them.
+pub record Started (x t : ℕ) (sums : List ℕ) : Type 0 where
+  pub long : length sums ≡ 64
+  pub each : (i : ℕ) → i < t → getD sums i 0 ≡ getD (set limits x 0) i 0
+
+abbrev starts : List ℕ
+starts = set (replicate 128 16383) 64 0
+
+pub started-none : (x : ℕ) → Started x 0 limits
+started-none x = record { long = length-replicate {A = ℕ} 64 16383; each = λ i h. absurd (omega arith) }
+
+pub started-more : {x t v : ℕ} {sums : List ℕ} → x < 64 → t < 64 → Started x t sums → v ≡ getD starts (64 - x + t) 0 → Started x (t + 1) (set sums t v)
+started-more {x} {t} {v} {sums} hx ht q e = record { long = length-set sums t v ∙ q .long; each = λ i h. each i h (ℕ-discrete i t) }
+  where
+    here : Dec (t ≡ x) → getD starts (64 - x + t) 0 ≡ getD (set limits x 0) t 0
+    here (yes s) =
+        let at : 64 - x + t ≡ 64 = omega arith in
+        rw (at, s) (getD-set-same (replicate 128 16383) 64 0 0 (omega (arith, length-replicate {A = ℕ} 128 16383)) ∙ sym (getD-set-same limits x 0 0 (omega (arith, length-replicate {A = ℕ} 64 16383))))
+    here (no s) =
+        getD-set-other (replicate 128 16383) 64 (64 - x + t) 0 0 (λ k. s (omega arith)) ∙ getD-replicate 128 (64 - x + t) 16383 0 (omega arith)
+        ∙ sym (getD-set-other limits x t 0 0 s ∙ getD-replicate 64 t 16383 0 ht)
+
+    each : (i : ℕ) → i < t + 1 → Dec (i ≡ t) → getD (set sums t v) i 0 ≡ getD (set limits x 0) i 0
+    each i h (yes s) = rw s (getD-set-same sums t v 0 (omega (arith, q .long)) ∙ e ∙ here (ℕ-discrete t x))
+    each i h (no s) = getD-set-other sums t i v 0 s ∙ q .each i (omega arith)
+
+pub started-all : {x : ℕ} {sums : List ℕ} → Started x 64 sums → sums ≡ set limits x 0
+started-all {x} {sums} q =
+    let long : length (set limits x 0) ≡ 64 = length-set limits x 0 ∙ length-replicate {A = ℕ} 64 16383 in
+    ext-getD 0 sums (set limits x 0) (q .long ∙ sym long) (λ i h. q .each i (omega (arith, q .long)))
 
 module _ {x heads : ℕ} (cells : List ℕ) where
   pub sums-first : x < 64 → RowSums x heads heads cells (set limits x 0)

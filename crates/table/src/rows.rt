@@ -2,7 +2,7 @@
 // columns have 64 turns for every network, so that they go over eight cells at once.
 use crate::narrow::LIMIT;
 ghost use mathlib.Core.Path.{_≡_};
-ghost use lib.ListN.{getD};
+ghost use lib.ListN.{getD, set, replicate};
 ghost use Prim.Native.Nat.{_≤_, _<_, min};
 ghost use Rattle.metric.specs.Area.{areaCell};
 ghost use Rattle.table.specs.Sums.{Differs, SameCells};
@@ -51,13 +51,28 @@ fn same_row(x: usize, cells: &[u16; 4096], sums: &[u16; 64]) -> bool
     differing == 0
 }
 
+// The first sums of row x: 0 in column x, and the limit in every other. They are read from numbers that were put together once, a 0 between
+// 64 limits on each side: a number that is stored into eight others, which are then read at once, would keep the processor waiting.
+fn first_sums(x: usize, starts: &[u16; 128]) -> [u16; 64]
+    requires { ⌜ (x < 64) × (now starts ≡ set (replicate 128 16383) 64 0) ⌝ }
+    ensures { λ r. ⌜ r ≡ set (replicate 64 16383) x 0 ⌝ }
+{
+    let at = 64 - x;
+    let mut sums = [LIMIT; 64];
+    let mut t = 0;
+    while t < 64 {
+        sums[t] = starts[at + t];
+        t += 1;
+    }
+    sums
+}
+
 // Whether row x is the least sums over the routers of a set. The loop takes the router of the lowest bit and clears the bit.
-fn row_right(x: usize, heads: u64, cells: &[u16; 4096]) -> bool
-    requires { ⌜ (x < 64) × Little (now cells) ⌝ }
+fn row_right(x: usize, heads: u64, starts: &[u16; 128], cells: &[u16; 4096]) -> bool
+    requires { ⌜ (x < 64) × Little (now cells) × (now starts ≡ set (replicate 128 16383) 64 0) ⌝ }
     ensures { λ r. ⌜ RowTested x heads (now (cells .entry)) r ⌝ }
 {
-    let mut sums = [LIMIT; 64];
-    sums[x] = 0;
+    let mut sums = first_sums(x, starts);
     let mut rest = heads;
     while rest != 0 {
         let head = u64::trailing_zeros(rest) as usize;
@@ -72,9 +87,11 @@ pub(crate) fn rows_right(n: usize, heads: &[u64; 64], cells: &[u16; 4096]) -> bo
     requires { ⌜ (n ≤ 64) × Little (now cells) ⌝ }
     ensures { λ r. ⌜ RowsTested n (now (heads .entry)) (now (cells .entry)) r ⌝ }
 {
+    let mut starts = [LIMIT; 128];
+    starts[64] = 0;
     let mut x = 0;
     while x < n {
-        if !row_right(x, heads[x], cells) {
+        if !row_right(x, heads[x], &starts, cells) {
             return false;
         }
         x += 1;

@@ -12,23 +12,22 @@ use Rattle.table.proofs.rows.row_right.Statement.{statement}
 use Rattle.table.proofs.rows.row_right.Tie as tie
 
 abbrev Inv-loop : tie.InvT-loop
-Inv-loop x heads cells sums₀ rest₀ sums rest = (rest < 2 ^ 64) × RowSums x heads rest cells sums
+Inv-loop x heads starts cells sums₀ rest₀ sums rest = (rest < 2 ^ 64) × RowSums x heads rest cells sums
 
 abbrev μ-loop : tie.MeasureT-loop
-μ-loop x heads cells sums₀ rest₀ sums rest = rest
+μ-loop x heads starts cells sums₀ rest₀ sums rest = rest
 
 -- a turn takes the lowest bit
 head : (c : tie.In-loop Inv-loop μ-loop) → Taken (c .before .loop .rest) (bitAnd (c .before .loop .rest) (c .before .loop .rest - 1)) (trailingZeros 64 (c .before .loop .rest))
 head c = taken (c .before .loop .rest) (λ e. omega arith) (c .before .loop .inv .0)
 
-mul-sums : tie.Need-mul-sums Inv-loop μ-loop
-mul-sums c = search needs
-
-array-write-sums : tie.Need-array-write-sums Inv-loop μ-loop
-array-write-sums c = search needs
+first-sums-requires : tie.Need-first-sums-requires Inv-loop μ-loop
+first-sums-requires c κs = search needs
 
 loop-holds : tie.Need-loop-holds Inv-loop μ-loop
-loop-holds c = (omega arith, sums-first (c .args .cells .now) (c .pre .0))
+loop-holds c =
+    let start = c .before in
+    (omega arith, rw (c .first-sums .ensures) (sums-first (start .args .cells .now) (start .pre .0)))
 
 cast-head : tie.Need-cast-head Inv-loop μ-loop
 cast-head c = omega (arith, head c .in-row)
@@ -46,12 +45,12 @@ mul-lower-2 : tie.Need-mul-lower-2 Inv-loop μ-loop
 mul-lower-2 c = omega (arith, head c .in-row)
 
 element-copy-out-lower : tie.Need-element-copy-out-lower Inv-loop μ-loop
-element-copy-out-lower c = omega (arith, c .before .before .pre .0, head c .in-row)
+element-copy-out-lower c = omega (arith, c .before .before .before .pre .0, head c .in-row)
 
 lower-requires : tie.Need-lower-requires Inv-loop μ-loop
 lower-requires c κs =
     let turn = c .before .before in
-    let start = turn .before .before in
+    let start = turn .before .before .before in
     (start .pre .1 (start .args .x) _ (start .pre .0) (head turn .in-row), head turn .in-row, start .pre .1, turn .before .loop .inv .1 .little)
 
 loop-less : tie.Need-loop-less Inv-loop μ-loop
@@ -60,7 +59,7 @@ loop-less c = head (c .before .before .before) .fewer
 loop-again : tie.Need-loop-again Inv-loop μ-loop
 loop-again c =
     let turn = c .before .before .before in
-    let start = turn .before .before in
+    let start = turn .before .before .before in
     (omega (arith, head turn .fewer), sums-next (start .args .cells .now) (start .pre .0) (turn .before .loop .inv .1) (head turn) refl (c .lower .ensures))
 
 same-row-requires : tie.Need-same-row-requires Inv-loop μ-loop
@@ -69,7 +68,7 @@ same-row-requires c κs = search needs
 returns : tie.Need-returns Inv-loop μ-loop
 returns c =
     let at-loop = c .before .before .before in
-    let start = at-loop .before in
+    let start = at-loop .before .before in
     let e : at-loop .loop .rest ≡ 0 = omega arith in
     sums-told (start .args .cells .now) (start .pre .0) (start .pre .1)
     (subst (λ (rest : ℕ). RowSums (start .args .x) (start .args .heads) rest (start .args .cells .now) (at-loop .loop .sums)) e (at-loop .loop .inv .1)) (c .same-row .ensures)
@@ -80,8 +79,7 @@ row-right-spec =
     (tie.spec
     Inv-loop
     μ-loop
-    mul-sums
-    array-write-sums
+    first-sums-requires
     loop-holds
     cast-head
     sub-rest

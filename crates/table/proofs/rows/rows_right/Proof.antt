@@ -11,10 +11,13 @@ use Rattle.table.proofs.rows.rows_right.Statement.{statement}
 use Rattle.table.proofs.rows.rows_right.Tie as tie
 
 abbrev Inv-loop : tie.InvT-loop
-Inv-loop n heads cells x₀ x = (x ≤ n) × RowsRight x heads cells
+Inv-loop n heads cells starts x₀ x = (x ≤ n) × RowsRight x heads cells
 
 abbrev μ-loop : tie.MeasureT-loop
-μ-loop n heads cells x₀ x = n - x
+μ-loop n heads cells starts x₀ x = n - x
+
+array-write-starts : tie.Need-array-write-starts Inv-loop μ-loop
+array-write-starts c = search needs
 
 loop-holds : tie.Need-loop-holds Inv-loop μ-loop
 loop-holds c = (omega arith, λ x h. absurd (omega arith))
@@ -30,7 +33,7 @@ row-right-requires c κs = search needs
 
 returns : tie.Need-returns Inv-loop μ-loop
 returns c =
-    let turn = c .before .before .before in
+    let turn = c .before .before .before .before in
     let a = turn .before .before .args in
     one-wrong (a .heads .now) (a .cells .now) (turn .loop-test .taken) (c .before .row-right .ensures) (not-true _ (c .if1 .taken))
 
@@ -42,7 +45,7 @@ loop-less c = search needs
 
 loop-again : tie.Need-loop-again Inv-loop μ-loop
 loop-again c =
-    let turn = c .before .before .before in
+    let turn = c .before .before .before .before in
     let a = turn .before .before .args in
     (omega arith, all-more (a .heads .now) (a .cells .now) (turn .before .loop .x) (turn .before .loop .inv .1) (c .before .row-right .ensures .right (not-false _ (c .if1 .left))))
 
@@ -58,6 +61,7 @@ rows-right-spec =
     (tie.spec
     Inv-loop
     μ-loop
+    array-write-starts
     loop-holds
     mul-row-right
     element-copy-out-row-right
