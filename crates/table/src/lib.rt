@@ -16,10 +16,10 @@ ghost use Rattle.metric.specs.Columns.{arcsIn};
 ghost use Rattle.table.specs.Calls.{costsFit, tableHolds};
 ghost use Rattle.table.specs.Sums.{Tested};
 
-mod arcs;
 mod costs;
+mod keep;
 mod narrow;
-mod rows;
+mod row;
 mod sums;
 
 // Whether each cell is 0 on the diagonal, and elsewhere the least sum. No arc may cost less than its cell. The rest is tested by sums of 16
@@ -37,7 +37,7 @@ fn agrees<'a>(
     ensures { λ r. ⌜ Tested (arcsIn (now (from .entry)) (now (to .entry)) (now (out .entry)) (now (back .entry)) links) n (now (table .entry)) r ⌝ }
 {
     let mut heads = [0u64; 64];
-    if !arcs::keep_arcs(n, links, from, to, out, back, table, &mut heads) {
+    if !keep::keep_arcs(n, links, from, to, out, back, table, &mut heads) {
         return false;
     }
     if narrow::LONGEST < narrow::all_bits(n * n, table) {
@@ -45,7 +45,7 @@ fn agrees<'a>(
     }
     let mut cells = [narrow::LIMIT; 4096];
     narrow::copy_rows(n, table, &mut cells);
-    rows::rows_right(n, &heads, &cells)
+    row::rows_right(n, &heads, &cells)
 }
 
 // Whether the first routers * routers cells of the table are the distances, row by row, row = start.

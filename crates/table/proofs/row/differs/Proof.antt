@@ -1,8 +1,8 @@
 -- `differs` by its two cases.
 -- Assumes nothing.
 use Rattle.table.proofs.CellLaws.{differs-none, differs-one}
-use Rattle.table.proofs.rows.differs.Statement.{statement}
-use Rattle.table.proofs.rows.differs.Tie as tie
+use Rattle.table.proofs.row.differs.Statement.{statement}
+use Rattle.table.proofs.row.differs.Tie as tie
 
 returns : tie.Need-returns
 returns c = differs-none (c .if1 .taken)

@@ -7,8 +7,8 @@ use lib.ListN.{getD}
 use borrow.Author.Needs.{needs}
 use Rattle.metric.specs.Area.{areaCell}
 use Rattle.table.proofs.CellLaws.{Differing, differing-none, differing-more, differing-told}
-use Rattle.table.proofs.rows.same_row.Statement.{statement}
-use Rattle.table.proofs.rows.same_row.Tie as tie
+use Rattle.table.proofs.row.same_row.Statement.{statement}
+use Rattle.table.proofs.row.same_row.Tie as tie
 
 abbrev Inv-loop : tie.InvT-loop
 Inv-loop x cells sums at differing₀ t₀ differing t = (t ≤ 64) × Differing t (areaCell 64 cells x) (λ j. getD sums j 0) differing

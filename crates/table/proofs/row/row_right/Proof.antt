@@ -8,8 +8,8 @@ use lib.Bits.{bitAnd}
 use lib.Count.{trailingZeros}
 use Rattle.table.proofs.RowLaws.{RowSums, sums-first, sums-next, sums-told}
 use Rattle.table.proofs.BitLaws.{Taken, taken}
-use Rattle.table.proofs.rows.row_right.Statement.{statement}
-use Rattle.table.proofs.rows.row_right.Tie as tie
+use Rattle.table.proofs.row.row_right.Statement.{statement}
+use Rattle.table.proofs.row.row_right.Tie as tie
 
 abbrev Inv-loop : tie.InvT-loop
 Inv-loop x heads starts cells sums₀ rest₀ sums rest = (rest < 2 ^ 64) × RowSums x heads rest cells sums

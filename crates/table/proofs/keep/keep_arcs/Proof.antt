@@ -8,8 +8,8 @@ use borrow.Author.Needs.{needs}
 use Rattle.table.specs.Rows.{Over, Kept}
 use Rattle.table.proofs.KeepLaws.{links-none, links-more, links-under, links-kept}
 use borrow.Author.Tests.{not-true, not-false}
-use Rattle.table.proofs.arcs.keep_arcs.Statement.{statement}
-use Rattle.table.proofs.arcs.keep_arcs.Tie as tie
+use Rattle.table.proofs.keep.keep_arcs.Statement.{statement}
+use Rattle.table.proofs.keep.keep_arcs.Tie as tie
 
 abbrev Inv-loop : tie.InvT-loop
 Inv-loop n links from to out back table heads₀ k₀ heads k = (k ≤ links) × Kept (Over from to out back k) n table heads

@@ -7,8 +7,8 @@ use borrow.Author.Needs.{needs}
 use borrow.Author.Tests.{not-true, not-false}
 use Rattle.table.specs.Rows.{RowsRight}
 use Rattle.table.proofs.RowLaws.{all-more, all-right, one-wrong}
-use Rattle.table.proofs.rows.rows_right.Statement.{statement}
-use Rattle.table.proofs.rows.rows_right.Tie as tie
+use Rattle.table.proofs.row.rows_right.Statement.{statement}
+use Rattle.table.proofs.row.rows_right.Tie as tie
 
 abbrev Inv-loop : tie.InvT-loop
 Inv-loop n heads cells starts x₀ x = (x ≤ n) × RowsRight x heads cells

@@ -5,8 +5,8 @@ use borrow.Author.Needs.{needs}
 use lib.Arith.{digits-lt}
 use Rattle.table.proofs.CellLaws.{cell-few, row-few}
 use Rattle.table.proofs.KeepLaws.{arc-under, arc-over, arc-equal}
-use Rattle.table.proofs.arcs.keep_arc.Statement.{statement}
-use Rattle.table.proofs.arcs.keep_arc.Tie as tie
+use Rattle.table.proofs.keep.keep_arc.Statement.{statement}
+use Rattle.table.proofs.keep.keep_arc.Tie as tie
 
 cost-of-requires : tie.Need-cost-of-requires
 cost-of-requires c κs = search needs

@@ -3,8 +3,8 @@
 use mir.Syntax.{w16}
 use borrow.Author.Needs.{needs}
 use Rattle.table.proofs.CellLaws.{least-first, least-second}
-use Rattle.table.proofs.rows.least.Statement.{statement}
-use Rattle.table.proofs.rows.least.Tie as tie
+use Rattle.table.proofs.row.least.Statement.{statement}
+use Rattle.table.proofs.row.least.Tie as tie
 
 cast-if1 : tie.Need-cast-if1
 cast-if1 c = search needs

@@ -6,8 +6,8 @@ use native.Mathlib.Omega.{arith}
 use borrow.Author.Needs.{needs}
 use Rattle.table.specs.Rows.{SumsLowered}
 use Rattle.table.proofs.RowLaws.{low-none, low-more}
-use Rattle.table.proofs.rows.lower.Statement.{statement}
-use Rattle.table.proofs.rows.lower.Tie as tie
+use Rattle.table.proofs.row.lower.Statement.{statement}
+use Rattle.table.proofs.row.lower.Tie as tie
 
 abbrev Inv-loop : tie.InvT-loop
 Inv-loop cost head cells sums₀ by t₀ sums t = (t ≤ 64) × SumsLowered cost head t cells sums₀ sums
