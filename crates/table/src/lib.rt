@@ -1,7 +1,7 @@
 // Whether a table that is lent holds the distances of a network, whoever filled it. `holds_distances` only reads the table, in one pass
 // over the links: it does not work the distances out. A cell off the diagonal has to be the least sum, over the arcs that leave its row's
-// router, of the arc's cost and the cell of the router that the arc leads to; one on the diagonal has to be 0. The sums have 16 bits where
-// the cells allow it (`narrow`), and else 32 (`sums`).
+// router, of the arc's cost and the cell of the router that the arc leads to; one on the diagonal has to be 0. Where the cells allow it the
+// sums have 16 bits, and only the arcs count that cost what their cell says (`keep`, `narrow`, `row`); else they have 32 (`sums`).
 //
 // It takes any numbers. Where they are not those of a network, the answer is no.
 use costs::costs_fit;
