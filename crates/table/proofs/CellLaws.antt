@@ -3,7 +3,7 @@
 use Prim.Native.Nat.{ℕ, _+_, _-_, _*_, _/_, _%_, _^_, _≤_, _<_, min}
 use mathlib.Core.Path.{_≡_, sym, ap, ap₂, _∙_}
 use mathlib.Core.Bool.{true, false}
-use mathlib.Core.Logic.{_⊎_, inl, inr, ⊎-elim, _↔_}
+use mathlib.Core.Logic.{⊎-elim, _↔_}
 use mathlib.Core.List.{List}
 use native.Mathlib.Omega.{arith}
 use native.Mathlib.Nat.{lt-of-lt-of-le, le-trans, mul-le-mul}
@@ -53,15 +53,15 @@ one-place {w} {x} {t} {a} {b} ht hb e =
 
 -- ---- what stands for a cell
 
--- What the numbers of a form have to be: the limit is above each sum of a hop and a finite cell, and unreachable above each such sum of the
--- table. A hop counts as less than it costs only where that is still above each finite cell.
+-- What the numbers of a form have to be: the limit is above each sum of a hop and a finite cell, unreachable above each such sum of the
+-- table, and each hop counts as what it costs.
 pub record Sized (f : Form) : Type 0 where
   pub gap : f .top + f .longest < f .limit
   pub fits : f .longest + 65535 < unreachable
-  pub over : (65535 ≤ f .top) ⊎ (f .longest < f .top)
+  pub whole : 65535 ≤ f .top
 
 pub sized32 : (n : ℕ) → Sized (form32 n)
-sized32 n = record { gap = omega arith; fits = omega arith; over = inl (omega arith) }
+sized32 n = record { gap = omega arith; fits = omega arith; whole = omega arith }
 
 pub stands-most : {longest limit d s : ℕ} → longest ≤ limit → Stands longest limit d s → s ≤ limit + 1
 stands-most h (real (finite k e)) = omega arith
@@ -93,23 +93,21 @@ module _ {f : Form} {d s : ℕ} (z : Sized f) where
   -- An arc that costs c leads from cell d to cell e. It undercuts d exactly where it undercuts what stands for d, and is tight for a finite
   -- d exactly where it is for what stands for d.
   pub real-slack : {c e u : ℕ} → c ≤ 65535 → Real (f .longest) (f .limit) d s → Real (f .longest) (f .limit) e u → (d ≤ c + e) ↔ (s ≤ min c (f .top) + u)
-  real-slack {c} {e} {u} k p q = go (z .over) p q
+  real-slack {c} {e} {u} k p q = go p q
     where
-      go : (65535 ≤ f .top) ⊎ (f .longest < f .top) → Real (f .longest) (f .limit) d s → Real (f .longest) (f .limit) e u → (d ≤ c + e) ↔ (s ≤ min c (f .top) + u)
-      go (inl o) (finite h i) (finite h′ i′) = (λ g. omega arith, λ g. omega arith)
-      go (inr o) (finite h i) (finite h′ i′) = (λ g. omega arith, λ g. omega arith)
-      go _ (finite h i) (infinite h′ i′) = (λ g. omega arith, λ g. omega arith)
-      go _ (infinite h i) (finite h′ i′) = (λ g. absurd (omega arith), λ g. absurd (omega arith))
-      go _ (infinite h i) (infinite h′ i′) = (λ g. omega arith, λ g. omega arith)
+      go : Real (f .longest) (f .limit) d s → Real (f .longest) (f .limit) e u → (d ≤ c + e) ↔ (s ≤ min c (f .top) + u)
+      go (finite h i) (finite h′ i′) = (λ g. omega arith, λ g. omega arith)
+      go (finite h i) (infinite h′ i′) = (λ g. omega arith, λ g. omega arith)
+      go (infinite h i) (finite h′ i′) = (λ g. absurd (omega arith), λ g. absurd (omega arith))
+      go (infinite h i) (infinite h′ i′) = (λ g. omega arith, λ g. omega arith)
 
   pub real-tight : {c e u : ℕ} → c ≤ 65535 → d < unreachable → Real (f .longest) (f .limit) d s → Real (f .longest) (f .limit) e u → (c + e ≡ d) ↔ (min c (f .top) + u ≡ s)
-  real-tight {c} {e} {u} k g p q = go (z .over) p q
+  real-tight {c} {e} {u} k g p q = go p q
     where
-      go : (65535 ≤ f .top) ⊎ (f .longest < f .top) → Real (f .longest) (f .limit) d s → Real (f .longest) (f .limit) e u → (c + e ≡ d) ↔ (min c (f .top) + u ≡ s)
-      go (inl o) (finite h i) (finite h′ i′) = (λ e. omega arith, λ e. omega arith)
-      go (inr o) (finite h i) (finite h′ i′) = (λ e. omega arith, λ e. omega arith)
-      go _ (finite h i) (infinite h′ i′) = (λ e. absurd (omega arith), λ e. absurd (omega arith))
-      go _ (infinite h i) _ = absurd (omega arith)
+      go : Real (f .longest) (f .limit) d s → Real (f .longest) (f .limit) e u → (c + e ≡ d) ↔ (min c (f .top) + u ≡ s)
+      go (finite h i) (finite h′ i′) = (λ e. omega arith, λ e. omega arith)
+      go (finite h i) (infinite h′ i′) = (λ e. absurd (omega arith), λ e. absurd (omega arith))
+      go (infinite h i) _ = absurd (omega arith)
 
 -- ---- cells for sums of 32 bits
 
