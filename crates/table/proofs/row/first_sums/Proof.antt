@@ -7,8 +7,8 @@ use native.Mathlib.Omega.{arith}
 use lib.ListN.{getD}
 use borrow.Author.Needs.{needs}
 use Rattle.table.proofs.RowLaws.{Started, started-none, started-more, started-all}
-use Rattle.table.proofs.rows.first_sums.Statement.{statement}
-use Rattle.table.proofs.rows.first_sums.Tie as tie
+use Rattle.table.proofs.row.first_sums.Statement.{statement}
+use Rattle.table.proofs.row.first_sums.Tie as tie
 
 abbrev Inv-loop : tie.InvT-loop
 Inv-loop x starts at sums₀ t₀ sums t = (t ≤ 64) × Started x t sums
