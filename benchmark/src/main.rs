@@ -24,7 +24,7 @@ const CALLS: [(&str, Option<f64>); 12] = [
     ("link repair with table", Some(1.5)),
     ("prefix repair with table", Some(1.5)),
     ("route with table", Some(1.5)),
-    ("plan", Some(2.0)),
+    ("plan", Some(1.0)),
     ("write", None),
     ("drill", None),
 ];
