@@ -1,4 +1,6 @@
 // The answers of the repair part's calls, what a search found as one of them, and the size of a set that one of them tells.
+#![tactic(auto)]
+
 ghost use Rattle.std.specs.Prelude.{◌≡◌};
 ghost use Rattle.lfa.specs.Space.{size_of};
 ghost use Rattle.lfa.specs.Answer.{repair_answer};

@@ -1,4 +1,6 @@
 // The arcs of the link columns by their numbers: where an arc leads, what it costs, and whether it is a first hop of a repair.
+#![tactic(auto)]
+
 ghost use Rattle.std.specs.Prelude.{◌≡◌};
 ghost use Rattle.avoid.specs.Avoiding.{asked};
 ghost use Rattle.arcs.specs.Arcs.{side_of, hop_in, hop_by, leaves_near};

@@ -10,8 +10,8 @@ use lib.Dec.{ltb}
 use lib.ListN.{length}
 use borrow.Author.Tests.{ltb-true, le-ltb}
 use Rattle.lfa.specs.Space.{under_maintenance, Protected, set_of}
-use Rattle.lfa.specs.Laws.Test.{and_left, and_right, fails_left, fails_right}
-use Rattle.lfa.specs.Laws.Set.{set_of_same}
+use Rattle.lfa.proofs.Laws.Test.{and_left, and_right, fails_left, fails_right}
+use Rattle.lfa.proofs.Laws.Set.{set_of_same}
 use Rattle.metric.specs.Fit.{cells_fit}
 use Rattle.metric.specs.Laws.Fit.{cells_give}
 use Rattle.metric.specs.Area.{held}

@@ -6,6 +6,8 @@
 // test and those in the sums are handed in apart; they may be of one network, or of two that differ in their costs.
 //
 // The functions take any numbers. Where no distances can be read for them, the set is empty.
+#![tactic(auto)]
+
 ghost use Rattle.std.specs.Prelude.{◌≡◌, get_or};
 ghost use Rattle.avoid.specs.Avoiding.{asked};
 ghost use Rattle.avoid.specs.Calls.{readable, avoiding_to, avoiding_from, missing_from};

@@ -4,7 +4,7 @@ use mathlib.Core.Path.{◌≡◌}
 use mathlib.Core.Bool.{◌&&◌}
 use lib.Dec.{eqb}
 use Rattle.lfa.specs.File.{Bytes, byte_at, part_of, all_zero, head_good}
-use Rattle.lfa.specs.Laws.Test.{and_left, and_right, and_make, same_test}
+use Rattle.lfa.proofs.Laws.Test.{and_left, and_right, and_make, same_test}
 use Rattle.block.specs.Head.{label_good, counts_good}
 
 -- The label, byte 5, the three counts, the rest: both sides ask the same nine tests, so that either passes where the other does.

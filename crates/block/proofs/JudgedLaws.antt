@@ -12,7 +12,7 @@ use Rattle.lfa.specs.Lists.{first_failing}
 use Rattle.lfa.specs.File.{Bytes, blocks_in, links_of, prefixes_of, blocks_needed}
 use Rattle.lfa.specs.File.{length_good, check_good, head_good, block_count_good, block_good}
 use Rattle.lfa.specs.Refusal.{file_returned, bad_length, bad_check, bad_head, bad_block_count, bad_block, decided, first_row}
-use Rattle.lfa.specs.Laws.FirstFailing.{unless_good}
+use Rattle.lfa.proofs.Laws.FirstFailing.{unless_good}
 use Rattle.block.specs.First.{first_or}
 use Rattle.block.specs.Laws.First.{answer_found, answer_none}
 use Rattle.block.specs.Judged.{later_rows, block_rows}

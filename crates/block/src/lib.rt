@@ -1,4 +1,6 @@
 // The blocks of a network file: judges a file by rows 1 to 5 of document 01, in order.
+#![tactic(auto)]
+
 ghost use Rattle.std.specs.Prelude.{◌≡◌, ◌*◌, ◌≤◌, length};
 ghost use Rattle.lfa.specs.File.{blocks_in};
 ghost use Rattle.lfa.specs.Refusal.{file_returned, first_row};

@@ -3,7 +3,7 @@
 use Rattle.std.proofs.Common.{◌≡◌, ℕ, ◌+◌, ◌*◌, ◌%◌, drop, refl, ap, ◌∙◌, arith, drop-drop}
 use native.Mathlib.Nat.{mod-add-mod}
 use Rattle.lfa.specs.File.{Bytes, word_at, sum_words}
-use Rattle.lfa.specs.Laws.File.Sum.{sum_split, sum_word, sum_next}
+use Rattle.lfa.proofs.Laws.File.Sum.{sum_split, sum_word, sum_next}
 
 sum_three : (at : ℕ) (b : Bytes) → sum_words 3 (drop at b) ≡ word_at b at + word_at b (at + 2) + word_at b (at + 2 + 2)
 unfolding sum_words

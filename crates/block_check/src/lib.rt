@@ -1,4 +1,6 @@
 // The check that every block ends with, added up from numbers of eight bytes.
+#![tactic(auto)]
+
 ghost use Rattle.std.specs.Prelude.{◌≡◌, ◌+◌, ◌*◌, ◌/◌, ◌%◌, ◌≤◌, length, drop};
 ghost use Rattle.lfa.specs.File.{word_at, sum_words, check_of};
 ghost use Rattle.block_check.specs.Lanes.{lanes_of, odd_lanes};

@@ -4,7 +4,7 @@ use Rattle.std.specs.Prelude.{◌≡◌, ℕ, ◌<◌, ◌≤◌, true, false}
 use Rattle.std.proofs.Math.Option.{none, some}
 use Rattle.std.proofs.Common.{arith}
 use Rattle.lfa.specs.Lists.{first_failing, FirstFails}
-use Rattle.lfa.specs.Laws.FirstFailing.{all_passing, failing_first}
+use Rattle.lfa.proofs.Laws.FirstFailing.{all_passing, failing_first}
 use Rattle.lfa.specs.File.{Bytes, blocks_in, check_good}
 
 -- the first of the whole blocks whose check is wrong, or their number where none is

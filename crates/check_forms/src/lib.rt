@@ -1,5 +1,7 @@
 // Both forms of the check of a block, for the benchmark alone: the two bytes of one word at a time, as it was once added up, and the
 // numbers of eight bytes of `block_check`. One promise holds for both, so that only their times can differ.
+#![tactic(auto)]
+
 ghost use Rattle.std.specs.Prelude.{◌≡◌, ◌+◌, ◌*◌, ◌≤◌, length};
 ghost use Rattle.lfa.specs.File.{check_of, check_good};
 ghost use Rattle.check_forms.specs.FirstBad.{first_bad};

@@ -9,7 +9,7 @@ use lib.Dec.{ltb}
 use lib.ListN.{length, replicate}
 use Rattle.lfa.specs.Network.{router}
 use Rattle.lfa.specs.Distance.{towards}
-use Rattle.lfa.specs.Laws.Test.{fails_left, fails_right}
+use Rattle.lfa.proofs.Laws.Test.{fails_left, fails_right}
 use Rattle.metric.specs.Fit.{cells_fit, slots_fit, SlotsWithin}
 use Rattle.metric.specs.Area.{held}
 use Rattle.metric.specs.Column.{column, slots_in}

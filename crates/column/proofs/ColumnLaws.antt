@@ -10,8 +10,8 @@ use Rattle.lfa.specs.Lists.{count_up, below}
 use Rattle.lfa.specs.FileOf.{pad}
 use Rattle.lfa.specs.Network.{Attachment, at, Target}
 use Rattle.lfa.specs.Distance.{unreachable, least, cost_over, towards}
-use Rattle.lfa.specs.Laws.Target.{towards_most}
-use Rattle.lfa.specs.Laws.Counting.{length_map_below}
+use Rattle.lfa.proofs.Laws.Target.{towards_most}
+use Rattle.lfa.proofs.Laws.Counting.{length_map_below}
 use Rattle.metric.specs.Column.{column, slots_in}
 use Rattle.metric.specs.Laws.List.{map_below_more}
 

@@ -10,7 +10,7 @@ use lib.ListN.{get_or}
 use lib.Pow.{shl_exact}
 use Rattle.lfa.specs.Lists.{count_up, below, any_of}
 use Rattle.lfa.specs.Space.{set_of}
-use Rattle.lfa.specs.Laws.Set.{set_of_same}
+use Rattle.lfa.proofs.Laws.Set.{set_of_same}
 use Rattle.metric.specs.Laws.List.{below_more, any_more}
 use Rattle.metric.specs.Laws.Set.{or_set_of, one_router_lem, set_of_none}
 use Rattle.column.specs.Calls.{in_slots}

@@ -1,6 +1,8 @@
 // The distances to a target, one for each router, read from an area that holds the distances; and the routers attached to a prefix.
 //
 // The public functions take any numbers. Where they are not those of a network, the column is all zeros, and the set is empty.
+#![tactic(auto)]
+
 ghost use Rattle.std.specs.Prelude.{◌≡◌, ◌*◌, ◌≤◌, ◌<◌, length};
 ghost use Rattle.lfa.specs.Distance.{towards};
 ghost use Rattle.lfa.specs.Network.{router};

@@ -6,7 +6,7 @@ use Rattle.lfa.specs.Question.{Question}
 use Rattle.lfa.specs.Refusal.{Posed}
 use Rattle.lfa.specs.Answer.{Answer, answer_to}
 use Rattle.lfa.specs.Demands.{Demand3}
-use Rattle.lfa.specs.Laws.Demands.{demands}
+use Rattle.lfa.proofs.Laws.Demands.{demands}
 
 -- "For every accepted file, every link and end of it, and every prefix ..": the answer to a question that no row before 14 turns away
 pub record MeetsDemand3 (q : Question) (answer : Answer) : Type 0 where

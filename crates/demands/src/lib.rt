@@ -1,5 +1,7 @@
 // Demand 3, said of the calls for a link's repair and a prefix's repair and proved from their contracts alone: what is promised of
 // document 01's answer is promised of what the calls return. The equations say what is answered to every other question.
+#![tactic(auto)]
+
 ghost use Rattle.std.specs.Prelude.{◌≡◌, length};
 ghost use Rattle.lfa.specs.Question.{ask_link, ask_prefix, ask_link_with, ask_prefix_with};
 ghost use Rattle.lfa.specs.Answer.{answer_to};

@@ -12,7 +12,7 @@ use borrow.Rule.Slice.PartMut.{put_mid, Post-is}
 use Rattle.lfa.specs.Lists.{flat}
 use Rattle.lfa.specs.Network.{arcs}
 use Rattle.lfa.specs.Distance.{stage, distances, distance_in, filled}
-use Rattle.lfa.specs.Laws.Test.{and_make, fails_left, fails_right}
+use Rattle.lfa.proofs.Laws.Test.{and_make, fails_left, fails_right}
 use Rattle.metric.specs.Fit.{cells_fit, links_fit}
 use Rattle.metric.specs.Columns.{arcs_in, network_in}
 use Rattle.metric.specs.Laws.Area.{area_filled_lem}

@@ -7,11 +7,11 @@ use mathlib.Core.List.{List, map, Memᴰ}
 use native.Mathlib.Omega.{arith}
 use Rattle.lfa.specs.Network.{Arc, arc}
 use Rattle.lfa.specs.Distance.{unreachable, RouterPath, stay, via, LeastCosts, stage, distance_in}
-use Rattle.lfa.specs.Laws.Walk.{Descends, level}
-use Rattle.lfa.specs.Laws.Arrive.{Within}
-use Rattle.lfa.specs.Laws.Bound.{Sound, distance_small, path_finite}
-use Rattle.lfa.specs.Laws.Distance.{distances_least}
-use Rattle.lfa.specs.Laws.List.{map_gives, map_make}
+use Rattle.lfa.proofs.Laws.Walk.{Descends, level}
+use Rattle.lfa.proofs.Laws.Arrive.{Within}
+use Rattle.lfa.proofs.Laws.Bound.{Sound, distance_small, path_finite}
+use Rattle.lfa.proofs.Laws.Distance.{distances_least}
+use Rattle.lfa.proofs.Laws.List.{map_gives, map_make}
 use Rattle.distance.specs.Cells.{CostsCapped}
 
 -- the same hop at the largest cost

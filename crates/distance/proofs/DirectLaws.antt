@@ -15,8 +15,8 @@ use borrow.Author.Tests.{eq-eqb, eqb-true}
 use Rattle.lfa.specs.Lists.{below, count_up}
 use Rattle.lfa.specs.Network.{Arc, arc, arcs_from}
 use Rattle.lfa.specs.Distance.{unreachable, least, hop_cost}
-use Rattle.lfa.specs.Laws.Test.{and_left, and_right, and_make}
-use Rattle.lfa.specs.Laws.Hop.{least_most}
+use Rattle.lfa.proofs.Laws.Test.{and_left, and_right, and_make}
+use Rattle.lfa.proofs.Laws.Hop.{least_most}
 use Rattle.metric.specs.Area.{area_cell}
 use Rattle.metric.specs.Columns.{links_in, arcs_in}
 use Rattle.metric.specs.Laws.List.{map_below_more}

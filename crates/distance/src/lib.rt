@@ -1,6 +1,8 @@
 // Distances between the routers of a network: the least sum of link costs over all paths. `fill` leaves them in an area, row by row.
 //
 // It takes any numbers. Where they are not those of a network, the area stays as it was.
+#![tactic(auto)]
+
 ghost use Rattle.std.specs.Prelude.{◌≡◌};
 ghost use Rattle.distance.specs.Calls.{area_filled};
 

@@ -14,8 +14,8 @@ use Rattle.lfa.specs.Lists.{count_up, below}
 use Rattle.lfa.specs.Network.{link}
 use Rattle.lfa.specs.Ring.{next_on_ring, ring_link, ring_of}
 use Rattle.lfa.specs.Drill.{replaced, seed_after, upper_bits, draw, cost_drawn, out_drawn, back_drawn, drill_of}
-use Rattle.lfa.specs.Laws.Test.{decide}
-use Rattle.lfa.specs.Laws.Counting.{map_below_same}
+use Rattle.lfa.proofs.Laws.Test.{decide}
+use Rattle.lfa.proofs.Laws.Counting.{map_below_same}
 use Rattle.metric.specs.Columns.{links_in}
 use Rattle.network_file.specs.declared.network.Network.{Network}
 use Rattle.network_file.specs.Held.{targets_in, network_held}

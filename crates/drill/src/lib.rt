@@ -1,5 +1,7 @@
 // Drills: training networks by number (Point 13). A drill is a ring whose costs are drawn from a seed, made as a network by value and
 // written by `writer`.
+#![tactic(auto)]
+
 ghost use Rattle.std.specs.Prelude.{◌≡◌, ◌+◌, ◌/◌, ◌%◌, ◌≤◌, ◌<◌};
 ghost use Rattle.lfa.specs.Ring.{next_on_ring};
 ghost use Rattle.lfa.specs.Drill.{replaced, upper_bits, drill_of, Drilled};

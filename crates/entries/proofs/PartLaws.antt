@@ -10,7 +10,7 @@ use borrow.Author.Tests.{lt-ltb}
 use Rattle.lfa.specs.File.{Bytes, word_at, links_of, prefixes_of, link_entry, prefix_entry}
 use Rattle.lfa.specs.Refusal.{file_refusal, FileRow, Decided}
 use Rattle.lfa.specs.Answer.{part_if, link_part, prefix_part}
-use Rattle.lfa.specs.Laws.Accepted.{no_part, no_link_part, no_prefix_part}
+use Rattle.lfa.proofs.Laws.Accepted.{no_part, no_link_part, no_prefix_part}
 use Rattle.block.specs.Judged.{Sized}
 use Rattle.network_file.specs.Load.{undecided}
 use Rattle.network_file.proofs.LoadLaws.{none_there, accepted_sized}

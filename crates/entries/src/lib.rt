@@ -1,4 +1,6 @@
 // The bytes of one named entry, as a part of the caller's file.
+#![tactic(auto)]
+
 ghost use Rattle.std.specs.Prelude.{◌≡◌, ◌+◌, ◌≤◌, length};
 ghost use Rattle.lfa.specs.File.{part_of};
 ghost use Rattle.lfa.specs.Answer.{link_part, prefix_part};

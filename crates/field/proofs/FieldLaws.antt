@@ -11,7 +11,7 @@ use lib.ListN.{get_or, length, drop}
 use lib.Seq.{drop-cons}
 use borrow.Author.Tests.{eq-eqb, ne_eqb}
 use Rattle.lfa.specs.File.{Bytes, byte_at, word_at, all_zero}
-use Rattle.lfa.specs.Laws.Test.{fails_right}
+use Rattle.lfa.proofs.Laws.Test.{fails_right}
 
 -- ---- bytes past the end
 

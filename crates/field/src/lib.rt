@@ -1,5 +1,7 @@
 // The fields of a network file: 16-bit numbers, and bytes that are to be zero. Each function takes any bytes, and a byte past the
 // end counts as 0.
+#![tactic(auto)]
+
 ghost use Rattle.std.specs.Prelude.{◌≡◌, ◌+◌, ◌*◌};
 ghost use Rattle.lfa.specs.File.{word_at, all_zero};
 

@@ -9,8 +9,8 @@ use lib.Dec.{leb, ltb}
 use lib.ListN.{get_or}
 use borrow.Author.Tests.{le-leb, lt-leb, lt-ltb, le-ltb, ltb-true}
 use Rattle.lfa.specs.Lists.{every_below}
-use Rattle.lfa.specs.Laws.Test.{and_left, and_right, and_make, fails_left, fails_right, same_test}
-use Rattle.lfa.specs.Laws.List.{every_gives, every_make}
+use Rattle.lfa.proofs.Laws.Test.{and_left, and_right, and_make, fails_left, fails_right, same_test}
+use Rattle.lfa.proofs.Laws.List.{every_gives, every_make}
 use Rattle.metric.specs.Fit.{joins, links_fit, attaches, slots_fit}
 use Rattle.metric.specs.Laws.List.{every_fails, every_more}
 

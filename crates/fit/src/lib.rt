@@ -1,4 +1,6 @@
 // Whether columns that are handed in hold the links and the slots of a network.
+#![tactic(auto)]
+
 ghost use Rattle.std.specs.Prelude.{◌≡◌, max};
 ghost use Rattle.metric.specs.Fit.{links_fit, slots_fit};
 

@@ -19,4 +19,3 @@ pub mod Answer
 pub mod Contract
 pub mod Failures
 pub mod Demands
-pub mod Laws

@@ -9,7 +9,7 @@ use lib.Dec.{ltb}
 use lib.ListN.{length}
 use borrow.Author.Tests.{lt-ltb, le-ltb}
 use Rattle.lfa.specs.Distance.{unreachable}
-use Rattle.lfa.specs.Laws.Test.{fails_left, fails_right}
+use Rattle.lfa.proofs.Laws.Test.{fails_left, fails_right}
 use Rattle.metric.specs.Fit.{cells_fit}
 use Rattle.metric.specs.Area.{area_cell, cell_in}
 

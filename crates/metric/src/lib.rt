@@ -1,4 +1,6 @@
 // What the distances of a network are made of: the sums of costs, and the numbers as they are read from columns and areas.
+#![tactic(auto)]
+
 ghost use Rattle.std.specs.Prelude.{◌≡◌, ◌+◌, min};
 ghost use Rattle.lfa.specs.Distance.{unreachable};
 

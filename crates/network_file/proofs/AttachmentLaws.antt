@@ -11,8 +11,8 @@ use Rattle.lfa.specs.Lists.{below, flat}
 use Rattle.lfa.specs.Network.{Attachment}
 use Rattle.lfa.specs.File.{Bytes, byte_at, word_at, routers_of, prefix_entry, prefix_of, prefix_in, attachments, slot_router, slot, sound_prefix, prefix_good}
 use Rattle.lfa.specs.FileOf.{pad}
-use Rattle.lfa.specs.Laws.Counting.{map_below_same}
-use Rattle.lfa.specs.Laws.File.RowFacts.{prefix_facts, prefix_length}
+use Rattle.lfa.proofs.Laws.Counting.{map_below_same}
+use Rattle.lfa.proofs.Laws.File.RowFacts.{prefix_facts, prefix_length}
 use Rattle.network_file.specs.Struct.{router_of, cost_of, column, stored, attached_column, slot_column, prefix_columns, prefixes_in}
 use Rattle.network_file.specs.Entry.{PrefixesSound}
 use Rattle.network_file.proofs.SlotLaws.{zero_from}

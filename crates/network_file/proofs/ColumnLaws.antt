@@ -14,9 +14,9 @@ use lib.Seq.{set_at, get_or-append-add, ext_get_or}
 use borrow.Author.Tests.{ltb-true, ltb-false}
 use Rattle.lfa.specs.Lists.{count_up, below, flat}
 use Rattle.lfa.specs.FileOf.{pad}
-use Rattle.lfa.specs.Laws.Counting.{length_map_below, map_below_at, map_below_same}
-use Rattle.lfa.specs.Laws.Test.{decide}
-use Rattle.lfa.specs.Laws.Chunks.{part_element, length_flat, part_flat}
+use Rattle.lfa.proofs.Laws.Counting.{length_map_below, map_below_at, map_below_same}
+use Rattle.lfa.proofs.Laws.Test.{decide}
+use Rattle.lfa.proofs.Laws.Chunks.{part_element, length_flat, part_flat}
 use Rattle.network_file.specs.Struct.{column, stored}
 
 -- ---- one number more

@@ -10,11 +10,11 @@ use lib.ListN.{length}
 use Rattle.lfa.specs.Lists.{first_failing}
 use Rattle.lfa.specs.File.{Bytes, word_at, routers_of, links_of, prefixes_of, link_of, link_in, prefix_of, network_of, link_good, link_new, prefix_good, routers_new, blocks_needed}
 use Rattle.lfa.specs.Refusal.{file_returned, bad_link, parallel_link, bad_prefix, router_twice, decided, first_row}
-use Rattle.lfa.specs.Laws.List.{get_d_in}
-use Rattle.lfa.specs.Laws.FirstFailing.{none_failing}
-use Rattle.lfa.specs.Laws.Counting.{length_map_below}
-use Rattle.lfa.specs.Laws.Rows.{none_decides}
-use Rattle.lfa.specs.Laws.File.RowFacts.{link_facts}
+use Rattle.lfa.proofs.Laws.List.{get_d_in}
+use Rattle.lfa.proofs.Laws.FirstFailing.{none_failing}
+use Rattle.lfa.proofs.Laws.Counting.{length_map_below}
+use Rattle.lfa.proofs.Laws.Rows.{none_decides}
+use Rattle.lfa.proofs.Laws.File.RowFacts.{link_facts}
 use Rattle.block.specs.First.{first_or}
 use Rattle.block.specs.Judged.{Sized}
 use Rattle.block.specs.Laws.First.{answer_found, answer_none}

@@ -5,7 +5,7 @@ use mathlib.Core.Path.{◌≡◌, refl, sym, ◌∙◌}
 use mathlib.Core.Bool.{Bool, true, false}
 use native.Mathlib.Numerals.{add-one}
 use Rattle.lfa.specs.Lists.{every_below}
-use Rattle.lfa.specs.Laws.List.{every_gives}
+use Rattle.lfa.proofs.Laws.List.{every_gives}
 
 pub every_none : (p : ℕ → Bool) → every_below p 0 ≡ true
 unfolding every_below

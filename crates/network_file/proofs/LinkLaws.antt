@@ -13,7 +13,7 @@ use Rattle.lfa.specs.Lists.{every_below}
 use Rattle.lfa.specs.Network.{Link, link}
 use Rattle.lfa.specs.File.{Bytes, byte_at, word_at, part_of, ceil, link_blocks, prefix_blocks, blocks_needed, routers_of, links_of}
 use Rattle.lfa.specs.File.{link_entry, link_in, link_of, sound_link, link_good, join_same, link_new}
-use Rattle.lfa.specs.Laws.Chunks.{part_element}
+use Rattle.lfa.proofs.Laws.Chunks.{part_element}
 use Rattle.block.specs.Judged.{Sized}
 use Rattle.network_file.specs.declared.link.LinkColumns.{LinkColumns}
 use Rattle.network_file.specs.Struct.{from_of, to_of, out_of, back_of, column, link_column, link_columns, links_in}

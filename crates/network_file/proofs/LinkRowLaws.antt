@@ -13,9 +13,9 @@ use borrow.Author.Tests.{leb-true, le-leb, eq-eqb}
 use Rattle.lfa.specs.Lists.{every_below, first_failing}
 use Rattle.lfa.specs.Network.{link}
 use Rattle.lfa.specs.File.{Bytes, routers_of, link_of, link_in, sound_link, link_good}
-use Rattle.lfa.specs.Laws.Test.{and_left, and_right, and_make, same_test}
-use Rattle.lfa.specs.Laws.List.{every_gives}
-use Rattle.lfa.specs.Laws.FirstFailing.{all_passing}
+use Rattle.lfa.proofs.Laws.Test.{and_left, and_right, and_make, same_test}
+use Rattle.lfa.proofs.Laws.List.{every_gives}
+use Rattle.lfa.proofs.Laws.FirstFailing.{all_passing}
 use Rattle.block.specs.First.{first_or}
 use Rattle.network_file.specs.declared.link.LinkColumns.{LinkColumns}
 use Rattle.network_file.specs.Struct.{from_of, to_of, out_of, back_of, link_columns, links_in}

@@ -13,7 +13,7 @@ use Rattle.lfa.specs.File.{Bytes, network_of}
 use Rattle.lfa.specs.Question.{loading}
 use Rattle.lfa.specs.Refusal.{file_returned, file_refusal, FileRow, Decided, first_row, file_rows}
 use Rattle.lfa.specs.Answer.{answer_to, network_loaded}
-use Rattle.lfa.specs.Laws.Turned.{load_answer, load_answer_lem}
+use Rattle.lfa.proofs.Laws.Turned.{load_answer, load_answer_lem}
 use Rattle.block.specs.Judged.{later_rows, block_rows, blocks_decided, Sized}
 use Rattle.block.specs.contracts.Blocks.{the_type}
 use Rattle.block.specs.declared.Blocks.{Blocks}

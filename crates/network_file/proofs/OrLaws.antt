@@ -9,7 +9,7 @@ use lib.Bits.{bit_or, or_lt, or_add_and, and_le_l, and_le_r}
 use lib.Dec.{eqb, ltb}
 use borrow.Author.Tests.{eqb-true, eq-eqb, ltb-true, lt-ltb}
 use Rattle.lfa.specs.Lists.{every_below}
-use Rattle.lfa.specs.Laws.Test.{and_left, and_right, and_make, same_test}
+use Rattle.lfa.proofs.Laws.Test.{and_left, and_right, and_make, same_test}
 
 -- An or is at least each of its two numbers: with their and it makes up their sum, and the and is at most either. So where the or is
 -- below 2 ^ k both are; the other way round it has no bit that neither has.

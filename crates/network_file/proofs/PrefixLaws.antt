@@ -11,8 +11,8 @@ use lib.ListN.{length, get_or, set, drop, replicate, length-set, length-replicat
 use borrow.Author.Tests.{eq-eqb, ne_eqb, lt-ltb, le-ltb, le-leb, lt-leb, not-true, not-false}
 use Rattle.lfa.specs.Lists.{every_below}
 use Rattle.lfa.specs.File.{Bytes, byte_at, word_at, all_zero, routers_of, prefix_entry, attachments, slot_router, slot_good, sound_prefix, prefix_good, slot_new, routers_new}
-use Rattle.lfa.specs.Laws.List.{every_gives}
-use Rattle.lfa.specs.Laws.File.RowFacts.{prefix_facts, slot_facts}
+use Rattle.lfa.proofs.Laws.List.{every_gives}
+use Rattle.lfa.proofs.Laws.File.RowFacts.{prefix_facts, slot_facts}
 use Rattle.block.specs.Judged.{Sized}
 use Rattle.network_file.specs.Entry.{unused_zero, Slots}
 use Rattle.network_file.proofs.SlotLaws.{eight_tested}

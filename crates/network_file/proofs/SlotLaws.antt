@@ -13,9 +13,9 @@ use lib.Seq.{get_or-drop}
 use borrow.Author.Tests.{eqb-true, eq-eqb, ltb-true, ltb-false, lt-ltb, le-ltb}
 use Rattle.lfa.specs.Lists.{every_below}
 use Rattle.lfa.specs.File.{Bytes, byte_at, word_at, all_zero, slot_router, slot_good}
-use Rattle.lfa.specs.Laws.Test.{and_left, and_right, and_make, or_left, or_right, decide, same_test}
-use Rattle.lfa.specs.Laws.Counting.{map_below_at}
-use Rattle.lfa.specs.Laws.List.{every_gives, every_make}
+use Rattle.lfa.proofs.Laws.Test.{and_left, and_right, and_make, or_left, or_right, decide, same_test}
+use Rattle.lfa.proofs.Laws.Counting.{map_below_at}
+use Rattle.lfa.proofs.Laws.List.{every_gives, every_make}
 use Rattle.network_file.specs.Entry.{unused_zero, unused_mask, unused_masks}
 
 -- ---- zeros

@@ -11,7 +11,7 @@ use lib.Dec.{eqb}
 use lib.ListN.{length, get_or, set}
 use lib.Seq.{get_or-set_same, get_or-set_other}
 use borrow.Author.Tests.{eqb-true, eqb-false, eq-eqb}
-use Rattle.lfa.specs.Laws.Test.{and_left, and_right, and_make, or_cases, or_left, or_right, decide, same_test}
+use Rattle.lfa.proofs.Laws.Test.{and_left, and_right, and_make, or_cases, or_left, or_right, decide, same_test}
 use Rattle.network_file.specs.Entry.{pair_cell}
 
 and_none : (p : Bool) → not (p && false) ≡ true

@@ -1,4 +1,6 @@
 // The network file's reader: judges a file by rows 1 to 9 of document 01, in order, and hands over the network that it holds.
+#![tactic(auto)]
+
 ghost use Rattle.std.specs.Prelude.{◌≡◌, false};
 ghost use Rattle.std.proofs.Math.Option.{none, some};
 ghost use Rattle.lfa.specs.File.{routers_of, links_of};

@@ -1,4 +1,6 @@
 // The answers of the calls as numbers: the kind, the number and value of a refusal, and the fields of a pair.
+#![tactic(auto)]
+
 ghost use Rattle.std.specs.Prelude.{◌≡◌};
 ghost use Rattle.lfa.specs.Answer.{refused};
 ghost use Rattle.network_file.specs.Load.{answer_of};

@@ -11,7 +11,7 @@ use lib.Bits.{bit_and}
 use lib.Count.{ones}
 use Rattle.lfa.specs.Lists.{count_up, below, keepIf, select, count, one}
 use Rattle.lfa.specs.Space.{has, size_of}
-use Rattle.lfa.specs.Laws.Set.{size_ones}
+use Rattle.lfa.proofs.Laws.Set.{size_ones}
 use Rattle.metric.specs.Laws.List.{below_more, select_append}
 use Rattle.metric.specs.Laws.Set.{has_bit, has_no_bit}
 use Rattle.options.specs.Options.{members_of}

@@ -9,7 +9,7 @@ use native.Mathlib.Omega.{arith}
 use lib.ListN.{length, get_or, length-map}
 use borrow.Author.Tests.{lt-ltb, le-ltb}
 use Rattle.lfa.specs.Route.{Move, deliver, go, moves_of, option_taken}
-use Rattle.lfa.specs.Laws.Chunks.{element_mapped}
+use Rattle.lfa.proofs.Laws.Chunks.{element_mapped}
 use Rattle.options.specs.Options.{delivers_by, members_of, move_by}
 
 -- ---- the option taken

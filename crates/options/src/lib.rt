@@ -1,6 +1,8 @@
 // The options of a walk at a router, and the one that a choice byte takes.
 //
 // `move_at` takes any numbers. At a number that is not below 64 it delivers.
+#![tactic(auto)]
+
 ghost use Rattle.std.specs.Prelude.{◌≡◌, ◌<◌, get_or};
 ghost use Rattle.lfa.specs.Route.{moves_of, option_taken};
 ghost use Rattle.options.specs.Options.{move_in, delivers_by, members_of, move_by};

@@ -1,4 +1,6 @@
 // The order of the pairs that serve: the class of a pair, its rank, and the earlier of two pairs. Each function takes any numbers.
+#![tactic(auto)]
+
 ghost use Rattle.std.specs.Prelude.{◌≡◌, ◌≤◌};
 ghost use Rattle.lfa.specs.Ranks.{rank_of};
 ghost use Rattle.lfa.specs.Repair.{no_later, or_else};

@@ -1,5 +1,7 @@
 // Reads a network file from standard input and prints its plan: a head line, and a line for each link and end with the link's own
 // repair. A refused file has one line, which says why.
+#![tactic(auto)]
+
 ghost use Rattle.std.specs.Prelude.{◌≤◌};
 
 use answers::Repair;

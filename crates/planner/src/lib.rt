@@ -1,5 +1,7 @@
 // The planner for programs in other languages: each public call as a C function, its answer as numbers, its buffers as pointer and
 // length. `include/planner.h` tells C programs the same.
+#![tactic(auto)]
+
 ghost use Rattle.std.specs.Prelude.{◌≡◌, length};
 ghost use Rattle.lfa.specs.Space.{p_space, extended_p, q_space, size_of};
 ghost use Rattle.lfa.specs.Question.{loading, filling, ask_space, ask_link, ask_prefix, ask_route, ask_link_with, ask_prefix_with, ask_route_with};

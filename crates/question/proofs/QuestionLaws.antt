@@ -17,9 +17,9 @@ use Rattle.lfa.specs.File.{Bytes, byte_at, routers_of, links_of, prefixes_of, ne
 use Rattle.lfa.specs.Question.{Question, some_cells, a_table, has_input, HasInput, network_asked}
 use Rattle.lfa.specs.Refusal.{EarlyRow, short_area, wrong_table, short_buffer, bad_ranks, no_such_link, no_such_prefix, Row, entry_of, early_rows, tries, tries_early, Decided, first_row, in_early, sized_returned, Accepted, Posed}
 use Rattle.lfa.specs.Answer.{Answer, refusal, early_answer, network_loaded}
-use Rattle.lfa.specs.Laws.Turned.{load_early, loaded_early, answer_posed}
-use Rattle.lfa.specs.Laws.Accepted.{accepted_loaded}
-use Rattle.lfa.specs.Laws.Rows.{alike_decides}
+use Rattle.lfa.proofs.Laws.Turned.{load_early, loaded_early, answer_posed}
+use Rattle.lfa.proofs.Laws.Accepted.{accepted_loaded}
+use Rattle.lfa.proofs.Laws.Rows.{alike_decides}
 use Rattle.network_file.specs.declared.Fault.{Fault}
 use Rattle.network_file.specs.declared.Verdict.{Verdict}
 use Rattle.network_file.specs.declared.Verdict.TheVariants as verdict

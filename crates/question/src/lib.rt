@@ -1,4 +1,6 @@
 // Whether a question is turned away before anything is searched for: rows 1 to 9 over the file, then rows 10, 18, 11, 15, 12 and 13.
+#![tactic(auto)]
+
 ghost use Rattle.std.specs.Prelude.{ℕ, ◌%◌, ◌≡◌, List, [], length};
 ghost use Rattle.lfa.specs.File.{Bytes};
 ghost use Rattle.lfa.specs.Space.{Space};

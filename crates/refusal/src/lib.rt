@@ -1,4 +1,6 @@
 // Refusals as document 01 writes them, in two numbers, for the programs that print them.
+#![tactic(auto)]
+
 ghost use Rattle.std.specs.Prelude.{◌≡◌};
 ghost use Rattle.lfa.specs.Answer.{refused};
 ghost use Rattle.network_file.specs.Load.{fault_of};

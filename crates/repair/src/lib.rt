@@ -1,6 +1,8 @@
 // The repair part: distances, spaces and repairs of the network that the file part hands over. The file is only passed on, the
 // distances are those of the distance part or of a lent table that the table part has checked, and the spaces and pairs those of the search
 // part, which reads them from the work area or the table.
+#![tactic(auto)]
+
 ghost use Rattle.std.specs.Prelude.{◌≡◌, length};
 ghost use Rattle.lfa.specs.Space.{p_space, extended_p, q_space};
 ghost use Rattle.lfa.specs.Question.{filling, ask_space, ask_link, ask_prefix, ask_link_with, ask_prefix_with};

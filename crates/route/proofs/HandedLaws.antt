@@ -13,9 +13,9 @@ use Rattle.lfa.specs.Route.{NamedRoute}
 use Rattle.lfa.specs.Question.{Question, Source, route, route_buffer, some_cells, a_link, a_prefix, lent, inputs_of, input_number, has_input, network_asked, link_asked, prefix_asked, prefix_found}
 use Rattle.lfa.specs.Refusal.{Posed}
 use Rattle.lfa.specs.Answer.{played, answer_to, route_after, network_loaded}
-use Rattle.lfa.specs.Laws.Accepted.{accepted_loaded, accepted_descend, accepted_sound, accepted_named, prefix_count}
-use Rattle.lfa.specs.Laws.Replies.{has, told_first_in, told_endpoint_in, played_named}
-use Rattle.lfa.specs.Laws.Work.{work_length}
+use Rattle.lfa.proofs.Laws.Accepted.{accepted_loaded, accepted_descend, accepted_sound, accepted_named, prefix_count}
+use Rattle.lfa.proofs.Laws.Replies.{has, told_first_in, told_endpoint_in, played_named}
+use Rattle.lfa.proofs.Laws.Work.{work_length}
 use Rattle.network_file.specs.declared.network.Network.{Network}
 use Rattle.network_file.specs.Struct.{struct_of, link_part}
 use Rattle.metric.specs.Columns.{arcs_in}

@@ -10,10 +10,10 @@ use lib.ListN.{length, get_or}
 use Rattle.lfa.specs.Network.{Arc, Target}
 use Rattle.lfa.specs.Walk.{Step}
 use Rattle.lfa.specs.Route.{Move, deliver, go, options, choice_at, option_taken, Takes, FirstLeg, arrived, onward as first_on, SecondLeg, delivered as second-end, onward as second-on, HasMove}
-use Rattle.lfa.specs.Laws.List.{get_d_in}
-use Rattle.lfa.specs.Laws.Walk.{Descends, measure, step_lowers}
-use Rattle.lfa.specs.Laws.Arrive.{Within}
-use Rattle.lfa.specs.Laws.Options.{options_give, move_next, never_both}
+use Rattle.lfa.proofs.Laws.List.{get_d_in}
+use Rattle.lfa.proofs.Laws.Walk.{Descends, measure, step_lowers}
+use Rattle.lfa.proofs.Laws.Arrive.{Within}
+use Rattle.lfa.proofs.Laws.Options.{options_give, move_next, never_both}
 use Rattle.route.specs.Leg.{Leg, stopped, delivered, onward}
 
 -- ---- a step that a choice byte takes

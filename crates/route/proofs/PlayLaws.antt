@@ -9,7 +9,7 @@ use lib.Seq.{length-take-le, get_or-set_same, take-append_seam, drop-append-add,
 use Rattle.lfa.specs.Lists.{count_up, below}
 use Rattle.lfa.specs.Network.{Arc, at, Target, router}
 use Rattle.lfa.specs.Route.{options, NamedRoute}
-use Rattle.lfa.specs.Laws.Legs.{bytes_used}
+use Rattle.lfa.proofs.Laws.Legs.{bytes_used}
 use Rattle.metric.specs.Columns.{arcs_in}
 use Rattle.metric.specs.Column.{slots_in}
 use Rattle.metric.specs.Laws.Columns.{columns_within}

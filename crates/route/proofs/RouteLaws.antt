@@ -12,8 +12,8 @@ use Rattle.lfa.specs.Repair.{Told, Outcome, prefix_unreachable, prefix_untouched
 use Rattle.lfa.specs.Question.{Question, Source, route, prefix_found}
 use Rattle.lfa.specs.Refusal.{Row, Decided, decided, Posed}
 use Rattle.lfa.specs.Answer.{Answer, repair, refusal, repair_answer, route_answer, route_for, route_played, computed, answer_to, route_after}
-use Rattle.lfa.specs.Laws.Asked.{posed_route}
-use Rattle.lfa.specs.Laws.Replies.{computes}
+use Rattle.lfa.proofs.Laws.Asked.{posed_route}
+use Rattle.lfa.proofs.Laws.Replies.{computes}
 use Rattle.answers.specs.contracts.Repair.{the_type}
 use Rattle.question.specs.Turning.{row_of, refusal_answer}
 use Rattle.answers.specs.Answer.{repair_of}

@@ -1,5 +1,7 @@
 // Played routes: the routers that a packet visits when the pair of a prefix repair carries it, choice bytes deciding between options.
 // The network and the refusals are known from the question's prologue, the pair and the distances from the search.
+#![tactic(auto)]
+
 ghost use Rattle.std.specs.Prelude.{◌≡◌, List, ℕ, ◌<◌, length};
 ghost use Rattle.lfa.specs.Question.{ask_route, ask_route_with};
 ghost use Rattle.lfa.specs.Contract.{Routed, RoutedWith};

@@ -11,7 +11,7 @@ use lib.Seq.{get_or-set_same, get_or-set_other, get_or-append-add}
 use borrow.Author.Tests.{eq-eqb, ne_eqb}
 use Rattle.lfa.specs.Network.{Link, link}
 use Rattle.lfa.specs.File.{Bytes, part_of}
-use Rattle.lfa.specs.Laws.Test.{or_right}
+use Rattle.lfa.proofs.Laws.Test.{or_right}
 use Rattle.ospf.specs.Lsa.{be16, length_field, links_field}
 use Rattle.ospf.specs.Laws.Reading.{half_at, part_long}
 use Rattle.router_links.specs.Read.{metric_to, stub_least}

@@ -9,10 +9,10 @@ use lib.Seq.{get_or-take}
 use Rattle.lfa.specs.Lists.{below, count_up, flat}
 use Rattle.lfa.specs.Network.{Link}
 use Rattle.lfa.specs.File.{Bytes, part_of}
-use Rattle.lfa.specs.Laws.List.{get_d_in}
-use Rattle.lfa.specs.Laws.Chunks.{element_mapped}
-use Rattle.lfa.specs.Laws.File.Passes.{AreBytes}
-use Rattle.lfa.specs.Laws.File.Parts.{flat_append}
+use Rattle.lfa.proofs.Laws.List.{get_d_in}
+use Rattle.lfa.proofs.Laws.Chunks.{element_mapped}
+use Rattle.lfa.proofs.Laws.File.Passes.{AreBytes}
+use Rattle.lfa.proofs.Laws.File.Parts.{flat_append}
 use Rattle.metric.specs.Laws.List.{map_below_more}
 use Rattle.metric.specs.Laws.Column.{pad_at}
 use Rattle.ospf.specs.Lsa.{links_field}

@@ -11,7 +11,7 @@ use lib.Dec.{eqb}
 use borrow.Author.Tests.{eqb-true, eqb-false}
 use Rattle.lfa.specs.Lists.{count_up, below, select}
 use Rattle.lfa.specs.File.{Bytes}
-use Rattle.lfa.specs.Laws.Test.{decide}
+use Rattle.lfa.proofs.Laws.Test.{decide}
 use Rattle.ospf.specs.Lsa.{Entry, Lsa, lsa_in, router_field, links_field}
 use Rattle.ospf.specs.Run.{begin_of, lsa_bytes, lsas_of}
 use Rattle.ospf.specs.Network.{router_of, links_in, entries_of, metric_of, is_towards, towards}

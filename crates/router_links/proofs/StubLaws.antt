@@ -8,9 +8,9 @@ use lib.Dec.{eqb}
 use borrow.Author.Tests.{eqb-true, eq-eqb}
 use Rattle.lfa.specs.Lists.{count_up, below, select, keepIf}
 use Rattle.lfa.specs.File.{Bytes}
-use Rattle.lfa.specs.Laws.Test.{and_left, and_right, and_make, same_test}
-use Rattle.lfa.specs.Laws.List.{map_gives}
-use Rattle.lfa.specs.Laws.File.Passes.{AreBytes}
+use Rattle.lfa.proofs.Laws.Test.{and_left, and_right, and_make, same_test}
+use Rattle.lfa.proofs.Laws.List.{map_gives}
+use Rattle.lfa.proofs.Laws.File.Passes.{AreBytes}
 use Rattle.metric.specs.Laws.List.{select_same}
 use Rattle.ospf.specs.Lsa.{Entry, entry, entry_at, links_field}
 use Rattle.ospf.specs.Run.{lsa_bytes, lsas_of}

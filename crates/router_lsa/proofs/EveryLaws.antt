@@ -6,7 +6,7 @@ use mathlib.Core.Bool.{Bool, true}
 use native.Mathlib.Omega.{arith}
 use native.Mathlib.Numerals.{add-one}
 use Rattle.lfa.specs.Lists.{every_below}
-use Rattle.lfa.specs.Laws.Test.{and_make}
+use Rattle.lfa.proofs.Laws.Test.{and_make}
 
 pub every_starts : (p : ℕ → Bool) → every_below p 0 ≡ true
 unfolding every_below

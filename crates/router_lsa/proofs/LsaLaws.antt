@@ -8,7 +8,7 @@ use lib.ListN.{get_or, length, drop}
 use borrow.Author.Tests.{eq-eqb, ne_eqb, le-leb}
 use Rattle.lfa.specs.Lists.{every_below}
 use Rattle.lfa.specs.File.{Bytes, byte_at}
-use Rattle.lfa.specs.Laws.Test.{fails_right}
+use Rattle.lfa.proofs.Laws.Test.{fails_right}
 use Rattle.ospf.specs.Lsa.{be16, be32, entry, sound_entry, same_neighbour, entry_at, entry_good, entry_new, length_field, router_field, links_field, whole_good, filled_good, type_good, checksum_good, both_zero, fletcher, sound_lsa}
 
 -- ---- links

@@ -11,8 +11,8 @@ use lib.ListN.{get_or, length, set}
 use lib.Seq.{get_or-set_same, get_or-set_other}
 use borrow.Author.Tests.{eq-eqb, ne_eqb}
 use Rattle.lfa.specs.File.{Bytes}
-use Rattle.lfa.specs.Laws.Test.{same_test, fails_make}
-use Rattle.lfa.specs.Laws.List.{every_gives, every_make}
+use Rattle.lfa.proofs.Laws.Test.{same_test, fails_make}
+use Rattle.lfa.proofs.Laws.List.{every_gives, every_make}
 use Rattle.metric.specs.Laws.List.{every_fails}
 use Rattle.ospf.specs.Lsa.{be32, router_field}
 use Rattle.ospf.specs.Run.{begin_of, lsa_bytes}

@@ -8,7 +8,7 @@ use native.Mathlib.Omega.{arith}
 use native.Mathlib.Numerals.{add-one}
 use lib.ListN.{length, take, drop}
 use Rattle.lfa.specs.File.{Bytes}
-use Rattle.lfa.specs.Laws.Test.{and_make, fails_left, fails_right, fails_make}
+use Rattle.lfa.proofs.Laws.Test.{and_make, fails_left, fails_right, fails_make}
 use Rattle.ospf.specs.Lsa.{be16, be32, length_field, router_field, sound_lsa}
 use Rattle.ospf.specs.Run.{begin_of, lsa_bytes, router_new, lsa_good, GoodLsa, scan, bad_at, whole}
 use Rattle.ospf.specs.Laws.Lsa.{good_gives, good_make}

@@ -1,4 +1,6 @@
 // A run of Router-LSAs: finds the first bad LSA (number 16), or how many LSAs the run is. Preparation of Point 6, which no call uses yet.
+#![tactic(auto)]
+
 ghost use Rattle.std.specs.Prelude.{◌≡◌};
 ghost use Rattle.ospf.specs.Run.{scan};
 ghost use Rattle.router_lsa.specs.Scan.{scanned};

@@ -11,8 +11,8 @@ use lib.ListN.{length}
 use borrow.Author.Tests.{eq-eqb, ne_eqb}
 use Rattle.lfa.specs.Lists.{count}
 use Rattle.lfa.specs.Ranks.{classes, rank_of, times_given, is_arrangement}
-use Rattle.lfa.specs.Laws.Test.{and_make, fails_left, fails_right}
-use Rattle.lfa.specs.Laws.List.{every_make}
+use Rattle.lfa.proofs.Laws.Test.{and_make, fails_left, fails_right}
+use Rattle.lfa.proofs.Laws.List.{every_make}
 use Rattle.metric.specs.Laws.List.{every_fails}
 
 module _ (ranks : List ℕ) (k : ℕ) where

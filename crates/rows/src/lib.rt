@@ -1,6 +1,8 @@
 // Rows 10 to 13, 15 and 18 of the table of refusals, for every call that tries one of them, in the order 10, 18, 11, 15, 12, 13. They look at
 // the counts of a file's head, at the numbers of the question, at whether its table of ranks is an arrangement, and at whether a table of
 // distances that is lent is the file's.
+#![tactic(auto)]
+
 ghost use Rattle.std.specs.Prelude.{ℕ, ◌≡◌, ◌&&◌, List, ltb, leb};
 ghost use Rattle.lfa.specs.Lists.{select};
 ghost use Rattle.lfa.specs.File.{Bytes};

@@ -14,8 +14,8 @@ use Rattle.lfa.specs.Lists.{count_up, below, keepIf, select}
 use Rattle.lfa.specs.Space.{FirstHop, has}
 use Rattle.lfa.specs.Ranks.{rank_of}
 use Rattle.lfa.specs.Repair.{or_else, no_later}
-use Rattle.lfa.specs.Laws.Test.{fails_make}
-use Rattle.lfa.specs.Laws.Order.{NoLater, less, same, later_gives, later_make}
+use Rattle.lfa.proofs.Laws.Test.{fails_make}
+use Rattle.lfa.proofs.Laws.Order.{NoLater, less, same, later_gives, later_make}
 use Rattle.metric.specs.Area.{cell_in}
 use Rattle.metric.specs.Laws.List.{below_more, select_append}
 use Rattle.order.specs.declared.Ordered.{Ordered}

@@ -11,8 +11,8 @@ use lib.ListN.{length, get_or, set, length-set}
 use lib.Seq.{get_or-set_same, get_or-set_other}
 use Rattle.lfa.specs.Lists.{count_up, below, select, keepIf}
 use Rattle.lfa.specs.Network.{Arc, arc, arcs_from}
-use Rattle.lfa.specs.Laws.Counting.{map_below_same}
-use Rattle.lfa.specs.Laws.Test.{or_false_left, or_false_right}
+use Rattle.lfa.proofs.Laws.Counting.{map_below_same}
+use Rattle.lfa.proofs.Laws.Test.{or_false_left, or_false_right}
 use Rattle.lfa.specs.Space.{Protected, is_first, hop_over, first_hops}
 use Rattle.metric.specs.Columns.{links_in, arcs_in}
 use Rattle.metric.specs.Laws.List.{below_more, map_below_more, select_append}

@@ -12,7 +12,7 @@ use lib.Seq.{get_or-set_same, get_or-set_other}
 use borrow.Author.Tests.{ltb-true, leb-true}
 use Rattle.lfa.specs.Lists.{count_up, below}
 use Rattle.lfa.specs.Space.{Protected, FirstHop}
-use Rattle.lfa.specs.Laws.Test.{and_left, and_right}
+use Rattle.lfa.proofs.Laws.Test.{and_left, and_right}
 use Rattle.metric.specs.Fit.{cells_fit}
 use Rattle.avoid.specs.Calls.{readable}
 use Rattle.search.specs.Calls.{searchable}

@@ -2,6 +2,8 @@
 //
 // Each function takes any numbers, and answers by the numbers that the table and the columns hold. Where the columns have no cell for the
 // link or the prefix, or no distances can be read for the link's ends, a space is empty, and nothing is found.
+#![tactic(auto)]
+
 ghost use Rattle.std.specs.Prelude.{◌≡◌};
 ghost use Rattle.search.specs.Spaces.{space_named};
 ghost use Rattle.search.specs.Choice.{outcome_in};

@@ -15,10 +15,10 @@ use Rattle.lfa.specs.Lists.{count_up, below, any_of}
 use Rattle.lfa.specs.Network.{Arc, arc, arcs_from}
 use Rattle.lfa.specs.Distance.{unreachable}
 use Rattle.lfa.specs.Space.{has, set_of}
-use Rattle.lfa.specs.Laws.Counting.{map_below_at}
-use Rattle.lfa.specs.Laws.List.{from_counted}
-use Rattle.lfa.specs.Laws.Set.{set_of_same}
-use Rattle.lfa.specs.Laws.Test.{fails_right}
+use Rattle.lfa.proofs.Laws.Counting.{map_below_at}
+use Rattle.lfa.proofs.Laws.List.{from_counted}
+use Rattle.lfa.proofs.Laws.Set.{set_of_same}
+use Rattle.lfa.proofs.Laws.Test.{fails_right}
 use Rattle.metric.specs.Columns.{links_in, arcs_in}
 use Rattle.metric.specs.Laws.Columns.{arcs_in_more}
 use Rattle.metric.specs.Laws.List.{any_more}

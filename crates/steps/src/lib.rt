@@ -1,6 +1,8 @@
 // The steps of all walks towards a target: the next routers of each router, and the routers from which steps lead to some of them.
 //
 // The public functions take any numbers. `target` holds the distances to the target; walks do not go on from a router of the set `ends`.
+#![tactic(auto)]
+
 ghost use Rattle.std.specs.Prelude.{◌≡◌, ◌&&◌, ◌≤◌, ◌<◌, eqb, get_or, set};
 ghost use Rattle.std.specs.Int.Bits.{bit_or};
 ghost use Rattle.lfa.specs.Space.{set_of};

@@ -1,5 +1,7 @@
 // Reads stored cases from standard input, each a 16-bit length and a file, and prints for each file what the calls answer that
 // return their whole answer: those of the reader, the spaces and the repairs.
+#![tactic(auto)]
+
 use print::{end, number};
 use reading::print_reading;
 use repairs::print_repairs;

@@ -1,5 +1,7 @@
 // Reads stored cases from standard input, each a 16-bit length and a file, and prints for each file what the calls answer that
 // leave a part of their answer in a lent buffer, and what they leave there: the distances and the routes.
+#![tactic(auto)]
+
 use distances::print_distances;
 use print::{end, number};
 use routes::print_routes;

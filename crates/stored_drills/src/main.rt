@@ -1,5 +1,7 @@
 // Reads requests for drills from standard input and prints for each what `drill` answers and what it leaves in the buffer. A request
 // has eight bytes: a seed of 32 bits, then the number of routers and the length of the buffer, 16 bits each, least byte first.
+#![tactic(auto)]
+
 use drill::drill;
 use runs::print_runs;
 

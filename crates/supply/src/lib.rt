@@ -1,5 +1,7 @@
 // The choice supply: the lent choice bytes together with the place of the next one. The borrow checker covers no function over
 // such a struct, so `next` and `choice` are proved by hand; they leave the work to functions on a plain slice and a number.
+#![tactic(auto)]
+
 ghost use Rattle.std.specs.Prelude.{◌≡◌};
 ghost use Rattle.lfa.specs.Route.{choice_at};
 ghost use Rattle.supply.specs.Supply.{place_after, advanced};

@@ -12,7 +12,7 @@ use lib.Count.{count_trailing_zeros, under}
 use lib.Pow.{pow_pos}
 use lib.ListN.{set}
 use Rattle.lfa.specs.Space.{has}
-use Rattle.lfa.specs.Laws.Test.{or_cases, or_left, or_right}
+use Rattle.lfa.proofs.Laws.Test.{or_cases, or_left, or_right}
 use Rattle.metric.specs.Laws.Set.{has_or, has_self, has_other}
 
 -- the zeros below the lowest bit, and an odd number above them

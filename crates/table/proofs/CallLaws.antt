@@ -12,15 +12,15 @@ use borrow.Author.Tests.{ltb-true, lt-ltb}
 use Rattle.lfa.specs.Lists.{below}
 use Rattle.lfa.specs.Network.{Arc, arc, Link, link, Network, arcs}
 use Rattle.lfa.specs.Distance.{LeastCosts, distances, distance_in, HoldsDistances, holds_distances}
-use Rattle.lfa.specs.Laws.Test.{and_left, and_right, and_make, fails_left, fails_right, same_test}
-use Rattle.lfa.specs.Laws.List.{every_gives, every_make}
-use Rattle.lfa.specs.Laws.Counting.{length_map_below, map_below_at}
-use Rattle.lfa.specs.Laws.Arrive.{Within}
-use Rattle.lfa.specs.Laws.Walk.{Descends, level}
-use Rattle.lfa.specs.Laws.Bound.{Sound, distance_small}
-use Rattle.lfa.specs.Laws.Distance.{distances_least}
-use Rattle.lfa.specs.Laws.Holds.{holds_gives, holds_make}
-use Rattle.lfa.specs.Laws.Network.{arcs_give, Direction}
+use Rattle.lfa.proofs.Laws.Test.{and_left, and_right, and_make, fails_left, fails_right, same_test}
+use Rattle.lfa.proofs.Laws.List.{every_gives, every_make}
+use Rattle.lfa.proofs.Laws.Counting.{length_map_below, map_below_at}
+use Rattle.lfa.proofs.Laws.Arrive.{Within}
+use Rattle.lfa.proofs.Laws.Walk.{Descends, level}
+use Rattle.lfa.proofs.Laws.Bound.{Sound, distance_small}
+use Rattle.lfa.proofs.Laws.Distance.{distances_least}
+use Rattle.lfa.proofs.Laws.Holds.{holds_gives, holds_make}
+use Rattle.lfa.proofs.Laws.Network.{arcs_give, Direction}
 use Rattle.metric.specs.Fit.{cells_fit, links_fit, ColumnsWithin}
 use Rattle.metric.specs.Columns.{links_in, arcs_in, network_in}
 use Rattle.metric.specs.RightTable.{RightTable}

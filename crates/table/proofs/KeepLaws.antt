@@ -15,9 +15,9 @@ use lib.Seq.{get_or-set_same, get_or-set_other}
 use Rattle.lfa.specs.Lists.{below}
 use Rattle.lfa.specs.Network.{arc, Link, link}
 use Rattle.lfa.specs.Space.{has}
-use Rattle.lfa.specs.Laws.Test.{or_cases, or_left, or_right}
-use Rattle.lfa.specs.Laws.Counting.{length_map_below, map_below_at}
-use Rattle.lfa.specs.Laws.Network.{arcs_give, arcs_have, Direction}
+use Rattle.lfa.proofs.Laws.Test.{or_cases, or_left, or_right}
+use Rattle.lfa.proofs.Laws.Counting.{length_map_below, map_below_at}
+use Rattle.lfa.proofs.Laws.Network.{arcs_give, arcs_have, Direction}
 use Rattle.metric.specs.Area.{area_cell}
 use Rattle.metric.specs.Columns.{links_in, arcs_in}
 use Rattle.metric.specs.Laws.Set.{has_or, has_self, has_other, has_none}

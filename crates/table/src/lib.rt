@@ -4,6 +4,8 @@
 // sums have 16 bits, and only the arcs count that cost what their cell says (`keep`, `narrow`, `row`); else they have 32 (`sums`).
 //
 // It takes any numbers. Where they are not those of a network, the answer is no.
+#![tactic(auto)]
+
 ghost use Rattle.std.specs.Prelude.{◌≡◌, true, length, ◌*◌, ◌≤◌};
 ghost use Rattle.metric.specs.Fit.{ColumnsWithin};
 ghost use Rattle.metric.specs.Columns.{arcs_in};

@@ -16,7 +16,7 @@ use Rattle.lfa.specs.Space.{under_maintenance, Protected, protected_by, protecte
 use Rattle.lfa.specs.Ranks.{ascending, times_given, is_arrangement}
 use Rattle.lfa.specs.Repair.{Pair, is_endpoint, pairs_of, pairs, serves, may_cross, node_protects, or_else, base_class_of, class_of, told_of, Keys, keys_of, key, no_later, earlier, choose, pair_key, first_pair, outcome_of, link_outcome, prefix_outcome}
 use Rattle.lfa.specs.Route.{is_step_to, next_routers, delivers, moves_of, options, choice_at, option_taken, play_to, play_on, route_of}
-use Rattle.lfa.specs.Laws.Turned.{early_given}
+use Rattle.lfa.proofs.Laws.Turned.{early_given}
 use Rattle.lfa.specs.Question.{Question, route_buffer, a_link, cells_from, inputs_of, input_number, has_input, HasInput, loading, ask_space, ask_link, ask_prefix, ask_route, ask_link_with, ask_prefix_with, ask_route_with, network_asked, link_asked, prefix_asked, withDistances, link_found, prefix_found, searched, if_none}
 use Rattle.lfa.specs.Refusal.{EarlyRow, short_area, wrong_table, short_buffer, bad_ranks, no_such_link, EarlyApplies, tries_early, file_returned, returned, file_number, leaves_all, entry_of, file_rows, early_rows, question_rows, all_rows, tries, rows_tried, first_row, in_file, file_refusal, refusal_of, sized_returned}
 use Rattle.lfa.specs.Answer.{refused, refusal, route_for, route_played, repair_answer, route_answer, computed, answer_to, written_to, leave, exit_by, exit_of}

@@ -8,8 +8,8 @@ use lib.ListN.{length, get_or, take, drop}
 use Rattle.lfa.specs.Lists.{below, flat}
 use Rattle.lfa.specs.File.{Bytes, check_of}
 use Rattle.lfa.specs.FileOf.{word_bytes, pad, link_bytes, prefix_bytes, entries_block}
-use Rattle.lfa.specs.Laws.Counting.{length_map_below, take_drop_map_below}
-use Rattle.lfa.specs.Laws.File.WrittenEntry.{link_long}
+use Rattle.lfa.proofs.Laws.Counting.{length_map_below, take_drop_map_below}
+use Rattle.lfa.proofs.Laws.File.WrittenEntry.{link_long}
 use Rattle.metric.specs.Columns.{links_in}
 use Rattle.network_file.specs.Held.{target_in, targets_in}
 use Rattle.writer.specs.Put.{put_at}

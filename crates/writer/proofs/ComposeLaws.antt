@@ -10,9 +10,9 @@ use Rattle.lfa.specs.Lists.{below, flat}
 use Rattle.lfa.specs.Network as lfa
 use Rattle.lfa.specs.File.{Bytes, link_blocks, prefix_blocks, blocks_needed, ceil}
 use Rattle.lfa.specs.FileOf.{word_bytes, pad, block_bytes, head_block, link_block, prefix_block, blocks_of, file_of}
-use Rattle.lfa.specs.Laws.Counting.{length_map_below, map_below_at, map_below_same}
-use Rattle.lfa.specs.Laws.File.Parts.{flat_append}
-use Rattle.lfa.specs.Laws.File.WrittenFile.{FewAttached, head_long, link_block_long, file_long}
+use Rattle.lfa.proofs.Laws.Counting.{length_map_below, map_below_at, map_below_same}
+use Rattle.lfa.proofs.Laws.File.Parts.{flat_append}
+use Rattle.lfa.proofs.Laws.File.WrittenFile.{FewAttached, head_long, link_block_long, file_long}
 use Rattle.metric.specs.Columns.{links_in}
 use Rattle.metric.specs.Column.{slots_in}
 use Rattle.network_file.specs.declared.network.Network.{Network}

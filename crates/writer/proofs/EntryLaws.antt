@@ -9,10 +9,10 @@ use lib.Seq.{take_at, drop-append-add}
 use Rattle.lfa.specs.Lists.{count_up, below, flat}
 use Rattle.lfa.specs.File.{Bytes, check_of}
 use Rattle.lfa.specs.FileOf.{word_bytes, pad, block_bytes}
-use Rattle.lfa.specs.Laws.Counting.{length_map_below, map_below_at}
-use Rattle.lfa.specs.Laws.Chunks.{length_flat}
-use Rattle.lfa.specs.Laws.File.Parts.{flat_append}
-use Rattle.lfa.specs.Laws.File.WrittenBlock.{front_bytes, front_long, check_front}
+use Rattle.lfa.proofs.Laws.Counting.{length_map_below, map_below_at}
+use Rattle.lfa.proofs.Laws.Chunks.{length_flat}
+use Rattle.lfa.proofs.Laws.File.Parts.{flat_append}
+use Rattle.lfa.proofs.Laws.File.WrittenBlock.{front_bytes, front_long, check_front}
 use Rattle.metric.specs.Laws.List.{map_below_more}
 use Rattle.writer.specs.Put.{put_at}
 use Rattle.writer.specs.Block.{first_entries}

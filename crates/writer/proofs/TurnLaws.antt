@@ -9,8 +9,8 @@ use Rattle.lfa.specs.Lists.{count_up, below, flat}
 use Rattle.lfa.specs.Network.{at}
 use Rattle.lfa.specs.File.{Bytes, check_of}
 use Rattle.lfa.specs.FileOf.{word_bytes, pad, block_bytes, slot_bytes, prefix_bytes}
-use Rattle.lfa.specs.Laws.Counting.{length_map_below}
-use Rattle.lfa.specs.Laws.File.WrittenEntry.{link_long, prefix_long}
+use Rattle.lfa.proofs.Laws.Counting.{length_map_below}
+use Rattle.lfa.proofs.Laws.File.WrittenEntry.{link_long, prefix_long}
 use Rattle.metric.specs.Column.{slots_in}
 use Rattle.network_file.specs.Held.{target_in}
 use Rattle.writer.specs.Put.{put_at}

@@ -14,9 +14,9 @@ use Rattle.lfa.specs.File.{Bytes, byte_at}
 use Rattle.lfa.specs.FileOf.{file_of}
 use Rattle.lfa.specs.Refusal.{FileRow, Decided, file_refusal}
 use Rattle.lfa.specs.Writing.{entry_fits, head_fits, counts_fit, are_bytes, passes_rows, has_file, file_fits, Wrote}
-use Rattle.lfa.specs.Laws.Test.{and_left, and_right, and_make, fails_left, fails_right, same_test}
-use Rattle.lfa.specs.Laws.List.{every_gives, every_make}
-use Rattle.lfa.specs.Laws.Writing.{owes_nothing, owes_file, bytes_make}
+use Rattle.lfa.proofs.Laws.Test.{and_left, and_right, and_make, fails_left, fails_right, same_test}
+use Rattle.lfa.proofs.Laws.List.{every_gives, every_make}
+use Rattle.lfa.proofs.Laws.Writing.{owes_nothing, owes_file, bytes_make}
 use Rattle.network_file.specs.declared.Verdict.{Verdict}
 use Rattle.network_file.specs.declared.network.Network.{Network}
 use Rattle.network_file.specs.Load.{verdict_decided, undecided}

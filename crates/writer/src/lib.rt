@@ -2,6 +2,8 @@
 //
 // The file is put together in a buffer of our own, which has room for the largest file, and then the reader judges it. So the limits of
 // links and prefixes are told by the reader alone, and the lent buffer is touched only where the whole file is written.
+#![tactic(auto)]
+
 ghost use Rattle.std.specs.Prelude.{◌≡◌, true};
 ghost use Rattle.lfa.specs.Network as lfa;
 ghost use Rattle.lfa.specs.FileOf.{file_of};

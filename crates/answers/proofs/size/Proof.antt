@@ -1,6 +1,6 @@
 -- `answers::size` meets its contract. The number of ones is the number of members.
 -- Assumes nothing.
-use Rattle.lfa.specs.Laws.Set.{size_ones}
+use Rattle.lfa.proofs.Laws.Set.{size_ones}
 use Rattle.answers.proofs.size.Statement.{statement}
 use Rattle.answers.proofs.size.Tie as tie
 

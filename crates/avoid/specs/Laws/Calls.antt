@@ -3,7 +3,7 @@
 use Rattle.std.specs.Prelude.{ℕ, ◌<◌, ◌≡◌, true, List, length}
 use Rattle.std.proofs.Common.{◌∙◌, lt-ltb}
 use Rattle.lfa.specs.Space.{Protected, set_of}
-use Rattle.lfa.specs.Laws.Test.{and_make}
+use Rattle.lfa.proofs.Laws.Test.{and_make}
 use Rattle.metric.specs.Laws.Fit.{cells_fit_lem}
 use Rattle.metric.specs.Area.{held}
 use Rattle.avoid.specs.Avoiding.{clears, clears_to}

@@ -12,13 +12,13 @@ use Rattle.lfa.specs.Network.{Arc, router}
 use Rattle.lfa.specs.Distance.{unreachable, towards}
 use Rattle.lfa.specs.Walk.{avoids}
 use Rattle.lfa.specs.Space.{Protected, set_of}
-use Rattle.lfa.specs.Laws.Test.{and_left, and_right, and_make, same_test}
-use Rattle.lfa.specs.Laws.Set.{set_of_same}
-use Rattle.lfa.specs.Laws.Target.{towards_router}
-use Rattle.lfa.specs.Laws.Walk.{router_none_leaves}
-use Rattle.lfa.specs.Laws.Bound.{falls}
-use Rattle.lfa.specs.Laws.Visit.{misses, misses_sum}
-use Rattle.lfa.specs.Laws.Avoid.{avoids_gives, avoids_make, avoids_below, below_avoids}
+use Rattle.lfa.proofs.Laws.Test.{and_left, and_right, and_make, same_test}
+use Rattle.lfa.proofs.Laws.Set.{set_of_same}
+use Rattle.lfa.proofs.Laws.Target.{towards_router}
+use Rattle.lfa.proofs.Laws.Walk.{router_none_leaves}
+use Rattle.lfa.proofs.Laws.Bound.{falls}
+use Rattle.lfa.proofs.Laws.Visit.{misses, misses_sum}
+use Rattle.lfa.proofs.Laws.Avoid.{avoids_gives, avoids_make, avoids_below, below_avoids}
 use Rattle.metric.specs.Area.{held}
 use Rattle.metric.specs.Laws.Fit.{cells_fit_lem}
 use Rattle.avoid.specs.Avoiding.{clears, clears_to, misses_to}

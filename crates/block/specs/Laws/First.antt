@@ -8,7 +8,7 @@ use Rattle.std.proofs.Math.Option.{Option, none, some}
 use native.Mathlib.Omega.{arith}
 use Rattle.std.proofs.Math.Numerals.{add-one}
 use Rattle.lfa.specs.Lists.{first_failing}
-use Rattle.lfa.specs.Laws.FirstFailing.{first_failing_lem}
+use Rattle.lfa.proofs.Laws.FirstFailing.{first_failing_lem}
 use Rattle.block.specs.First.{first_or}
 
 -- The loop tries `count` numbers from `start` on, up to `end`.

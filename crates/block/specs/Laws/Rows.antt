@@ -5,7 +5,7 @@ use Rattle.std.proofs.Math.Option.{Option, none, some}
 use Rattle.std.proofs.Common.{append_assoc}
 use Rattle.lfa.specs.Lists.{unless}
 use Rattle.lfa.specs.Refusal.{Decided, decided, first_row}
-use Rattle.lfa.specs.Laws.Rows.{FirstFound, none_decides, first_found, found_first, pass_over}
+use Rattle.lfa.proofs.Laws.Rows.{FirstFound, none_decides, first_found, found_first, pass_over}
 
 -- ---- the first row that applies
 

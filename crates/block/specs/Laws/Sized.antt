@@ -9,11 +9,11 @@ use Rattle.std.proofs.lemmas.Bool.{eqb-false, not-true}
 use Rattle.lfa.specs.File.{Bytes, blocks_in, links_of, prefixes_of, link_blocks, prefix_blocks, blocks_needed}
 use Rattle.lfa.specs.File.{length_good}
 use Rattle.lfa.specs.Refusal.{file_returned, FileRow, bad_length, bad_head, bad_block_count, first_row}
-use Rattle.lfa.specs.Laws.Test.{and_left, and_right}
-use Rattle.lfa.specs.Laws.List.{get_d_in}
-use Rattle.lfa.specs.Laws.FirstFailing.{unless_none}
-use Rattle.lfa.specs.Laws.Rows.{none_decides}
-use Rattle.lfa.specs.Laws.File.RowFacts.{HeadFacts, head_facts, count_fact}
+use Rattle.lfa.proofs.Laws.Test.{and_left, and_right}
+use Rattle.lfa.proofs.Laws.List.{get_d_in}
+use Rattle.lfa.proofs.Laws.FirstFailing.{unless_none}
+use Rattle.lfa.proofs.Laws.Rows.{none_decides}
+use Rattle.lfa.proofs.Laws.File.RowFacts.{HeadFacts, head_facts, count_fact}
 use Rattle.block.specs.Judged.{later_rows, block_rows, Sized}
 
 -- ---- a file of a good length

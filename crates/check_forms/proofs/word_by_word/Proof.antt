@@ -3,7 +3,7 @@
 use Rattle.std.proofs.Common.{◌≡◌, ℕ, ◌+◌, ◌-◌, ◌*◌, ◌%◌, ◌≤◌, ap, ◌∙◌, arith, rules}
 use native.Mathlib.Nat.{mod-add-mod}
 use Rattle.lfa.specs.File.{Bytes, byte_at, word_at, sum_words, check_of}
-use Rattle.lfa.specs.Laws.File.Sum.{sum_split, sum_word}
+use Rattle.lfa.proofs.Laws.File.Sum.{sum_split, sum_word}
 use Rattle.check_forms.proofs.word_by_word.Statement.{statement}
 use Rattle.check_forms.proofs.word_by_word.Tie as tie
 

@@ -6,7 +6,7 @@ use native.Mathlib.Omega.{arith}
 use borrow.Author.Rules.{rules}
 use Rattle.lfa.specs.Network.{router}
 use Rattle.lfa.specs.Distance.{towards}
-use Rattle.lfa.specs.Laws.Target.{towards_router}
+use Rattle.lfa.proofs.Laws.Target.{towards_router}
 use Rattle.metric.specs.Area.{held}
 use Rattle.metric.specs.Column.{column}
 use Rattle.metric.specs.Laws.Area.{cell_known}

@@ -7,7 +7,7 @@ use Rattle.lfa.specs.Lists.{below}
 use Rattle.lfa.specs.Network.{at, router, attachment_of, is_attached}
 use Rattle.lfa.specs.Distance.{towards}
 use Rattle.lfa.specs.Space.{has}
-use Rattle.lfa.specs.Laws.Set.{has_set_of}
+use Rattle.lfa.proofs.Laws.Set.{has_set_of}
 use Rattle.metric.specs.Fit.{SlotsWithin}
 use Rattle.metric.specs.Laws.Fit.{cells_fit_lem, slots_fit_lem}
 use Rattle.metric.specs.Laws.List.{any_map}

@@ -4,7 +4,7 @@ use Rattle.std.specs.Prelude.{ℕ, ◌*◌, ◌≤◌, ◌≡◌, true, ◌&&◌
 use Rattle.std.proofs.Common.{sym, ◌∙◌}
 use Rattle.lfa.specs.Network.{Network, arcs}
 use Rattle.lfa.specs.Distance.{distances, filled}
-use Rattle.lfa.specs.Laws.Test.{and_make}
+use Rattle.lfa.proofs.Laws.Test.{and_make}
 use Rattle.metric.specs.Fit.{cells_fit, links_fit, ColumnsWithin}
 use Rattle.metric.specs.Laws.Fit.{cells_fit_lem, links_fit_lem}
 use Rattle.metric.specs.Columns.{InColumns, network_in}

@@ -4,7 +4,7 @@ use Prim.Native.Nat.{◌-◌}
 use mathlib.Core.Path.{refl}
 use native.Mathlib.Omega.{arith}
 use borrow.Author.Rules.{rules}
-use Rattle.lfa.specs.Laws.Ring.{next_in}
+use Rattle.lfa.proofs.Laws.Ring.{next_in}
 use Rattle.drill.proofs.DrawLaws.{Drawing, draw_none, draw_next}
 use Rattle.drill.proofs.draw_links.Statement.{statement}
 use Rattle.drill.proofs.draw_links.Tie as tie

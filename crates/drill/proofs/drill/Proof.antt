@@ -2,7 +2,7 @@
 -- Assumes nothing.
 use native.Mathlib.Omega.{arith}
 use borrow.Author.Rules.{rules}
-use Rattle.lfa.specs.Laws.Drill.{too_few_lem, too_many, drilled}
+use Rattle.lfa.proofs.Laws.Drill.{too_few_lem, too_many, drilled}
 use Rattle.drill.proofs.drill.Statement.{statement}
 use Rattle.drill.proofs.drill.Tie as tie
 

@@ -3,7 +3,7 @@
 use mathlib.Core.Path.{refl, sym}
 use native.Mathlib.Omega.{arith}
 use borrow.Author.Rules.{rules}
-use Rattle.lfa.specs.Laws.Ring.{next_on_ring_lem, last_on_ring}
+use Rattle.lfa.proofs.Laws.Ring.{next_on_ring_lem, last_on_ring}
 use Rattle.drill.proofs.ends_of.Statement.{statement}
 use Rattle.drill.proofs.ends_of.Tie as tie
 

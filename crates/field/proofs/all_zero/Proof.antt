@@ -11,34 +11,34 @@ use Rattle.field.proofs.FieldLaws.{zero_passed, zero_fails, zero_ends}
 use Rattle.field.proofs.all_zero.Statement.{statement}
 use Rattle.field.proofs.all_zero.Tie as tie
 
-abbrev invariant-loop : tie.invariant-loop
-invariant-loop s n zero₀ i₀ zero i = all_zero s ≡ (zero && all_zero (drop i s))
+abbrev invariant-loop-i : tie.invariant-loop-i
+invariant-loop-i s n zero₀ i₀ zero i = all_zero s ≡ (zero && all_zero (drop i s))
 
-abbrev decreases-loop : tie.decreases-loop
-decreases-loop s n zero₀ i₀ zero i = n - i
+abbrev decreases-loop-i : tie.decreases-loop-i
+decreases-loop-i s n zero₀ i₀ zero i = n - i
 
-loop-holds : tie.Need-loop-init invariant-loop decreases-loop
-loop-holds c = refl
+loop-i-init : tie.Need-loop-i-init invariant-loop-i decreases-loop-i
+loop-i-init c = refl
 
-shared-slice-read-if1 : tie.Need-shared-slice-read-if1 invariant-loop decreases-loop
-shared-slice-read-if1 c = search rules
+bounds-s-i : tie.Need-bounds-s-i invariant-loop-i decreases-loop-i
+bounds-s-i c = search rules
 
-add-i : tie.Need-overflow-add-i invariant-loop decreases-loop
-add-i c = search rules
+overflow_add-i : tie.Need-overflow_add-i invariant-loop-i decreases-loop-i
+overflow_add-i c = search rules
 
-loop-less : tie.Need-loop-smaller invariant-loop decreases-loop
-loop-less c = search rules
+loop-i-smaller : tie.Need-loop-i-smaller invariant-loop-i decreases-loop-i
+loop-i-smaller c = search rules
 
-loop-again : tie.Need-loop-preserved invariant-loop decreases-loop
-loop-again c =
-    let l = c.before.before.before.loop in
-    let h = c.before.before.loop-test.true in
-    ⊎_elim (λ w. zero_fails _ l.i h l.zero w.0.taken w.1 l.invariant) (λ w. zero_passed _ l.i h w.0.left w.1 l.invariant) c.if1.branch
+loop-i-preserved : tie.Need-loop-i-preserved invariant-loop-i decreases-loop-i
+loop-i-preserved c =
+    let l = c.before.before.before.loop-i in
+    let h = c.before.before.loop-i-test.true in
+    ⊎_elim (λ w. zero_fails _ l.i h l.zero w.if-s-i-ne0.true w.zero-is l.invariant) (λ w. zero_passed _ l.i h w.if-s-i-ne0.false w.zero-is l.invariant) c.if-s-i-ne0.branch-raw
 
-returns : tie.Need-returns invariant-loop decreases-loop
-returns c = zero_ends _ _ _ c.loop-test.false c.before.loop.invariant
+returns : tie.Need-returns invariant-loop-i decreases-loop-i
+returns c = zero_ends _ _ _ c.loop-i-test.false c.before.loop-i.invariant
 
 pub all_zero_spec : {M : Type 1} → statement M
 all_zero_spec =
     tie.close
-    (tie.spec invariant-loop decreases-loop loop-holds shared-slice-read-if1 add-i loop-less loop-again returns)
+    (tie.spec invariant-loop-i decreases-loop-i loop-i-init bounds-s-i overflow_add-i loop-i-smaller loop-i-preserved returns)

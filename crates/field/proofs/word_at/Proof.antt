@@ -7,44 +7,44 @@ use borrow.Author.Rules.{rules}
 use Rattle.field.proofs.word_at.Statement.{statement}
 use Rattle.field.proofs.word_at.Tie as tie
 
+returns-then-n-at : tie.Need-returns-then-n-at
+returns-then-n-at c = word_past _ _ c.if-n-at.true
+
+overflow_add-next : tie.Need-overflow_add-next
+overflow_add-next c = search rules
+
+bounds-s-at : tie.Need-bounds-s-at
+bounds-s-at c = search rules
+
+word_of-requires : tie.Need-word_of-requires
+word_of-requires c κs = search rules
+
+returns-then-n-next : tie.Need-returns-then-n-next
+returns-then-n-next c = c.word_of.ensures ∙ word_last _ _ c.before.before.if-n-next.true
+
+bounds-s-at-2 : tie.Need-bounds-s-at-2
+bounds-s-at-2 c = search rules
+
+bounds-s-next : tie.Need-bounds-s-next
+bounds-s-next c = search rules
+
+word_of-requires-2 : tie.Need-word_of-requires-2
+word_of-requires-2 c κs = search rules
+
 returns : tie.Need-returns
-returns c = word_past _ _ c.if1.true
-
-add-next : tie.Need-overflow-add-next
-add-next c = search rules
-
-shared-slice-read-word-of : tie.Need-shared-slice-read-word-of
-shared-slice-read-word-of c = search rules
-
-word-of-requires : tie.Need-word-of-requires
-word-of-requires c κs = search rules
-
-returns-2 : tie.Need-returns-2
-returns-2 c = c.word_of.ensures ∙ word_last _ _ c.before.before.if2.true
-
-shared-slice-read-word-of-2 : tie.Need-shared-slice-read-word-of-2
-shared-slice-read-word-of-2 c = search rules
-
-shared-slice-read-word-of-3 : tie.Need-shared-slice-read-word-of-3
-shared-slice-read-word-of-3 c = search rules
-
-word-of-requires-2 : tie.Need-word-of-requires-2
-word-of-requires-2 c κs = search rules
-
-returns-3 : tie.Need-returns-3
 unfolding word_at byte_at
-returns-3 c = c.word-of2.ensures
+returns c = c.word_of-2.ensures
 
 pub word_at_spec : {M : Type 1} → statement M
 word_at_spec =
     tie.close
     (tie.spec
-    returns
-    add-next
-    shared-slice-read-word-of
-    word-of-requires
-    returns-2
-    shared-slice-read-word-of-2
-    shared-slice-read-word-of-3
-    word-of-requires-2
-    returns-3)
+    returns-then-n-at
+    overflow_add-next
+    bounds-s-at
+    word_of-requires
+    returns-then-n-next
+    bounds-s-at-2
+    bounds-s-next
+    word_of-requires-2
+    returns)

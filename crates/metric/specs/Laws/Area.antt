@@ -9,8 +9,8 @@ use borrow.Author.Tests.{lt-ltb, ltb-true, ltb-false}
 use Rattle.lfa.specs.Lists.{cell}
 use Rattle.lfa.specs.Network.{Network, arcs}
 use Rattle.lfa.specs.Distance.{unreachable, distances, distance_in, filled}
-use Rattle.lfa.specs.Laws.Table.{cell_out}
-use Rattle.lfa.specs.Laws.Work.{stage_table, work_cell, later_cell, work_length}
+use Rattle.lfa.proofs.Laws.Table.{cell_out}
+use Rattle.lfa.proofs.Laws.Work.{stage_table, work_cell, later_cell, work_length}
 use Rattle.metric.specs.Area.{area_cell, held, cell_in}
 use Rattle.metric.specs.Laws.Fit.{cells_fit_lem}
 

@@ -5,7 +5,7 @@ use Rattle.std.proofs.Common.{◌∙◌, arith}
 use Rattle.std.proofs.Math.ListN.{get_or-append}
 use Rattle.lfa.specs.Lists.{below}
 use Rattle.lfa.specs.FileOf.{pad}
-use Rattle.lfa.specs.Laws.Counting.{length_map_below, map_below_at}
+use Rattle.lfa.proofs.Laws.Counting.{length_map_below, map_below_at}
 use Rattle.metric.specs.Column.{column}
 
 -- padding leaves the cells before it as they are

@@ -5,12 +5,12 @@ use Rattle.std.proofs.Common.{◌∙◌, subst, sym, ap, inl, inr, add-zero, ari
 use Rattle.std.specs.Prelude.{◌≡◌, length, get_or}
 use mathlib.Core.List.{[], ◌∷◌, ◌++◌, List, map, Memᴰ}
 use Rattle.lfa.specs.Network.{Arc, arc, Link, link, Network, arcs_from, arcs}
-use Rattle.lfa.specs.Laws.Arrive.{Within}
-use Rattle.lfa.specs.Laws.Network.{arcs_give, Direction, LinkSound, LinksSound, limits_links}
+use Rattle.lfa.proofs.Laws.Arrive.{Within}
+use Rattle.lfa.proofs.Laws.Network.{arcs_give, Direction, LinkSound, LinksSound, limits_links}
 use Rattle.lfa.specs.Lists.{below}
 use Rattle.lfa.specs.FileOf.{WithinLimits}
-use Rattle.lfa.specs.Laws.List.{get_d_in}
-use Rattle.lfa.specs.Laws.Counting.{length_map_below, map_below_at}
+use Rattle.lfa.proofs.Laws.List.{get_d_in}
+use Rattle.lfa.proofs.Laws.Counting.{length_map_below, map_below_at}
 use Rattle.metric.specs.Laws.List.{map_below_more}
 use Rattle.metric.specs.Fit.{ColumnsWithin}
 use Rattle.metric.specs.Columns.{links_in, arcs_in, InColumns}

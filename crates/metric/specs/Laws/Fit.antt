@@ -2,8 +2,8 @@
 -- Assumes nothing.
 use Rattle.std.specs.Prelude.{ℕ, ◌+◌, ◌*◌, ◌≤◌, ◌≡◌, true, List, leb, ltb, get_or}
 use Rattle.std.proofs.Common.{ltb-true, leb-true, lt-ltb, le-leb}
-use Rattle.lfa.specs.Laws.Test.{and_left, and_right, and_make}
-use Rattle.lfa.specs.Laws.List.{every_gives, every_make}
+use Rattle.lfa.proofs.Laws.Test.{and_left, and_right, and_make}
+use Rattle.lfa.proofs.Laws.List.{every_gives, every_make}
 use Rattle.metric.specs.Fit.{cells_fit, joins, links_fit, attaches, slots_fit, ColumnsWithin, SlotsWithin}
 
 -- ---- the tests pass

@@ -7,7 +7,7 @@ use Rattle.std.proofs.Math.Bool.{true, false}
 use mathlib.Core.List.{[], Memᴰ, List, ◌∷◌, ◌++◌, map, map-append}
 use Rattle.std.proofs.Math.Decide.{ℕ_discrete}
 use Rattle.lfa.specs.Lists.{every_below, keepIf, select, any_of, count_up, below}
-use Rattle.lfa.specs.Laws.List.{every_gives}
+use Rattle.lfa.proofs.Laws.List.{every_gives}
 
 -- ---- counting up, one number more
 

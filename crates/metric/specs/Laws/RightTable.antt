@@ -7,11 +7,11 @@ use Rattle.std.proofs.Math.Decide.{ℕ_discrete, dec_lt}
 use borrow.Author.Tests.{le-ltb, eq-eqb, ne_eqb}
 use Rattle.lfa.specs.Network.{Arc, arc, Network, arcs}
 use Rattle.lfa.specs.Distance.{unreachable, LeastCosts, distances, distance_in, filled}
-use Rattle.lfa.specs.Laws.Arrive.{Within}
-use Rattle.lfa.specs.Laws.Walk.{Descends}
-use Rattle.lfa.specs.Laws.Distance.{distances_least}
-use Rattle.lfa.specs.Laws.Local.{Local, local_distances, distances_local, distances_unique}
-use Rattle.lfa.specs.Laws.Work.{work_cell}
+use Rattle.lfa.proofs.Laws.Arrive.{Within}
+use Rattle.lfa.proofs.Laws.Walk.{Descends}
+use Rattle.lfa.proofs.Laws.Distance.{distances_least}
+use Rattle.lfa.proofs.Laws.Local.{Local, local_distances, distances_local, distances_unique}
+use Rattle.lfa.proofs.Laws.Work.{work_cell}
 use Rattle.metric.specs.RightTable.{RightTable}
 use Rattle.metric.specs.Area.{area_cell, held}
 use Rattle.metric.specs.Laws.Area.{held_cell, area_filled_lem}

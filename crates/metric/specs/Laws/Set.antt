@@ -11,7 +11,7 @@ use Rattle.std.proofs.Math.Arith.{digits_mod}
 use Rattle.std.proofs.lemmas.Bool.{eqb-false}
 use Rattle.lfa.specs.Lists.{one}
 use Rattle.lfa.specs.Space.{set_of, has}
-use Rattle.lfa.specs.Laws.Set.{set_of_lt, set_of_has, set_of_same, has_set_of}
+use Rattle.lfa.proofs.Laws.Set.{set_of_lt, set_of_has, set_of_same, has_set_of}
 
 or_low : (a b : ℕ) → bit_or a b % 2 ≡ max (a % 2) (b % 2)
 or_low a b = ap (λ (x : ℕ). x % 2) (or_step a b) ∙ digits_mod (bit_or (a / 2) (b / 2)) (omega (arith, mod-lt a (zero-lt-suc 1), mod-lt b (zero-lt-suc 1)))

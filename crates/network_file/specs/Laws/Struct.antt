@@ -11,10 +11,10 @@ use Rattle.std.proofs.Math.ListN.{length, get_or, length-map}
 use Rattle.lfa.specs.Lists.{flat}
 use Rattle.lfa.specs.Network.{Link, link, Attachment, at, Target, Network}
 use Rattle.lfa.specs.FileOf.{pad, WithinLimits}
-use Rattle.lfa.specs.Laws.Chunks.{element_mapped, part_element, part_flat, EachLong, made_again}
-use Rattle.lfa.specs.Laws.List.{get_d_in}
-use Rattle.lfa.specs.Laws.File.WrittenBlock.{pad_long}
-use Rattle.lfa.specs.Laws.File.WrittenFile.{FewAttached, limits_few, prefix_within_at}
+use Rattle.lfa.proofs.Laws.Chunks.{element_mapped, part_element, part_flat, EachLong, made_again}
+use Rattle.lfa.proofs.Laws.List.{get_d_in}
+use Rattle.lfa.proofs.Laws.File.WrittenBlock.{pad_long}
+use Rattle.lfa.proofs.Laws.File.WrittenFile.{FewAttached, limits_few, prefix_within_at}
 use Rattle.metric.specs.Fit.{SlotsWithin}
 use Rattle.metric.specs.Columns.{links_in, InColumns}
 use Rattle.metric.specs.Column.{slots_in}

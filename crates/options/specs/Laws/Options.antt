@@ -14,9 +14,9 @@ use Rattle.lfa.specs.Distance.{unreachable, towards}
 use Rattle.lfa.specs.Space.{has}
 use Rattle.lfa.specs.Walk.{is_step}
 use Rattle.lfa.specs.Route.{Move, delivers, is_step_to, next_routers, moves_of, options, option_taken}
-use Rattle.lfa.specs.Laws.Test.{and_right}
-use Rattle.lfa.specs.Laws.List.{any_gives, below_mem, from_counted}
-use Rattle.lfa.specs.Laws.Arrive.{Within}
+use Rattle.lfa.proofs.Laws.Test.{and_right}
+use Rattle.lfa.proofs.Laws.List.{any_gives, below_mem, from_counted}
+use Rattle.lfa.proofs.Laws.Arrive.{Within}
 use Rattle.metric.specs.Column.{column}
 use Rattle.metric.specs.Laws.List.{select_append, select_same}
 use Rattle.metric.specs.Laws.Column.{column_at}

@@ -6,8 +6,8 @@ use mathlib.Core.List.Memᴰ
 use mathlib.Core.List.{List, [], ◌∷◌, map, Memᴰ}
 use Rattle.lfa.specs.Lists.{below}
 use Rattle.lfa.specs.Network.{Attachment, at, Target}
-use Rattle.lfa.specs.Laws.Test.{decide}
-use Rattle.lfa.specs.Laws.List.{flat_gives, flat_make, mem_below, below_mem}
+use Rattle.lfa.proofs.Laws.Test.{decide}
+use Rattle.lfa.proofs.Laws.List.{flat_gives, flat_make, mem_below, below_mem}
 use Rattle.ospf.specs.Order.{Ascending, none, first, Paired, next}
 use Rattle.ospf.specs.Lsa.{Lsa}
 use Rattle.ospf.specs.Run.{SoundRun}

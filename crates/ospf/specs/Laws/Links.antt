@@ -8,7 +8,7 @@ use mathlib.Core.List.{List, [], ◌∷◌, map, Memᴰ}
 use native.Mathlib.Omega.{arith}
 use Rattle.lfa.specs.Lists.{below, flat}
 use Rattle.lfa.specs.Network.{Link, link}
-use Rattle.lfa.specs.Laws.List.{flat_gives, flat_make, mem_below, below_mem}
+use Rattle.lfa.proofs.Laws.List.{flat_gives, flat_make, mem_below, below_mem}
 use Rattle.ospf.specs.Order.{Ascending, none, first}
 use Rattle.ospf.specs.Lsa.{Lsa}
 use Rattle.ospf.specs.Run.{SoundRun}

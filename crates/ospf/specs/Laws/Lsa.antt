@@ -7,8 +7,8 @@ use Rattle.std.proofs.Math.Bool.{true}
 use borrow.Author.Tests.{leb-true, le-leb, eqb-true, eqb-false, eq-eqb, ne_eqb, not-true}
 use Rattle.lfa.specs.Lists.{every_below}
 use Rattle.lfa.specs.File.{Bytes, byte_at}
-use Rattle.lfa.specs.Laws.Test.{and_left, and_right, and_make, or_cases, not_make, not_gives}
-use Rattle.lfa.specs.Laws.List.{every_gives, every_make}
+use Rattle.lfa.proofs.Laws.Test.{and_left, and_right, and_make, or_cases, not_make, not_gives}
+use Rattle.lfa.proofs.Laws.List.{every_gives, every_make}
 use Rattle.ospf.specs.Lsa.{Entry, entry, length_field, router_field, links_field, entry_at, whole_good, filled_good, type_good, Sums, sums, fletcher, both_zero, be16, checksum_good}
 use Rattle.ospf.specs.Lsa.{sound_entry, same_neighbour, entry_good, entry_new, sound_lsa, SoundEntry, point_to_point, stub, Apart, SoundLsa}
 use Rattle.ospf.specs.Run.{lsa_bytes, router_new, lsa_good, GoodLsa}

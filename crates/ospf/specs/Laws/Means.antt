@@ -8,7 +8,7 @@ use Rattle.std.proofs.Math.Dec.{ltb}
 use Rattle.std.proofs.Math.ListN.{length-map}
 use borrow.Author.Tests.{ltb-true}
 use Rattle.lfa.specs.Network.{Link, link, Attachment, at, Target, Network}
-use Rattle.lfa.specs.Laws.List.{map_gives, map_make}
+use Rattle.lfa.proofs.Laws.List.{map_gives, map_make}
 use Rattle.ospf.specs.Order.{Pairwise, Ascending, none, first, Paired, next}
 use Rattle.ospf.specs.Lsa.{Lsa, lsa}
 use Rattle.ospf.specs.Run.{Differ, SoundRun}

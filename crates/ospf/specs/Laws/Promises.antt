@@ -8,9 +8,9 @@ use Rattle.lfa.specs.Network.{Network}
 use Rattle.lfa.specs.File.{Bytes}
 use Rattle.lfa.specs.FileOf.{file_of, WithinLimits}
 use Rattle.lfa.specs.Writing.{has_file, count_written, buffer_written, Written, file_fits}
-use Rattle.lfa.specs.Laws.Test.{and_left, and_right, and_make, and_false, fails_make}
-use Rattle.lfa.specs.Laws.Writing.{has_limits, limits_have}
-use Rattle.lfa.specs.Laws.Point13.{point_13}
+use Rattle.lfa.proofs.Laws.Test.{and_left, and_right, and_make, and_false, fails_make}
+use Rattle.lfa.proofs.Laws.Writing.{has_limits, limits_have}
+use Rattle.lfa.proofs.Laws.Point13.{point_13}
 use Rattle.ospf.specs.Run.{FirstBad, whole}
 use Rattle.ospf.specs.Import.{network_of, ImportAnswer, refused, written, import_answer, is_written, import_exit}
 use Rattle.ospf.specs.Promises.{RunMeans, count_of, Point6}

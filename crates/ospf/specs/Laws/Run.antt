@@ -12,8 +12,8 @@ use Rattle.std.proofs.Math.ListN.{length}
 use borrow.Author.Tests.{leb-true, leb-false, ltb-true, ltb-false}
 use Rattle.lfa.specs.Lists.{below, count_up, flat}
 use Rattle.lfa.specs.File.{Bytes, byte_at, part_of}
-use Rattle.lfa.specs.Laws.Test.{decide}
-use Rattle.lfa.specs.Laws.File.Parts.{part_none, parts_join, part_whole}
+use Rattle.lfa.proofs.Laws.Test.{decide}
+use Rattle.lfa.proofs.Laws.File.Parts.{part_none, parts_join, part_whole}
 use Rattle.ospf.specs.Lsa.{be16, length_field}
 use Rattle.ospf.specs.Run.{begin_of, lsa_bytes, lsa_good, GoodLsa, FirstBad, WholeRun, Scanned, bad_at, whole, scan_from, scan}
 use Rattle.ospf.specs.Laws.Lsa.{good_gives, good_make}

@@ -6,8 +6,8 @@ use mathlib.Core.List.Memᴰ
 use mathlib.Core.List.{List, [], ◌∷◌, map, Memᴰ}
 use borrow.Author.Tests.{eqb-true, eq-eqb, ne_eqb}
 use Rattle.lfa.specs.Lists.{select, keepIf}
-use Rattle.lfa.specs.Laws.Test.{and_left, and_right, and_make}
-use Rattle.lfa.specs.Laws.List.{select_gives, select_make, map_gives, map_make, flat_gives, flat_make}
+use Rattle.lfa.proofs.Laws.Test.{and_left, and_right, and_make}
+use Rattle.lfa.proofs.Laws.List.{select_gives, select_make, map_gives, map_make, flat_gives, flat_make}
 use Rattle.ospf.specs.Order.{Pairwise, none, first}
 use Rattle.ospf.specs.Lsa.{Entry, entry, Lsa, lsa, SoundEntry, point_to_point, stub, Apart}
 use Rattle.ospf.specs.Run.{Differ, SoundRun}

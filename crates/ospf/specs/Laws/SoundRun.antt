@@ -5,8 +5,8 @@ use Rattle.std.proofs.Common.{sym, arith}
 use mathlib.Core.List.{List, map, Memᴰ}
 use Rattle.lfa.specs.Lists.{below}
 use Rattle.lfa.specs.File.{Bytes, byte_at}
-use Rattle.lfa.specs.Laws.Counting.{map_below_gives}
-use Rattle.lfa.specs.Laws.File.Passes.{AreBytes}
+use Rattle.lfa.proofs.Laws.Counting.{map_below_gives}
+use Rattle.lfa.proofs.Laws.File.Passes.{AreBytes}
 use Rattle.ospf.specs.Order.{Pairwise}
 use Rattle.ospf.specs.Lsa.{be16, be32, router_field, links_field, entry_at, Entry, lsa, lsa_in, SoundEntry, Apart}
 use Rattle.ospf.specs.Run.{lsa_bytes, lsas_of, WholeRun, Differ, SoundRun}

@@ -9,7 +9,7 @@ use Rattle.lfa.specs.FileOf.{WithinLimits}
 use Rattle.lfa.specs.Question.{Question}
 use Rattle.lfa.specs.Refusal.{Posed}
 use Rattle.lfa.specs.Answer.{answer_to, network_loaded}
-use Rattle.lfa.specs.Laws.Accepted.{accepted_limits, accepted_loaded, link_count, prefix_count}
+use Rattle.lfa.proofs.Laws.Accepted.{accepted_limits, accepted_loaded, link_count, prefix_count}
 use Rattle.network_file.specs.declared.Verdict.TheVariants as verdict
 use Rattle.network_file.specs.Struct.{links_struct_of}
 use Rattle.network_file.specs.Laws.Struct.{struct_columns}
@@ -20,8 +20,8 @@ use Rattle.metric.specs.Laws.Columns.{limits_columns}
 use Rattle.network_file.specs.declared.Verdict.{Verdict}
 use Rattle.network_file.specs.Load.{answer_of}
 use Rattle.lfa.specs.Question.{loading}
-use Rattle.lfa.specs.Laws.FileRows.{load_accepted}
-use Rattle.lfa.specs.Laws.Turned.{load_accepts}
+use Rattle.lfa.proofs.Laws.FileRows.{load_accepted}
+use Rattle.lfa.proofs.Laws.Turned.{load_accepts}
 use Rattle.question.specs.Taken.{Taken}
 
 -- ---- the links that the file part hands over

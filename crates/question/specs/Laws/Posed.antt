@@ -10,8 +10,8 @@ use Rattle.lfa.specs.Question.{Question, a_table, HasInput, network_asked}
 use Rattle.lfa.specs.Refusal.{Posed}
 use Rattle.lfa.specs.Answer.{network_loaded}
 use Rattle.lfa.specs.Contract.{Answered}
-use Rattle.lfa.specs.Laws.Accepted.{accepted_loaded}
-use Rattle.lfa.specs.Laws.Turned.{TurnedAway, answer_turned_away, answer_posed}
+use Rattle.lfa.proofs.Laws.Accepted.{accepted_loaded}
+use Rattle.lfa.proofs.Laws.Turned.{TurnedAway, answer_turned_away, answer_posed}
 use Rattle.network_file.specs.declared.network.Links.{Links}
 use Rattle.metric.specs.Laws.Area as metric
 use Rattle.question.specs.declared.Refusal.{Refusal}

@@ -9,9 +9,9 @@ use Rattle.lfa.specs.Space.{Space}
 use Rattle.lfa.specs.Repair.{Outcome}
 use Rattle.lfa.specs.Question.{Question, Source, Call, fill, space, link_repair, prefix_repair, work_area, some_cells, inputs_of, input_number, has_input, network_asked}
 use Rattle.lfa.specs.Answer.{Answer, done, set, repair_answer, computed, answer_to, exit_of, network_loaded}
-use Rattle.lfa.specs.Laws.Accepted.{accepted_loaded}
-use Rattle.lfa.specs.Laws.Asked.{posed_work}
-use Rattle.lfa.specs.Laws.Replies.{computes, has, space_has_link, link_has_link, prefix_has_link, prefix_has_prefix}
+use Rattle.lfa.proofs.Laws.Accepted.{accepted_loaded}
+use Rattle.lfa.proofs.Laws.Asked.{posed_work}
+use Rattle.lfa.proofs.Laws.Replies.{computes, has, space_has_link, link_has_link, prefix_has_link, prefix_has_prefix}
 use Rattle.network_file.specs.declared.network.Links.{Links}
 use Rattle.network_file.specs.declared.network.Network.{Network}
 use Rattle.network_file.specs.Struct.{struct_of, link_part}

@@ -14,9 +14,9 @@ use Rattle.lfa.specs.Space.{under_maintenance, Protected, protected, Space, spac
 use Rattle.lfa.specs.Repair.{link_outcome, prefix_outcome}
 use Rattle.lfa.specs.Question.{Question, some_cells, a_link, a_prefix, HasInput, network_asked, link_asked, prefix_asked, withDistances, link_found, prefix_found}
 use Rattle.lfa.specs.Refusal.{Posed}
-use Rattle.lfa.specs.Laws.Accepted.{link_count, prefix_count}
-use Rattle.lfa.specs.Laws.Network.{LinksSound, limits_links, limits_sound, limits_distances, limits_named}
-use Rattle.lfa.specs.Laws.Work.{work_length}
+use Rattle.lfa.proofs.Laws.Accepted.{link_count, prefix_count}
+use Rattle.lfa.proofs.Laws.Network.{LinksSound, limits_links, limits_sound, limits_distances, limits_named}
+use Rattle.lfa.proofs.Laws.Work.{work_length}
 use Rattle.network_file.specs.declared.network.Links.{Links}
 use Rattle.network_file.specs.declared.network.Network.{Network}
 use Rattle.network_file.specs.Struct.{struct_of, link_part}

@@ -9,7 +9,7 @@ use lib.ListN.{length, drop}
 use Rattle.lfa.specs.Repair.{serving}
 use Rattle.lfa.specs.Question.{Question, prefix_found}
 use Rattle.lfa.specs.Answer.{played, repair_answer}
-use Rattle.lfa.specs.Laws.Asked.{answer_chosen}
+use Rattle.lfa.proofs.Laws.Asked.{answer_chosen}
 use Rattle.order.specs.Order.{told_in}
 use Rattle.answers.specs.Answer.{repair_of}
 use Rattle.question.specs.Laws.Posed.{refused_away}

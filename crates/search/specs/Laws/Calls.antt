@@ -7,9 +7,9 @@ use borrow.Author.Tests.{lt-ltb, le-leb}
 use Rattle.lfa.specs.Network.{router}
 use Rattle.lfa.specs.Space.{Space, space_of}
 use Rattle.lfa.specs.Repair.{link_outcome, prefix_outcome}
-use Rattle.lfa.specs.Laws.Test.{and_make}
-use Rattle.lfa.specs.Laws.Bound.{falls}
-use Rattle.lfa.specs.Laws.Repair.{may_test}
+use Rattle.lfa.proofs.Laws.Test.{and_make}
+use Rattle.lfa.proofs.Laws.Bound.{falls}
+use Rattle.lfa.proofs.Laws.Repair.{may_test}
 use Rattle.network_file.specs.declared.network.Links.{Links}
 use Rattle.network_file.specs.declared.network.Network.{Network}
 use Rattle.network_file.specs.Struct.{link_part}

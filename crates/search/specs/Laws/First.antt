@@ -10,7 +10,7 @@ use Rattle.lfa.specs.Network.{Arc, Target}
 use Rattle.lfa.specs.Space.{Protected}
 use Rattle.lfa.specs.Ranks.{rank_of}
 use Rattle.lfa.specs.Repair.{Pair, class_of, told_of, key, pair_key, no_later, earlier, choose, outcome_of}
-use Rattle.lfa.specs.Laws.Order.{later_gives, later_make, later_trans, later_total}
+use Rattle.lfa.proofs.Laws.Order.{later_gives, later_make, later_trans, later_total}
 use Rattle.order.specs.declared.Ordered.{Ordered}
 use Rattle.order.specs.Order.{keys_in, earlier_of}
 use Rattle.search.specs.Choice.{outcome_for, first_of}

@@ -12,10 +12,10 @@ use Rattle.lfa.specs.Network.{Arc, Target, router}
 use Rattle.lfa.specs.Distance.{unreachable, towards}
 use Rattle.lfa.specs.Walk.{avoids, visits}
 use Rattle.lfa.specs.Space.{Protected, FirstHop, first_hops, Space, p_space, extended_p, q_space, in_space, space_of, set_of, has}
-use Rattle.lfa.specs.Laws.Set.{set_of_same, has_set_of}
-use Rattle.lfa.specs.Laws.Bound.{falls}
-use Rattle.lfa.specs.Laws.Visit.{visits_make, misses, misses_reached, arrival_visits}
-use Rattle.lfa.specs.Laws.Pair.{firsts_give}
+use Rattle.lfa.proofs.Laws.Set.{set_of_same, has_set_of}
+use Rattle.lfa.proofs.Laws.Bound.{falls}
+use Rattle.lfa.proofs.Laws.Visit.{visits_make, misses, misses_reached, arrival_visits}
+use Rattle.lfa.proofs.Laws.Pair.{firsts_give}
 use Rattle.metric.specs.Area.{held}
 use Rattle.metric.specs.Column.{column}
 use Rattle.metric.specs.Laws.Column.{column_at}

@@ -17,13 +17,13 @@ use Rattle.lfa.specs.Distance.{unreachable, towards}
 use Rattle.lfa.specs.Walk.{avoids, visits}
 use Rattle.lfa.specs.Space.{Protected, FirstHop, first_hops, extended_p, in_space, space_of, has, set_of}
 use Rattle.lfa.specs.Repair.{Pair, is_endpoint, pairs_of, pairs, serves, node_protects, base_class_of, class_of, first_pair, Outcome, outcome_of, prefix_unreachable, prefix_untouched, may_cross, prefix_outcome}
-use Rattle.lfa.specs.Laws.Test.{and_left, and_right}
-use Rattle.lfa.specs.Laws.List.{any_make, below_mem, select_gives}
-use Rattle.lfa.specs.Laws.Set.{has_set_of, has_and}
-use Rattle.lfa.specs.Laws.Target.{towards_router}
-use Rattle.lfa.specs.Laws.Bound.{distance_small}
-use Rattle.lfa.specs.Laws.Visit.{misses, misses_reached}
-use Rattle.lfa.specs.Laws.Pair.{firsts_give}
+use Rattle.lfa.proofs.Laws.Test.{and_left, and_right}
+use Rattle.lfa.proofs.Laws.List.{any_make, below_mem, select_gives}
+use Rattle.lfa.proofs.Laws.Set.{has_set_of, has_and}
+use Rattle.lfa.proofs.Laws.Target.{towards_router}
+use Rattle.lfa.proofs.Laws.Bound.{distance_small}
+use Rattle.lfa.proofs.Laws.Visit.{misses, misses_reached}
+use Rattle.lfa.proofs.Laws.Pair.{firsts_give}
 use Rattle.metric.specs.Area.{held, cell_in}
 use Rattle.metric.specs.Column.{column}
 use Rattle.metric.specs.Laws.Area.{cell_known}

@@ -13,12 +13,12 @@ use Rattle.lfa.specs.Network.{Arc, arc, Target}
 use Rattle.lfa.specs.Distance.{unreachable, towards}
 use Rattle.lfa.specs.Walk.{is_step, takers, over, avoids, visits}
 use Rattle.lfa.specs.Space.{Protected, has, set_of}
-use Rattle.lfa.specs.Laws.Test.{and_left, and_right, and_make, or_cases, or_left, or_right, same_test}
-use Rattle.lfa.specs.Laws.List.{any_gives, any_make}
-use Rattle.lfa.specs.Laws.Set.{set_of_same, has_set_of}
-use Rattle.lfa.specs.Laws.Arrive.{Falls}
-use Rattle.lfa.specs.Laws.Avoid.{step_leaves, Named}
-use Rattle.lfa.specs.Laws.Visit.{misses}
+use Rattle.lfa.proofs.Laws.Test.{and_left, and_right, and_make, or_cases, or_left, or_right, same_test}
+use Rattle.lfa.proofs.Laws.List.{any_gives, any_make}
+use Rattle.lfa.proofs.Laws.Set.{set_of_same, has_set_of}
+use Rattle.lfa.proofs.Laws.Arrive.{Falls}
+use Rattle.lfa.proofs.Laws.Avoid.{step_leaves, Named}
+use Rattle.lfa.proofs.Laws.Visit.{misses}
 use Rattle.metric.specs.Fit.{ColumnsWithin}
 use Rattle.metric.specs.Columns.{arcs_in}
 use Rattle.metric.specs.Column.{column}

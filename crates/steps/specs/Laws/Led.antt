@@ -17,10 +17,10 @@ use Rattle.lfa.specs.Network.{Arc, arc, Target}
 use Rattle.lfa.specs.Walk.{is_step, leads, takers}
 use Rattle.lfa.specs.Space.{has}
 use Rattle.lfa.specs.Route.{is_step_to}
-use Rattle.lfa.specs.Laws.Test.{and_left, and_right, and_make, or_cases, or_left, or_right, same_test, decide}
-use Rattle.lfa.specs.Laws.List.{any_gives, any_make, mem_below, below_mem, select_gives, select_make, member_gives, member_make}
-use Rattle.lfa.specs.Laws.Set.{has_set_of, has_and}
-use Rattle.lfa.specs.Laws.Arrive.{Within}
+use Rattle.lfa.proofs.Laws.Test.{and_left, and_right, and_make, or_cases, or_left, or_right, same_test, decide}
+use Rattle.lfa.proofs.Laws.List.{any_gives, any_make, mem_below, below_mem, select_gives, select_make, member_gives, member_make}
+use Rattle.lfa.proofs.Laws.Set.{has_set_of, has_and}
+use Rattle.lfa.proofs.Laws.Arrive.{Within}
 use Rattle.metric.specs.Laws.Set.{has_or, has_none, no_member}
 use Rattle.steps.specs.Steps.{led_to, led_in}
 use Rattle.steps.specs.Laws.Next.{RightNexts}

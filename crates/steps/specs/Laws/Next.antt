@@ -14,11 +14,11 @@ use Rattle.lfa.specs.Distance.{unreachable, towards}
 use Rattle.lfa.specs.Walk.{is_step}
 use Rattle.lfa.specs.Space.{has, set_of}
 use Rattle.lfa.specs.Route.{is_step_to}
-use Rattle.lfa.specs.Laws.Test.{and_left, and_right, and_make, same_test, fails_make}
-use Rattle.lfa.specs.Laws.Counting.{map_below_at}
-use Rattle.lfa.specs.Laws.Set.{set_of_lt, has_set_of}
-use Rattle.lfa.specs.Laws.Arrive.{Within}
-use Rattle.lfa.specs.Laws.Avoid.{step_leaves}
+use Rattle.lfa.proofs.Laws.Test.{and_left, and_right, and_make, same_test, fails_make}
+use Rattle.lfa.proofs.Laws.Counting.{map_below_at}
+use Rattle.lfa.proofs.Laws.Set.{set_of_lt, has_set_of}
+use Rattle.lfa.proofs.Laws.Arrive.{Within}
+use Rattle.lfa.proofs.Laws.Avoid.{step_leaves}
 use Rattle.metric.specs.Column.{column}
 use Rattle.metric.specs.Laws.Column.{column_at}
 use Rattle.metric.specs.Laws.List.{any_same}

@@ -11,12 +11,12 @@ use Rattle.lfa.specs.Network.{Arc, arc, Target}
 use Rattle.lfa.specs.Walk.{Walk, here, hop, Visits, is_step, visits}
 use Rattle.lfa.specs.Space.{has, set_of}
 use Rattle.lfa.specs.Route.{is_step_to}
-use Rattle.lfa.specs.Laws.Test.{and_left, and_right, and_make, same_test}
-use Rattle.lfa.specs.Laws.List.{any_gives, any_make}
-use Rattle.lfa.specs.Laws.Set.{has_set_of}
-use Rattle.lfa.specs.Laws.Arrive.{Within, Falls, walk_few}
-use Rattle.lfa.specs.Laws.Avoid.{step_gives, step_make}
-use Rattle.lfa.specs.Laws.Visit.{visits_gives, visits_make}
+use Rattle.lfa.proofs.Laws.Test.{and_left, and_right, and_make, same_test}
+use Rattle.lfa.proofs.Laws.List.{any_gives, any_make}
+use Rattle.lfa.proofs.Laws.Set.{has_set_of}
+use Rattle.lfa.proofs.Laws.Arrive.{Within, Falls, walk_few}
+use Rattle.lfa.proofs.Laws.Avoid.{step_gives, step_make}
+use Rattle.lfa.proofs.Laws.Visit.{visits_gives, visits_make}
 use Rattle.metric.specs.Laws.Set.{has_none}
 use Rattle.steps.specs.Steps.{led_in}
 use Rattle.steps.specs.Laws.Next.{RightNexts}

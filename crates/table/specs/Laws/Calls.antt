@@ -7,10 +7,10 @@ use Rattle.std.proofs.Math.Bool.{true}
 use Rattle.lfa.specs.Network.{Network, arcs}
 use Rattle.lfa.specs.FileOf.{WithinLimits}
 use Rattle.lfa.specs.Distance.{distances, cells_hold, holds_distances}
-use Rattle.lfa.specs.Laws.Test.{and_right, and_make, same_test}
-use Rattle.lfa.specs.Laws.List.{every_make}
-use Rattle.lfa.specs.Laws.Network.{limits_links}
-use Rattle.lfa.specs.Laws.Holds.{holds_gives}
+use Rattle.lfa.proofs.Laws.Test.{and_right, and_make, same_test}
+use Rattle.lfa.proofs.Laws.List.{every_make}
+use Rattle.lfa.proofs.Laws.Network.{limits_links}
+use Rattle.lfa.proofs.Laws.Holds.{holds_gives}
 use Rattle.metric.specs.Fit.{cells_fit, links_fit}
 use Rattle.metric.specs.Columns.{InColumns, network_in}
 use Rattle.metric.specs.Laws.Fit.{cells_fit_lem, links_fit_lem}

@@ -8,19 +8,19 @@ use Rattle.metric.specs.Fit.{cells_fit}
 use Rattle.metric.proofs.read.cells_fit.Statement.{statement}
 use Rattle.metric.proofs.read.cells_fit.Tie as tie
 
-mul-result : tie.Need-overflow-mul-result
-mul-result c =
-    let h : c.before.args.n ≤ 64 = c.if1.true in
+overflow_mul-result : tie.Need-overflow_mul-result
+overflow_mul-result c =
+    let h : c.before.args.n ≤ 64 = c.if-n-le64.true in
     let m : c.before.args.n * c.before.args.n ≤ 64 * 64 = mul-le-mul h h in
     omega arith
 
-returns : tie.Need-returns
+returns-then-n-le64 : tie.Need-returns-then-n-le64
 unfolding cells_fit
-returns c = rw (le-leb _ _ c.if1.true)
+returns-then-n-le64 c = rw (le-leb _ _ c.if-n-le64.true)
 
-returns-2 : tie.Need-returns-2
+returns-else-n-le64 : tie.Need-returns-else-n-le64
 unfolding cells_fit
-returns-2 c = rw (lt-leb _ _ c.if1.false)
+returns-else-n-le64 c = rw (lt-leb _ _ c.if-n-le64.false)
 
 pub cells_fit_spec : {M : Type 1} → statement M
-cells_fit_spec = tie.close (tie.spec mul-result returns returns-2)
+cells_fit_spec = tie.close (tie.spec overflow_mul-result returns-then-n-le64 returns-else-n-le64)

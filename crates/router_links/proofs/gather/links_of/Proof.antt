@@ -6,7 +6,7 @@ use mathlib.Core.List.{map}
 use native.Mathlib.Omega.{arith}
 use borrow.Author.Rules.{rules}
 use Rattle.lfa.specs.Lists.{below, flat}
-use Rattle.lfa.specs.Laws.File.Passes.{AreBytes}
+use Rattle.lfa.proofs.Laws.File.Passes.{AreBytes}
 use Rattle.ospf.specs.Run.{lsas_of}
 use Rattle.ospf.specs.Network.{links_up, ids_of}
 use Rattle.router_links.specs.Gather.{LinksHeld}

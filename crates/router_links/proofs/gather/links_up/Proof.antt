@@ -5,7 +5,7 @@ use mathlib.Core.List.{List, ◌++◌}
 use native.Mathlib.Omega.{arith}
 use borrow.Author.Rules.{rules}
 use Rattle.lfa.specs.Network.{Link}
-use Rattle.lfa.specs.Laws.File.Passes.{AreBytes}
+use Rattle.lfa.proofs.Laws.File.Passes.{AreBytes}
 use Rattle.router_links.specs.Gather.{LinksHeld}
 use Rattle.router_links.proofs.JoinLaws.{up_to, stands_at, up_starts, up_next, up_done}
 use Rattle.router_links.proofs.gather.links_up.Statement.{statement}

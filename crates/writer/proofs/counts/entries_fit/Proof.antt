@@ -8,7 +8,7 @@ use lib.Dec.{leb}
 use lib.ListN.{get_or}
 use borrow.Author.Tests.{le-leb, lt-leb}
 use borrow.Author.Rules.{rules}
-use Rattle.lfa.specs.Laws.List.{every_make}
+use Rattle.lfa.proofs.Laws.List.{every_make}
 use Rattle.metric.specs.Laws.List.{every_fails, every_more}
 use Rattle.writer.proofs.counts.entries_fit.Statement.{statement}
 use Rattle.writer.proofs.counts.entries_fit.Tie as tie
