@@ -11,21 +11,21 @@ use order::Pair;
 use question::Refusal;
 use search::Found;
 
-#[derive(Drop)]
+#[derive(Clone, Copy)]
 pub enum Filled {
     Done,
     Refused(Refusal),
 }
 
 // The answer of a call for a space: the set, router r being the bit of weight 2 to the power r.
-#[derive(Drop)]
+#[derive(Clone, Copy)]
 pub enum SpaceAnswer {
     Set(u64),
     Refused(Refusal),
 }
 
 // The answer of a repair call.
-#[derive(Drop)]
+#[derive(Clone, Copy)]
 pub enum Repair {
     Refused(Refusal),
     Unreachable,

@@ -32,7 +32,7 @@ fn price_of(arc: u8, out: &[u16; 128], back: &[u16; 128]) -> u32
 }
 
 // A first hop: its router, the cost from S to it, and the link that leads there.
-#[derive(Drop)]
+#[derive(Clone, Copy)]
 pub struct Hop {
     pub router: usize,
     pub cost: u32,

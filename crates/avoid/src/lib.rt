@@ -19,7 +19,7 @@ mod set;
 
 // The protected link, seen from the end that the question names: its number, the repairing router S (near), the far router E (far),
 // and the costs from S to E (out) and from E to S (back).
-#[derive(Drop)]
+#[derive(Clone, Copy)]
 pub struct Protected {
     pub number: usize,
     pub near: usize,

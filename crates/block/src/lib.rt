@@ -16,7 +16,7 @@ mod head;
 mod later;
 
 // The first of rows 1 to 5 that applies to a file, with the value that it returns, or that none does.
-#[derive(Drop)]
+#[derive(Clone, Copy)]
 pub enum Blocks {
     BadLength,
     BadCheck(usize),

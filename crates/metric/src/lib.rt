@@ -7,7 +7,7 @@ ghost use Rattle.lfa.specs.Distance.{unreachable};
 pub mod read;
 
 // A distance between routers, as a 32-bit number.
-#[derive(Drop)]
+#[derive(Clone, Copy)]
 pub struct Distance(pub u32);
 
 impl Distance {

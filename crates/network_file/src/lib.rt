@@ -25,7 +25,7 @@ pub mod network;
 mod prefix;
 
 // Why a file is turned away: rows 1 to 9, each with the block, link or prefix that it names, or the number of blocks needed.
-#[derive(Drop)]
+#[derive(Clone, Copy)]
 pub enum Fault {
     Length,
     Check(usize),
@@ -38,7 +38,7 @@ pub enum Fault {
     RouterTwice(usize),
 }
 
-#[derive(Drop)]
+#[derive(Clone, Copy)]
 pub enum Verdict {
     Accepted,
     Refused(Fault),

@@ -18,7 +18,7 @@ use route::Played;
 // An answer. A field of which its kind does not speak is 0. The kinds: 0 refused, 1 accepted, 2 done, 3 unreachable, 4 untouched,
 // 5 a set, 6 a pair, 7 a route.
 #[repr(C)]
-#[derive(Drop)]
+#[derive(Clone, Copy)]
 pub struct Numbers {
     pub kind: u32,
     pub number: u32,

@@ -11,7 +11,7 @@ use metric::Distance;
 use metric::read::wide;
 
 // What an option does: it delivers the packet, or takes it to the next router.
-#[derive(Drop)]
+#[derive(Clone, Copy)]
 pub enum Move {
     Deliver,
     Go(usize),

@@ -7,7 +7,7 @@ ghost use Rattle.lfa.specs.Repair.{no_later, or_else};
 ghost use Rattle.order.specs.Order.{keys_in, earliest_in, earlier_of, class_by};
 
 // A pair that serves, as a repair tells of it: the first hop, the endpoint, the class, and the tunnel cost.
-#[derive(Drop)]
+#[derive(Clone, Copy)]
 pub struct Pair {
     pub first: usize,
     pub endpoint: usize,
@@ -16,7 +16,7 @@ pub struct Pair {
 }
 
 // A pair, with what orders it and is not told: the rank of its class, and the distance from S to the endpoint.
-#[derive(Drop)]
+#[derive(Clone, Copy)]
 pub struct Ordered {
     pub rank: u32,
     pub distance: u32,
@@ -24,7 +24,7 @@ pub struct Ordered {
 }
 
 // The earliest of the pairs that were tried, if any was.
-#[derive(Drop)]
+#[derive(Clone, Copy)]
 pub enum Earliest {
     Nothing,
     Found(Ordered),

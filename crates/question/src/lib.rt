@@ -20,7 +20,7 @@ use table::holds_distances;
 
 // What turns a question away: rows 1 to 9 as the file part tells them, and the others with the value that each returns, where it is not
 // always 0: `NoPair` is row 14, `BadRanks` row 15, `WrongTable` row 18.
-#[derive(Drop)]
+#[derive(Clone, Copy)]
 pub enum Refusal {
     File(Fault),
     ShortArea(usize),
@@ -33,7 +33,7 @@ pub enum Refusal {
 }
 
 // What turns a question away, if anything does.
-#[derive(Drop)]
+#[derive(Clone, Copy)]
 pub enum Turned {
     Refused(Refusal),
     Ready,

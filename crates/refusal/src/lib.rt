@@ -10,7 +10,7 @@ use network_file::Fault;
 use question::Refusal;
 
 // A row of the table of refusals: its number, and the value that it returns.
-#[derive(Drop)]
+#[derive(Clone, Copy)]
 pub struct Row {
     pub number: u32,
     pub value: usize,

@@ -20,7 +20,7 @@ use search::prefix_pair;
 mod play;
 
 // The answer of a route call: a refusal, one of the answers of the prefix repair that have no pair, or how many routers were written.
-#[derive(Drop)]
+#[derive(Clone, Copy)]
 pub enum Played {
     Refused(Refusal),
     Unreachable,

@@ -15,7 +15,7 @@ mod lsa;
 mod scan;
 
 // What a run is: its first bad LSA, or how many LSAs it is.
-#[derive(Drop)]
+#[derive(Clone, Copy)]
 pub enum Run {
     Bad(usize),
     Whole(usize),

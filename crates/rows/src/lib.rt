@@ -16,7 +16,7 @@ use metric::read::wide;
 pub mod ranks;
 
 // The calls, by the inputs that these rows look at. They do not look at which space is asked for.
-#[derive(Drop)]
+#[derive(Clone, Copy)]
 pub enum Call {
     Distances,
     Space,
@@ -27,7 +27,7 @@ pub enum Call {
 
 // The cells for distances that every call is lent: how many they are; whether they are given as a table, as repair and route calls may have
 // it, or else a work area; and, of a table, whether it holds the file's distances.
-#[derive(Drop)]
+#[derive(Clone, Copy)]
 pub struct Cells {
     pub count: usize,
     pub given: bool,
@@ -36,7 +36,7 @@ pub struct Cells {
 
 // The numbers of a question, beside those cells, and whether the lent table of ranks is an arrangement. Where the call has no such input,
 // any value may stand.
-#[derive(Drop)]
+#[derive(Clone, Copy)]
 pub struct Asked {
     pub call: Call,
     pub buffer: usize,
@@ -47,7 +47,7 @@ pub struct Asked {
 }
 
 // The first of these rows that applies, with the value that it returns.
-#[derive(Drop)]
+#[derive(Clone, Copy)]
 pub enum Row {
     ShortArea(usize),
     WrongTable,
@@ -59,7 +59,7 @@ pub enum Row {
 }
 
 // Which inputs a call has, beside the file and the cells for distances.
-#[derive(Drop)]
+#[derive(Clone, Copy)]
 struct Inputs {
     table: bool,
     buffer: bool,

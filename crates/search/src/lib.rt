@@ -23,7 +23,7 @@ mod protected;
 mod space;
 
 // One of the three spaces.
-#[derive(Drop)]
+#[derive(Clone, Copy)]
 pub enum Which {
     P,
     ExtendedP,
@@ -31,7 +31,7 @@ pub enum Which {
 }
 
 // What a search found. Only a search for a prefix finds that it is unreachable or untouched.
-#[derive(Drop)]
+#[derive(Clone, Copy)]
 pub enum Found {
     Unreachable,
     Untouched,

@@ -19,7 +19,7 @@ use metric::read::{cost_of, wide};
 
 // What is known of the second leg of a pair, by its endpoint: the routers from which no walk crosses the protected link, and those from
 // which none visits E. Both hold only routers that reach the target.
-#[derive(Drop)]
+#[derive(Clone, Copy)]
 pub struct Onward {
     pub avoiding: u64,
     pub missing: u64,

@@ -12,23 +12,23 @@ use Rattle.avoid.proofs.avoiding_from.Tie as tie
 
 -- the first test passed
 left_read : (c : tie.Else1) → let a = c.before.before.before.before.args in Readable a.n (asked a.protected) a.left.now
-left_read c = reads _ _ _ (sym c.before.can_read.ensures ∙ not-false _ c.if1.false)
+left_read c = reads _ _ _ (sym c.before.can_read.ensures ∙ c.if1.false)
 
 -- and the second
 sums_read : (c : tie.Else2) → let a = c.before.before.before.before.before.before.args in Readable a.n (asked a.protected) a.sums.now
-sums_read c = reads _ _ _ (sym c.before.can-read2.ensures ∙ not-false _ c.if2.false)
+sums_read c = reads _ _ _ (sym c.before.can-read2.ensures ∙ c.if2.false)
 
 can-read-requires : tie.Need-can-read-requires
 can-read-requires c κs = search rules
 
 returns : tie.Need-returns
-returns c = from_none _ _ _ _ _ (inl (sym c.before.can_read.ensures ∙ not-true _ c.if1.true))
+returns c = from_none _ _ _ _ _ (inl (sym c.before.can_read.ensures ∙ c.if1.true))
 
 can-read-requires-2 : tie.Need-can-read-requires-2
 can-read-requires-2 c κs = search rules
 
 returns-2 : tie.Need-returns-2
-returns-2 c = from_none _ _ _ _ _ (inr (inl (sym c.before.can-read2.ensures ∙ not-true _ c.if2.true)))
+returns-2 c = from_none _ _ _ _ _ (inr (inl (sym c.before.can-read2.ensures ∙ c.if2.true)))
 
 returns-3 : tie.Need-returns-3
 returns-3 c = from_none _ _ _ _ _ (inr (inr c.if3.true))

@@ -13,13 +13,13 @@ use Rattle.avoid.proofs.avoiding_to.Tie as tie
 
 -- the test passed
 passed : (c : tie.Else1) → let a = c.before.before.before.args in readable a.n (asked a.protected) (length a.sums.now) ≡ true
-passed c = sym c.before.can_read.ensures ∙ not-false _ c.if1.false
+passed c = sym c.before.can_read.ensures ∙ c.if1.false
 
 can-read-requires : tie.Need-can-read-requires
 can-read-requires c κs = search rules
 
 returns : tie.Need-returns
-returns c = to_none _ _ _ _ _ (sym c.before.can_read.ensures ∙ not-true _ c.if1.true)
+returns c = to_none _ _ _ _ _ (sym c.before.can_read.ensures ∙ c.if1.true)
 
 set-to-requires : tie.Need-set-to-requires
 set-to-requires c κs = reads _ _ _ (passed c)

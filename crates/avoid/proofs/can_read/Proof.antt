@@ -11,13 +11,13 @@ use Rattle.avoid.proofs.can_read.Tie as tie
 
 -- the cells passed
 fits : (c : tie.Else1) → let a = c.before.before.args in cells_fit a.n a.cells ≡ true
-fits c = sym c.before.cells_fit.ensures ∙ not-false _ c.if1.false
+fits c = sym c.before.cells_fit.ensures ∙ c.if1.false
 
 cells-fit-requires : tie.Need-cells-fit-requires
 cells-fit-requires c κs = search rules
 
 returns : tie.Need-returns
-returns c = cells_refuse _ _ _ (sym c.before.cells_fit.ensures ∙ not-true _ c.if1.true)
+returns c = cells_refuse _ _ _ (sym c.before.cells_fit.ensures ∙ c.if1.true)
 
 returns-2 : tie.Need-returns-2
 returns-2 c = ends_decide _ _ _ (fits c.before.before.before) (rw (lt-ltb _ _ c.before.if2.true))

@@ -17,11 +17,11 @@ length-good-requires c κs = search rules
 
 returns : tie.Need-returns
 unfolding blocks_decided
-returns c = length_decides _ (sym c.before.length-good.ensures ∙ not-true _ c.if1.true)
+returns c = length_decides _ (sym c.before.length-good.ensures ∙ c.if1.true)
 
 -- the length is good
 row_1 : (c : tie.Else1) → length_good c.before.before.before.args.file.now ≡ true
-row_1 c = sym c.before.length-good.ensures ∙ not-false _ c.if1.false
+row_1 c = sym c.before.length-good.ensures ∙ c.if1.false
 
 first-bad-check-requires : tie.Need-first-bad-check-requires
 first-bad-check-requires c κs = search rules
@@ -40,7 +40,7 @@ returns-3 : tie.Need-returns-3
 unfolding blocks_decided
 returns-3 c =
     let f = c.before.before in
-    head_decides _ (row_1 f.before.before) _ f.before.first-bad-check.ensures f.if2.false (sym c.before.head-good.ensures ∙ not-true _ c.if3.true)
+    head_decides _ (row_1 f.before.before) _ f.before.first-bad-check.ensures f.if2.false (sym c.before.head-good.ensures ∙ c.if3.true)
 
 judge-later-requires : tie.Need-judge-later-requires
 unfolding blocks_in
@@ -54,7 +54,7 @@ returns-4 c =
     let g = c.before in
     let f = g.before.before in
     c.judge-later.ensures
-    ∙ head_passed _ (row_1 f.before.before) _ f.before.first-bad-check.ensures f.if2.false (sym g.before.head-good.ensures ∙ not-false _ g.if3.false)
+    ∙ head_passed _ (row_1 f.before.before) _ f.before.first-bad-check.ensures f.if2.false (sym g.before.head-good.ensures ∙ g.if3.false)
 
 pub judge_blocks_spec : {M : Type 1} → statement M
 judge_blocks_spec =

@@ -5,35 +5,35 @@ use Rattle.lfa.specs.File.{byte_at, word_at}
 use Rattle.block_check.proofs.half_at.Statement.{statement}
 use Rattle.block_check.proofs.half_at.Tie as tie
 
-add-next : tie.Need-overflow-add-next
-add-next c = search rules
+overflow_add-next : tie.Need-overflow_add-next
+overflow_add-next c = search rules
 
-shared-slice-read-word-of : tie.Need-shared-slice-read-word-of
-shared-slice-read-word-of c = search rules
+bounds-s-at : tie.Need-bounds-s-at
+bounds-s-at c = search rules
 
-add-word-of : tie.Need-overflow-add-word-of
-add-word-of c = search rules
+overflow_add-at : tie.Need-overflow_add-at
+overflow_add-at c = search rules
 
-shared-slice-read-word-of-2 : tie.Need-shared-slice-read-word-of-2
-shared-slice-read-word-of-2 c = search rules
+bounds-s-at-2 : tie.Need-bounds-s-at-2
+bounds-s-at-2 c = search rules
 
-word-of-requires : tie.Need-word-of-requires
-word-of-requires c κs = search rules
+word_of-requires : tie.Need-word_of-requires
+word_of-requires c κs = search rules
 
-shared-slice-read-word-of-3 : tie.Need-shared-slice-read-word-of-3
-shared-slice-read-word-of-3 c = search rules
+bounds-s-next : tie.Need-bounds-s-next
+bounds-s-next c = search rules
 
-add-word-of-2 : tie.Need-overflow-add-word-of-2
-add-word-of-2 c = search rules
+overflow_add-next-2 : tie.Need-overflow_add-next-2
+overflow_add-next-2 c = search rules
 
-shared-slice-read-word-of-4 : tie.Need-shared-slice-read-word-of-4
-shared-slice-read-word-of-4 c = search rules
+bounds-s-next-2 : tie.Need-bounds-s-next-2
+bounds-s-next-2 c = search rules
 
-word-of-requires-2 : tie.Need-word-of-requires-2
-word-of-requires-2 c κs = search rules
+word_of-requires-2 : tie.Need-word_of-requires-2
+word_of-requires-2 c κs = search rules
 
-half-of-requires : tie.Need-half-of-requires
-half-of-requires c κs = search rules
+half_of-requires : tie.Need-half_of-requires
+half_of-requires c κs = search rules
 
 returns : tie.Need-returns
 unfolding word_at byte_at
@@ -43,14 +43,14 @@ pub half_at_spec : {M : Type 1} → statement M
 half_at_spec =
     tie.close
     (tie.spec
-    add-next
-    shared-slice-read-word-of
-    add-word-of
-    shared-slice-read-word-of-2
-    word-of-requires
-    shared-slice-read-word-of-3
-    add-word-of-2
-    shared-slice-read-word-of-4
-    word-of-requires-2
-    half-of-requires
+    overflow_add-next
+    bounds-s-at
+    overflow_add-at
+    bounds-s-at-2
+    word_of-requires
+    bounds-s-next
+    overflow_add-next-2
+    bounds-s-next-2
+    word_of-requires-2
+    half_of-requires
     returns)

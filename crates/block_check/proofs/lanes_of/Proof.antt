@@ -5,36 +5,36 @@ use Rattle.block_check.proofs.LanesLaws.{Added, added}
 use Rattle.block_check.proofs.lanes_of.Statement.{statement}
 use Rattle.block_check.proofs.lanes_of.Tie as tie
 
-odd-lanes-requires : tie.Need-odd-lanes-requires
-odd-lanes-requires c κs = search rules
+odd_lanes-requires : tie.Need-odd_lanes-requires
+odd_lanes-requires c κs = search rules
 
-odd-lanes-requires-2 : tie.Need-odd-lanes-requires-2
-odd-lanes-requires-2 c κs = search rules
+odd_lanes-requires-2 : tie.Need-odd_lanes-requires-2
+odd_lanes-requires-2 c κs = search rules
 
-odd-lanes-requires-3 : tie.Need-odd-lanes-requires-3
-odd-lanes-requires-3 c κs = search rules
+odd_lanes-requires-3 : tie.Need-odd_lanes-requires-3
+odd_lanes-requires-3 c κs = search rules
 
-add-three-requires : tie.Need-add-three-requires
-add-three-requires c κs = search rules
+add_three-odd-requires : tie.Need-add_three-odd-requires
+add_three-odd-requires c κs = search rules
 
-add-three-requires-2 : tie.Need-add-three-requires-2
-add-three-requires-2 c κs = search rules
+add_three-requires : tie.Need-add_three-requires
+add_three-requires c κs = search rules
 
-wrapping-sub-u64-requires : tie.Need-wrapping-sub-u64-requires
-wrapping-sub-u64-requires c κs = search rules
+wrapping_sub_u64-even-requires : tie.Need-wrapping_sub_u64-even-requires
+wrapping_sub_u64-even-requires c κs = search rules
 
-facts : (c : tie.After-wrapping-sub-u64) → let a = c.before.before.before.before.before.before.args in
-    Added a.x a.y a.z c.wrapping-sub-u64.result c.before.before.add-three.result
+facts : (c : tie.After-wrapping_sub_u64-even) → let a = c.before.before.before.before.before.before.args in
+    Added a.x a.y a.z c.wrapping_sub_u64-even.result c.before.before.add_three-odd.result
 facts c =
     let a = c.before.before.before.before.before.before.args in
-    added a.x a.y a.z _ _ _ _ _ _ c.before.before.before.before.before.odd_lanes.ensures c.before.before.before.before.odd-lanes2.ensures
-    c.before.before.before.odd-lanes3.ensures c.before.before.add-three.ensures c.before.add-three2.ensures c.wrapping-sub-u64.ensures (search rules)
+    added a.x a.y a.z _ _ _ _ _ _ c.before.before.before.before.before.odd_lanes.ensures c.before.before.before.before.odd_lanes-2.ensures
+    c.before.before.before.odd_lanes-3.ensures c.before.before.add_three-odd.ensures c.before.add_three.ensures c.wrapping_sub_u64-even.ensures (search rules)
 
-add-halves-of : tie.Need-overflow-add-halves-of
-add-halves-of c = record { fits = (facts c).ranges }
+overflow_add-even : tie.Need-overflow_add-even
+overflow_add-even c = record { fits = (facts c).ranges }
 
-halves-of-requires : tie.Need-halves-of-requires
-halves-of-requires c κs = search rules
+halves_of-requires : tie.Need-halves_of-requires
+halves_of-requires c κs = search rules
 
 returns : tie.Need-returns
 returns c = c.halves_of.ensures ∙ (facts c.before).sum
@@ -43,12 +43,12 @@ pub lanes_of_spec : {M : Type 1} → statement M
 lanes_of_spec =
     tie.close
     (tie.spec
-    odd-lanes-requires
-    odd-lanes-requires-2
-    odd-lanes-requires-3
-    add-three-requires
-    add-three-requires-2
-    wrapping-sub-u64-requires
-    add-halves-of
-    halves-of-requires
+    odd_lanes-requires
+    odd_lanes-requires-2
+    odd_lanes-requires-3
+    add_three-odd-requires
+    add_three-requires
+    wrapping_sub_u64-even-requires
+    overflow_add-even
+    halves_of-requires
     returns)

@@ -7,57 +7,57 @@ use Rattle.block_check.proofs.CheckLaws.{taken, check_none, check_more, check_al
 use Rattle.block_check.proofs.whole_check.Statement.{statement}
 use Rattle.block_check.proofs.whole_check.Tie as tie
 
-abbrev invariant-loop : tie.invariant-loop
-invariant-loop block sum₀ i₀ sum i = (i ≤ 21) × (sum ≡ (sum_words 3 (drop 504 block) + taken i block) % 65536)
+abbrev invariant-loop-i : tie.invariant-loop-i
+invariant-loop-i block sum₀ i₀ sum i = (i ≤ 21) × (sum ≡ (sum_words 3 (drop 504 block) + taken i block) % 65536)
 
-abbrev decreases-loop : tie.decreases-loop
-decreases-loop block sum₀ i₀ sum i = 21 - i
+abbrev decreases-loop-i : tie.decreases-loop-i
+decreases-loop-i block sum₀ i₀ sum i = 21 - i
 
-rest-of-requires : tie.Need-rest-of-requires invariant-loop decreases-loop
-rest-of-requires c κs = search rules
+rest_of-sum-requires : tie.Need-rest_of-sum-requires invariant-loop-i decreases-loop-i
+rest_of-sum-requires c κs = search rules
 
-loop-holds : tie.Need-loop-init invariant-loop decreases-loop
-loop-holds c = (omega arith, c.rest_of.ensures ∙ check_none c.before.before.args.block.now)
+loop-i-init : tie.Need-loop-i-init invariant-loop-i decreases-loop-i
+loop-i-init c = (omega arith, c.rest_of-sum.ensures ∙ check_none c.before.before.args.block.now)
 
-mul-parts-at : tie.Need-overflow-mul-parts-at invariant-loop decreases-loop
-mul-parts-at c = search rules
+overflow_mul-i : tie.Need-overflow_mul-i invariant-loop-i decreases-loop-i
+overflow_mul-i c = search rules
 
-parts-at-requires : tie.Need-parts-at-requires invariant-loop decreases-loop
-parts-at-requires c κs = search rules
+parts_at-requires : tie.Need-parts_at-requires invariant-loop-i decreases-loop-i
+parts_at-requires c κs = search rules
 
-wrapping-add-u16-requires : tie.Need-wrapping-add-u16-requires invariant-loop decreases-loop
-wrapping-add-u16-requires c κs = search rules
+wrapping_add_u16-sum-requires : tie.Need-wrapping_add_u16-sum-requires invariant-loop-i decreases-loop-i
+wrapping_add_u16-sum-requires c κs = search rules
 
-add-i : tie.Need-overflow-add-i invariant-loop decreases-loop
-add-i c = search rules
+overflow_add-i : tie.Need-overflow_add-i invariant-loop-i decreases-loop-i
+overflow_add-i c = search rules
 
-loop-less : tie.Need-loop-smaller invariant-loop decreases-loop
-loop-less c = search rules
+loop-i-smaller : tie.Need-loop-i-smaller invariant-loop-i decreases-loop-i
+loop-i-smaller c = search rules
 
-loop-again : tie.Need-loop-preserved invariant-loop decreases-loop
-loop-again c =
-    let l = c.before.before.before.loop in
+loop-i-preserved : tie.Need-loop-i-preserved invariant-loop-i decreases-loop-i
+loop-i-preserved c =
+    let l = c.before.before.before.loop-i in
     let b = c.before.before.before.before.before.before.args.block.now in
-    (omega arith, c.wrapping-add-u16.ensures ∙ check_more l.i _ _ b l.invariant.1 c.before.parts_at.ensures)
+    (omega arith, c.wrapping_add_u16-sum.ensures ∙ check_more l.i _ _ b l.invariant.1 c.before.parts_at.ensures)
 
-returns : tie.Need-returns invariant-loop decreases-loop
+returns : tie.Need-returns invariant-loop-i decreases-loop-i
 unfolding check_of
 returns c =
-    let l = c.before.loop in
+    let l = c.before.loop-i in
     l.invariant.1 ∙ check_all l.i _ (omega arith)
 
 pub whole_check_spec : {M : Type 1} → statement M
 whole_check_spec =
     tie.close
     (tie.spec
-    invariant-loop
-    decreases-loop
-    rest-of-requires
-    loop-holds
-    mul-parts-at
-    parts-at-requires
-    wrapping-add-u16-requires
-    add-i
-    loop-less
-    loop-again
+    invariant-loop-i
+    decreases-loop-i
+    rest_of-sum-requires
+    loop-i-init
+    overflow_mul-i
+    parts_at-requires
+    wrapping_add_u16-sum-requires
+    overflow_add-i
+    loop-i-smaller
+    loop-i-preserved
     returns)

@@ -24,7 +24,7 @@ returns : tie.Need-returns invariant-loop decreases-loop
 unfolding blocks_in
 returns c =
     let l = c.before.before.before.loop in
-    bad_found _ l.i l.invariant (omega arith) (sym c.before.check-good.ensures ∙ not-true _ c.if1.true)
+    bad_found _ l.i l.invariant (omega arith) (sym c.before.check-good.ensures ∙ c.if1.true)
 
 add-i : tie.Need-overflow-add-i invariant-loop decreases-loop
 add-i c = search rules
@@ -35,7 +35,7 @@ loop-less c = search rules
 loop-again : tie.Need-loop-preserved invariant-loop decreases-loop
 loop-again c =
     let l = c.before.before.before.loop in
-    every_more (check_good _) l.i l.invariant (sym c.before.check-good.ensures ∙ not-false _ c.if1.false)
+    every_more (check_good _) l.i l.invariant (sym c.before.check-good.ensures ∙ c.if1.false)
 
 returns-2 : tie.Need-returns-2 invariant-loop decreases-loop
 unfolding blocks_in

@@ -15,11 +15,11 @@ slots-fit-requires c κs = search rules
 
 returns : tie.Need-returns
 unfolding attached_set
-returns c = rw (sym c.before.slots_fit_lem.ensures ∙ not-true _ c.if1.true, attached_set)
+returns c = rw (sym c.before.slots_fit_lem.ensures ∙ c.if1.true, attached_set)
 
 -- the test passed
 passed : (c : tie.Else1) → let a = c.before.before.args in slots_fit 64 a.slot a.count a.at.now ≡ true
-passed c = sym c.before.slots_fit_lem.ensures ∙ not-false _ c.if1.false
+passed c = sym c.before.slots_fit_lem.ensures ∙ c.if1.false
 
 attached-in-requires : tie.Need-attached-in-requires
 attached-in-requires c κs = slots_give _ _ _ _ (passed c)

@@ -16,21 +16,21 @@ cells-fit-requires : tie.Need-cells-fit-requires
 cells-fit-requires c κs = search rules
 
 returns : tie.Need-returns
-returns c = prefix_none _ _ _ _ _ _ (inl (sym c.before.cells_fit.ensures ∙ not-true _ c.if1.true))
+returns c = prefix_none _ _ _ _ _ _ (inl (sym c.before.cells_fit.ensures ∙ c.if1.true))
 
 slots-fit-requires : tie.Need-slots-fit-requires
 slots-fit-requires c κs = search rules
 
 returns-2 : tie.Need-returns-2
-returns-2 c = prefix_none _ _ _ _ _ _ (inr (sym c.before.slots_fit_lem.ensures ∙ not-true _ c.if2.true))
+returns-2 c = prefix_none _ _ _ _ _ _ (inr (sym c.before.slots_fit_lem.ensures ∙ c.if2.true))
 
 -- the first test passed
 fits : (c : tie.Else1) → cells_fit c.before.before.before.args.n (length c.before.before.before.args.dist.now) ≡ true
-fits c = sym c.before.cells_fit.ensures ∙ not-false _ c.if1.false
+fits c = sym c.before.cells_fit.ensures ∙ c.if1.false
 
 -- and the second
 slots : (c : tie.Else2) → let a = c.before.before.before.before.before.args in SlotsWithin a.n a.slot a.count a.at.now
-slots c = slots_give _ _ _ _ (sym c.before.slots_fit_lem.ensures ∙ not-false _ c.if2.false)
+slots c = slots_give _ _ _ _ (sym c.before.slots_fit_lem.ensures ∙ c.if2.false)
 
 prefix-column-requires : tie.Need-prefix-column-requires
 prefix-column-requires c κs =

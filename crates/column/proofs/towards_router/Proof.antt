@@ -17,7 +17,7 @@ cells-fit-requires : tie.Need-cells-fit-requires
 cells-fit-requires c κs = search rules
 
 returns : tie.Need-returns
-returns c = router_none _ _ _ (inl (sym c.before.cells_fit.ensures ∙ not-true _ c.if1.true))
+returns c = router_none _ _ _ (inl (sym c.before.cells_fit.ensures ∙ c.if1.true))
 
 returns-2 : tie.Need-returns-2
 returns-2 c =
@@ -26,7 +26,7 @@ returns-2 c =
 
 -- the first test passed
 fits : (c : tie.Else1) → cells_fit c.before.before.before.args.n (length c.before.before.before.args.dist.now) ≡ true
-fits c = sym c.before.cells_fit.ensures ∙ not-false _ c.if1.false
+fits c = sym c.before.cells_fit.ensures ∙ c.if1.false
 
 router-column-requires : tie.Need-router-column-requires
 router-column-requires c κs =

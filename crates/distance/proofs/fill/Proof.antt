@@ -20,24 +20,24 @@ cells-fit-requires : tie.Need-cells-fit-requires
 cells-fit-requires c κs = search rules
 
 returns : tie.Need-returns
-returns c = area_left _ _ _ _ _ _ _ (inl (sym c.before.cells_fit.ensures ∙ not-true _ c.if1.true))
+returns c = area_left _ _ _ _ _ _ _ (inl (sym c.before.cells_fit.ensures ∙ c.if1.true))
 
 links-fit-requires : tie.Need-links-fit-requires
 links-fit-requires c κs = search rules
 
 returns-2 : tie.Need-returns-2
-returns-2 c = area_left _ _ _ _ _ _ _ (inr (sym c.before.links_fit_lem.ensures ∙ not-true _ c.if2.true))
+returns-2 c = area_left _ _ _ _ _ _ _ (inr (sym c.before.links_fit_lem.ensures ∙ c.if2.true))
 
 -- the first test passed
 fits : (c : tie.Else1) → cells_fit c.before.before.before.args.routers (length c.before.before.before.args.work.now) ≡ true
-fits c = sym c.before.cells_fit.ensures ∙ not-false _ c.if1.false
+fits c = sym c.before.cells_fit.ensures ∙ c.if1.false
 
 few : (c : tie.Else2) → let a = c.before.before.before.before.before.args in (a.routers ≤ 64) × (a.routers * a.routers ≤ length a.work.now)
 few c = cells_give _ _ (fits c.before.before)
 
 -- and the second
 joined : (c : tie.Else2) → let a = c.before.before.before.before.before.args in links_fit a.routers a.links a.from.now a.to.now ≡ true
-joined c = sym c.before.links_fit_lem.ensures ∙ not-false _ c.if2.false
+joined c = sym c.before.links_fit_lem.ensures ∙ c.if2.false
 
 mul-end : tie.Need-overflow-mul-end
 mul-end c = let n = c.before.before.before.before.before.args.routers in omega (arith, square_few n (few c).0)

@@ -52,7 +52,7 @@ returns c =
     let told = c.before.before in
     let judged = told.before in
     let decided = judged.judge-entries.ensures ∙ sym (blocks_pass _ judged.before.before.before.before.before.before.requires) in
-    let refused = sym (told.is_accepted.ensures ∙ ap undecided decided) ∙ not-true _ c.before.if1.true in
+    let refused = sym (told.is_accepted.ensures ∙ ap undecided decided) ∙ c.before.if1.true in
     (decided, c.no-links.ensures ∙ ap links_struct_of (refused_network _ refused))
 
 returns-2 : tie.Need-returns-2
@@ -64,7 +64,7 @@ returns-2 c =
     let ends = judged.before in
     let start = ends.before.before.before.before.before in
     let decided = judged.judge-entries.ensures ∙ sym (blocks_pass _ start.requires) in
-    let accepted = sym (told.is_accepted.ensures ∙ ap undecided decided) ∙ not-false _ passed.if1.false in
+    let accepted = sym (told.is_accepted.ensures ∙ ap undecided decided) ∙ passed.if1.false in
     (decided, rw ends.fill-links.ensures (links_made _ _ _ _ refl ends.before.before.word_at_lem.ensures ends.before.word-at2.ensures) ∙ ap links_struct_of (accepted_network _ accepted))
 
 pub load_entries_spec : {M : Type 1} → statement M

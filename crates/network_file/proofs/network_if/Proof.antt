@@ -12,16 +12,16 @@ blank-requires : tie.Need-blank-requires
 blank-requires c κs = search rules
 
 returns : tie.Need-returns
-returns c = c.blank.ensures ∙ ap struct_of (refused_network _ (sym c.before.before.before.requires.0 ∙ not-true _ c.before.if1.true))
+returns c = c.blank.ensures ∙ ap struct_of (refused_network _ (sym c.before.before.before.requires.0 ∙ c.before.if1.true))
 
 network-of-requires : tie.Need-network-of-requires
 network-of-requires c κs =
     let pre = c.before.before.requires in
-    let e = sym pre.0 ∙ not-false _ c.if1.false in
+    let e = sym pre.0 ∙ c.if1.false in
     (accepted_sized _ e, pre.1 ∙ ap links_struct_of (sym (accepted_network _ e)), accepted_prefixes _ e)
 
 returns-2 : tie.Need-returns-2
-returns-2 c = c.network-of.ensures ∙ ap struct_of (accepted_network _ (sym c.before.before.before.requires.0 ∙ not-false _ c.before.if1.false))
+returns-2 c = c.network-of.ensures ∙ ap struct_of (accepted_network _ (sym c.before.before.before.requires.0 ∙ c.before.if1.false))
 
 pub network_if_spec : {M : Type 1} → statement M
 network_if_spec = tie.close (tie.spec blank-requires returns network-of-requires returns-2)

@@ -20,7 +20,7 @@ returns : tie.Need-returns
 unfolding move_in
 returns c =
     let s = c.before.before in
-    rw (not-true s.args.deliver c.before.if1.true) (taken_none _ _ (sym (members_count s.args.next s.ranges.next.fits) ∙ c.if2.true))
+    rw (c.before.if1.true) (taken_none _ _ (sym (members_count s.args.next s.ranges.next.fits) ∙ c.if2.true))
 
 wide-requires : tie.Need-wide-requires
 wide-requires c κs = search rules
@@ -35,7 +35,7 @@ returns-2 : tie.Need-returns-2
 unfolding move_in
 returns-2 c =
     let s = c.before.before.before.before in
-    rw (not-true s.args.deliver c.before.before.before.if1.true)
+    rw (c.before.before.before.if1.true)
     (taken_step _ _ (members_count s.args.next s.ranges.next.fits) c.before.before.if2.false (c.member.ensures ∙ ap (λ (b : ℕ). get_or (members_of s.args.next) (b % ones s.args.next) 0) c.before.wide.ensures))
 
 wide-requires-2 : tie.Need-wide-requires-2
@@ -51,7 +51,7 @@ returns-3 : tie.Need-returns-3
 unfolding move_in
 returns-3 c =
     let s = c.before.before.before in
-    rw (not-false s.args.deliver c.before.before.if1.false)
+    rw (c.before.before.if1.false)
     (taken_delivery _ _ (members_count s.args.next s.ranges.next.fits) (ap (λ (b : ℕ). b % (ones s.args.next + 1)) (sym c.before.wide2.ensures) ∙ c.if3.true))
 
 sub-member : tie.Need-overflow-sub-member
@@ -65,7 +65,7 @@ unfolding move_in
 returns-4 c =
     let s = c.before.before.before.before in
     let n = s.args.next in
-    rw (not-false s.args.deliver c.before.before.before.if1.false)
+    rw (c.before.before.before.if1.false)
     (taken_later _ _ (members_count n s.ranges.next.fits) (λ e. c.before.if3.false (ap (λ (b : ℕ). b % (ones n + 1)) c.before.before.wide2.ensures ∙ e))
     (c.member2.ensures ∙ ap (λ (b : ℕ). get_or (members_of n) (b % (ones n + 1) - 1) 0) c.before.before.wide2.ensures))
 

@@ -16,11 +16,11 @@ numbers-fit-requires : tie.Need-numbers-fit-requires
 numbers-fit-requires c κs = search rules
 
 returns : tie.Need-returns
-returns c = none_onward _ _ _ _ _ _ _ _ _ (sym c.before.numbers_fit.ensures ∙ not-true _ c.if1.true)
+returns c = none_onward _ _ _ _ _ _ _ _ _ (sym c.before.numbers_fit.ensures ∙ c.if1.true)
 
 -- the numbers fit
 passes : (c : tie.Else1) → let a = c.before.before.args in numbers_fit a.n (asked a.protected) ≡ true
-passes c = sym c.before.numbers_fit.ensures ∙ not-false _ c.if1.false
+passes c = sym c.before.numbers_fit.ensures ∙ c.if1.false
 
 next-routers-requires : tie.Need-next-routers-requires
 next-routers-requires c κs = search rules

@@ -21,7 +21,7 @@ keep-arcs-requires c κs = search rules
 returns : tie.Need-returns
 returns c =
     let start = c.before.before.before.before in
-    under_tested start.requires.0 start.args.out.now start.args.back.now c.before.keep-arcs.ensures (not-true _ c.if1.true)
+    under_tested start.requires.0 start.args.out.now start.args.back.now c.before.keep-arcs.ensures (c.if1.true)
 
 mul-all-bits : tie.Need-overflow-mul-all-bits
 mul-all-bits c = search rules
@@ -55,7 +55,7 @@ returns-3 c =
     let kept = narrow.before.before in
     let start = kept.before.before.before.before in
     rows_tested start.requires.0 start.args.out.now start.args.back.now start.requires.2 (small narrow) copied.copy-rows.ensures kept.before.keep-arcs.ensures
-    (not-false _ kept.if1.false) c.rows_right.ensures
+    (kept.if1.false) c.rows_right.ensures
 
 pub agrees_spec : {M : Type 1} → statement M
 agrees_spec =

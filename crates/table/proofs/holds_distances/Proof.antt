@@ -15,10 +15,10 @@ use Rattle.table.proofs.holds_distances.Tie as tie
 
 -- the first two tests passed
 fits : (c : tie.Else2) → let a = c.before.before.before.before.before.args in cells_fit a.routers (length a.table.now) ≡ true
-fits c = sym c.before.before.before.cells_fit.ensures ∙ not-false _ c.before.before.if1.false
+fits c = sym c.before.before.before.cells_fit.ensures ∙ c.before.before.if1.false
 
 joins : (c : tie.Else2) → let a = c.before.before.before.before.before.args in links_fit a.routers a.links a.from.now a.to.now ≡ true
-joins c = sym c.before.links_fit_lem.ensures ∙ not-false _ c.if2.false
+joins c = sym c.before.links_fit_lem.ensures ∙ c.if2.false
 
 -- and what they tell
 sized : (c : tie.Else2) → let a = c.before.before.before.before.before.args in (a.routers ≤ 64) × (a.routers * a.routers ≤ length a.table.now)
@@ -28,25 +28,25 @@ linked : (c : tie.Else2) → let a = c.before.before.before.before.before.args i
 linked c = links_give _ _ _ _ (sized c).0 (joins c)
 
 priced : (c : tie.Else3) → let a = c.before.before.before.before.before.before.before.args in costs_fit a.links a.out.now a.back.now ≡ true
-priced c = sym c.before.costs-fit.ensures ∙ not-false _ c.if3.false
+priced c = sym c.before.costs-fit.ensures ∙ c.if3.false
 
 cells-fit-requires : tie.Need-cells-fit-requires
 cells-fit-requires c κs = search rules
 
 returns : tie.Need-returns
-returns c = cells_refused _ _ _ _ _ _ _ (sym c.before.cells_fit.ensures ∙ not-true _ c.if1.true)
+returns c = cells_refused _ _ _ _ _ _ _ (sym c.before.cells_fit.ensures ∙ c.if1.true)
 
 links-fit-requires : tie.Need-links-fit-requires
 links-fit-requires c κs = search rules
 
 returns-2 : tie.Need-returns-2
-returns-2 c = links_refused _ _ _ _ _ _ _ (sym c.before.links_fit_lem.ensures ∙ not-true _ c.if2.true)
+returns-2 c = links_refused _ _ _ _ _ _ _ (sym c.before.links_fit_lem.ensures ∙ c.if2.true)
 
 costs-fit-requires : tie.Need-costs-fit-requires
 costs-fit-requires c κs = (linked c).few_links
 
 returns-3 : tie.Need-returns-3
-returns-3 c = costs_refused _ _ _ _ _ _ _ (sym c.before.costs-fit.ensures ∙ not-true _ c.if3.true)
+returns-3 c = costs_refused _ _ _ _ _ _ _ (sym c.before.costs-fit.ensures ∙ c.if3.true)
 
 agrees-requires : tie.Need-agrees-requires
 agrees-requires c κs = (linked c.before.before, (sized c.before.before).1, priced c)

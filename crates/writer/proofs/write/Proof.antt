@@ -19,14 +19,14 @@ counts-fit-requires : tie.Need-counts-fit-requires
 counts-fit-requires c κs = search rules
 
 returns : tie.Need-returns
-returns c = counts_fail _ _ (sym c.before.counts-fit.ensures ∙ not-true _ c.if1.true)
+returns c = counts_fail _ _ (sym c.before.counts-fit.ensures ∙ c.if1.true)
 
 slice-aggregate-compose : tie.Need-slice-aggregate-compose
 slice-aggregate-compose c = search rules
 
 -- the counts fit
 counted : (c : tie.Else1) → counts_fit (network_held c.before.before.before.args.network) ≡ true
-counted c = sym c.before.counts-fit.ensures ∙ not-false _ c.if1.false
+counted c = sym c.before.counts-fit.ensures ∙ c.if1.false
 
 compose-requires : tie.Need-compose-requires
 unfolding pad

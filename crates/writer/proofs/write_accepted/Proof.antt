@@ -12,7 +12,7 @@ is-accepted-requires : tie.Need-is-accepted-requires
 is-accepted-requires c κs = search rules
 
 returns : tie.Need-returns
-returns c = λ net counts is. refused _ _ net is (sym (not-true _ c.if1.true) ∙ c.before.is_accepted.ensures)
+returns c = λ net counts is. refused _ _ net is (sym (c.if1.true) ∙ c.before.is_accepted.ensures)
 
 returns-2 : tie.Need-returns-2
 returns-2 c = λ net counts is. shorter _ _ net is (omega (arith, c.if2.true))
@@ -29,7 +29,7 @@ returns-3 c =
     let passed = enough.before in
     let judged = passed.before in
     λ net counts is. accepted _ _ net is _ counts (λ i. omega (arith, judged.before.before.shared-slice-known.given i))
-    (sym (not-false _ passed.if1.false) ∙ judged.is_accepted.ensures) enough.if2.false c.before.before.put-bytes.ensures
+    (sym (passed.if1.false) ∙ judged.is_accepted.ensures) enough.if2.false c.before.before.put-bytes.ensures
 
 pub write_accepted_spec : {M : Type 1} → statement M
 write_accepted_spec =

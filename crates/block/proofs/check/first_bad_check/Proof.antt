@@ -25,7 +25,7 @@ check-good-requires c κs = search rules
 returns : tie.Need-returns invariant-loop decreases-loop
 returns c =
     let l = c.before.before.before.loop in
-    search_found _ _ _ _ l.i l.invariant c.before.before.loop-test.true (sym c.before.check-good.ensures ∙ not-true _ c.if1.true)
+    search_found _ _ _ _ l.i l.invariant c.before.before.loop-test.true (sym c.before.check-good.ensures ∙ c.if1.true)
 
 add-i : tie.Need-overflow-add-i invariant-loop decreases-loop
 add-i c = search rules
@@ -36,7 +36,7 @@ loop-less c = search rules
 loop-again : tie.Need-loop-preserved invariant-loop decreases-loop
 loop-again c =
     let l = c.before.before.before.loop in
-    search_passed _ _ _ _ l.i l.invariant c.before.before.loop-test.true (sym c.before.check-good.ensures ∙ not-false _ c.if1.false)
+    search_passed _ _ _ _ l.i l.invariant c.before.before.loop-test.true (sym c.before.check-good.ensures ∙ c.if1.false)
 
 returns-2 : tie.Need-returns-2 invariant-loop decreases-loop
 returns-2 c =

@@ -11,7 +11,7 @@ label-good-requires : tie.Need-label-good-requires
 label-good-requires c κs = search rules
 
 returns : tie.Need-returns
-returns c = rw (head_parts, ← c.before.label-good.ensures, not-true c.before.label-good.result c.if1.true)
+returns c = rw (head_parts, ← c.before.label-good.ensures, c.if1.true)
 
 shared-slice-read-if2 : tie.Need-shared-slice-read-if2
 shared-slice-read-if2 c = search rules
@@ -20,7 +20,7 @@ returns-2 : tie.Need-returns-2
 unfolding byte_at
 returns-2 c =
     let f = c.before.before in
-    rw (head_parts, ← f.before.label-good.ensures, not-false f.before.label-good.result f.if1.false, ne_eqb _ _ c.if2.true)
+    rw (head_parts, ← f.before.label-good.ensures, f.if1.false, ne_eqb _ _ c.if2.true)
 
 counts-good-requires : tie.Need-counts-good-requires
 counts-good-requires c κs = search rules
@@ -32,10 +32,10 @@ returns-3 c =
     rw (
       head_parts,
       ← f.before.label-good.ensures,
-      not-false f.before.label-good.result f.if1.false,
+      f.if1.false,
       eq-eqb _ _ c.before.before.if2.false,
       ← c.before.counts-good.ensures,
-      not-true c.before.counts-good.result c.if3.true,
+      c.if3.true,
     )
 
 sub-all-zero : tie.Need-overflow-sub-all-zero
@@ -58,10 +58,10 @@ returns-4 c =
     rw (
       head_parts,
       ← f.before.label-good.ensures,
-      not-false f.before.label-good.result f.if1.false,
+      f.if1.false,
       eq-eqb _ _ g.before.before.if2.false,
       ← g.before.counts-good.ensures,
-      not-false g.before.counts-good.result g.if3.false,
+      g.if3.false,
     )
     c.all_zero_lem.ensures
 

@@ -28,7 +28,7 @@ returns c =
     let l = c.before.before.before.loop in
     let s = c.before.before.before.before.before in
     search_found _ _ _ _ l.i l.invariant c.before.before.loop-test.true
-    (sym (sound_good s.args.file.now _ _ l.i _ s.requires.3 s.requires.4 c.before.block-good.ensures) ∙ not-true _ c.if1.true)
+    (sym (sound_good s.args.file.now _ _ l.i _ s.requires.3 s.requires.4 c.before.block-good.ensures) ∙ c.if1.true)
 
 add-i : tie.Need-overflow-add-i invariant-loop decreases-loop
 add-i c = search rules
@@ -41,7 +41,7 @@ loop-again c =
     let l = c.before.before.before.loop in
     let s = c.before.before.before.before.before in
     search_passed _ _ _ _ l.i l.invariant c.before.before.loop-test.true
-    (sym (sound_good s.args.file.now _ _ l.i _ s.requires.3 s.requires.4 c.before.block-good.ensures) ∙ not-false _ c.if1.false)
+    (sym (sound_good s.args.file.now _ _ l.i _ s.requires.3 s.requires.4 c.before.block-good.ensures) ∙ c.if1.false)
 
 returns-2 : tie.Need-returns-2 invariant-loop decreases-loop
 returns-2 c =

@@ -12,7 +12,7 @@ label-good-requires : tie.Need-label-good-requires
 label-good-requires c κs = search rules
 
 returns : tie.Need-returns
-returns c = later_other _ _ _ _ _ (sym c.before.label-good.ensures ∙ not-true _ c.if1.true)
+returns c = later_other _ _ _ _ _ (sym c.before.label-good.ensures ∙ c.if1.true)
 
 mul-tail : tie.Need-overflow-mul-tail
 mul-tail c = search rules
@@ -36,7 +36,7 @@ returns-2 : tie.Need-returns-2
 unfolding part_of
 returns-2 c =
     let f = c.before.before in
-    c.all_zero_lem.ensures ∙ later_labelled _ _ _ _ _ (sym f.before.label-good.ensures ∙ not-false _ f.if1.false)
+    c.all_zero_lem.ensures ∙ later_labelled _ _ _ _ _ (sym f.before.label-good.ensures ∙ f.if1.false)
 
 pub later_good_spec : {M : Type 1} → statement M
 later_good_spec =

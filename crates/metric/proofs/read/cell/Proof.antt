@@ -17,7 +17,7 @@ use Rattle.metric.proofs.read.cell.Tie as tie
 
 -- the first test passed
 fits : (c : tie.Else-not-cells_fit) → let a = c.before.before.before.args in cells_fit a.n (length a.dist.now) ≡ true
-fits c = sym c.before.cells_fit.ensures ∙ not-false _ c.if-not-cells_fit.false
+fits c = sym c.before.cells_fit.ensures ∙ c.if-not-cells_fit.false
 
 -- all passed, and the cell is in the area
 inside : (c : tie.Else-n-t) → let a = c.before.before.before.before.before.args in a.x * a.n + a.t < length a.dist.now
@@ -29,7 +29,7 @@ cells_fit-requires : tie.Need-cells_fit-requires
 cells_fit-requires c κs = search rules
 
 returns-then-not-cells_fit : tie.Need-returns-then-not-cells_fit
-returns-then-not-cells_fit c = cell_none _ _ _ _ (inl (sym c.before.cells_fit.ensures ∙ not-true _ c.if-not-cells_fit.true))
+returns-then-not-cells_fit c = cell_none _ _ _ _ (inl (sym c.before.cells_fit.ensures ∙ c.if-not-cells_fit.true))
 
 returns-then-n-x : tie.Need-returns-then-n-x
 returns-then-n-x c = cell_none _ _ _ _ (inr (inl c.if-n-x.true))

@@ -30,7 +30,7 @@ returns : tie.Need-returns invariant-loop decreases-loop
 returns c =
     let turn = c.before.before.before in
     let tested = link_tested _ _ _ _ turn.before.before.before.requires.1 c.before.before.link_part_lem.ensures.0 c.before.sound-link.ensures in
-    search_found _ 0 _ _ _ turn.before.loop.invariant turn.loop-test.true (tested ∙ not-true _ c.if1.true)
+    search_found _ 0 _ _ _ turn.before.loop.invariant turn.loop-test.true (tested ∙ c.if1.true)
 
 add-k : tie.Need-overflow-add-k invariant-loop decreases-loop
 add-k c = search rules
@@ -42,7 +42,7 @@ loop-again : tie.Need-loop-preserved invariant-loop decreases-loop
 loop-again c =
     let turn = c.before.before.before in
     let tested = link_tested _ _ _ _ turn.before.before.before.requires.1 c.before.before.link_part_lem.ensures.0 c.before.sound-link.ensures in
-    search_passed _ 0 _ _ _ turn.before.loop.invariant turn.loop-test.true (tested ∙ not-false _ c.if1.false)
+    search_passed _ 0 _ _ _ turn.before.loop.invariant turn.loop-test.true (tested ∙ c.if1.false)
 
 returns-2 : tie.Need-returns-2 invariant-loop decreases-loop
 returns-2 c = search_none _ 0 _ _ _ c.before.loop.invariant c.loop-test.false

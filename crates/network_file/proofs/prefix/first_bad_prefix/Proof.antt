@@ -46,7 +46,7 @@ returns c =
     let start = turn.before.before.before.before in
     let is = c.before.before.before.entry_at.ensures.0 _ l.invariant.1 in
     let tested = prefix_tested _ _ _ _ start.requires.1 is c.before.sound-prefix.ensures in
-    search_found _ 0 _ _ _ l.invariant.0 turn.loop-test.true (tested ∙ not-true _ c.if1.true)
+    search_found _ 0 _ _ _ l.invariant.0 turn.loop-test.true (tested ∙ c.if1.true)
 
 next-place-requires : tie.Need-next-place-requires invariant-loop decreases-loop
 next-place-requires c κs =
@@ -68,7 +68,7 @@ loop-again c =
     let start = turn.before.before.before.before in
     let is = c.before.before.before.before.entry_at.ensures.0 _ l.invariant.1 in
     let tested = prefix_tested _ _ _ _ start.requires.1 is c.before.before.sound-prefix.ensures in
-    (search_passed _ 0 _ _ _ l.invariant.0 turn.loop-test.true (tested ∙ not-false _ c.before.if1.false), c.next_place.ensures _ _ l.invariant.1)
+    (search_passed _ 0 _ _ _ l.invariant.0 turn.loop-test.true (tested ∙ c.before.if1.false), c.next_place.ensures _ _ l.invariant.1)
 
 returns-2 : tie.Need-returns-2 invariant-loop decreases-loop
 returns-2 c = search_none _ 0 _ _ _ c.before.loop.invariant.0 c.loop-test.false

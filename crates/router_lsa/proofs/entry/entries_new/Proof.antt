@@ -28,7 +28,7 @@ entry-new-requires c κs = search rules
 returns : tie.Need-returns invariant-loop decreases-loop
 returns c =
     let l = c.before.before.before.loop in
-    sym (every_fails _ _ l.k c.before.before.loop-test.true (sym c.before.entry_new.ensures ∙ not-true _ c.if1.true))
+    sym (every_fails _ _ l.k c.before.before.loop-test.true (sym c.before.entry_new.ensures ∙ c.if1.true))
 
 add-k : tie.Need-overflow-add-k invariant-loop decreases-loop
 add-k c = search rules
@@ -39,7 +39,7 @@ loop-less c = search rules
 loop-again : tie.Need-loop-preserved invariant-loop decreases-loop
 loop-again c =
     let l = c.before.before.before.loop in
-    (omega arith, every_more _ l.k l.invariant.1 (sym c.before.entry_new.ensures ∙ not-false _ c.if1.false))
+    (omega arith, every_more _ l.k l.invariant.1 (sym c.before.entry_new.ensures ∙ c.if1.false))
 
 returns-2 : tie.Need-returns-2 invariant-loop decreases-loop
 returns-2 c = sym (every_ends _ _ c.before.loop.k c.before.loop.invariant.0 c.loop-test.false c.before.loop.invariant.1)

@@ -40,7 +40,7 @@ sums-zero-requires : tie.Need-sums-zero-requires
 sums-zero-requires c κs = search rules
 
 returns-4 : tie.Need-returns-4
-returns-4 c = wrong_sums_lem _ c.before.before.before.before.before.before.before.before.before.requires.0 c.before.before.before.before.before.before.before.before.before.requires.1 _ c.before.sums-zero.ensures (not-true _ c.if4.true)
+returns-4 c = wrong_sums_lem _ c.before.before.before.before.before.before.before.before.before.requires.0 c.before.before.before.before.before.before.before.before.before.requires.1 _ c.before.sums-zero.ensures (c.if4.true)
 
 be32-at-requires : tie.Need-be32-at-requires
 be32-at-requires c κs = search rules
@@ -51,14 +51,14 @@ entries-good-requires c κs = (omega (arith, c.before.before.before.before.befor
 
 returns-5 : tie.Need-returns-5
 unfolding links_field
-returns-5 c = bad_entries _ c.before.before.before.before.before.before.before.before.before.before.before.before.requires.0 c.before.before.before.before.before.before.before.before.before.before.before.before.requires.1 _ _ c.before.before.before.before.before.before.before.before.before.before.be16-at.ensures c.before.entries_good.ensures (not-true _ c.if5.true)
+returns-5 c = bad_entries _ c.before.before.before.before.before.before.before.before.before.before.before.before.requires.0 c.before.before.before.before.before.before.before.before.before.before.before.before.requires.1 _ _ c.before.before.before.before.before.before.before.before.before.before.be16-at.ensures c.before.entries_good.ensures (c.if5.true)
 
 entries-new-requires : tie.Need-entries-new-requires
 entries-new-requires c κs = search rules
 
 returns-6 : tie.Need-returns-6
 unfolding links_field
-returns-6 c = rest_sound _ c.before.before.before.before.before.before.before.before.before.before.before.before.before.requires.0 c.before.before.before.before.before.before.before.before.before.before.before.before.before.requires.1 _ _ _ _ _ c.before.before.before.before.before.before.before.before.before.before.before.be16-at.ensures c.before.before.before.before.before.before.before.before.before.before.if1.false c.before.before.before.before.before.before.before.before.if2.false c.before.before.before.before.before.before.before.be16-at2.ensures c.before.before.before.before.before.before.if3.false c.before.before.before.before.before.sums-zero.ensures (not-false _ c.before.before.before.before.if4.false) c.before.before.entries_good.ensures (not-false _ c.before.if5.false) c.entries-new.ensures
+returns-6 c = rest_sound _ c.before.before.before.before.before.before.before.before.before.before.before.before.before.requires.0 c.before.before.before.before.before.before.before.before.before.before.before.before.before.requires.1 _ _ _ _ _ c.before.before.before.before.before.before.before.before.before.before.before.be16-at.ensures c.before.before.before.before.before.before.before.before.before.before.if1.false c.before.before.before.before.before.before.before.before.if2.false c.before.before.before.before.before.before.before.be16-at2.ensures c.before.before.before.before.before.before.if3.false c.before.before.before.before.before.sums-zero.ensures (c.before.before.before.before.if4.false) c.before.before.entries_good.ensures (c.before.if5.false) c.entries-new.ensures
 
 pub sound_lsa_spec : {M : Type 1} → statement M
 sound_lsa_spec =

@@ -50,7 +50,7 @@ sound-lsa-requires c κs = (
 )
 
 returns-4 : tie.Need-returns-4
-returns-4 c = next_unsound _ _ _ c.before.before.before.before.before.before.before.before.requires.2 _ c.before.before.before.before.before.be16-at.ensures c.before.before.before.before.if2.false (omega (arith, c.before.before.before.if3.false, c.before.before.before.before.before.before.before.before.requires.3)) _ c.before.sound-lsa.ensures (not-true _ c.if4.true)
+returns-4 c = next_unsound _ _ _ c.before.before.before.before.before.before.before.before.requires.2 _ c.before.before.before.before.before.be16-at.ensures c.before.before.before.before.if2.false (omega (arith, c.before.before.before.if3.false, c.before.before.before.before.before.before.before.before.requires.3)) _ c.before.sound-lsa.ensures (c.if4.true)
 
 be32-at-requires : tie.Need-be32-at-requires
 be32-at-requires c κs = search rules
@@ -59,10 +59,10 @@ router-new-requires : tie.Need-router-new-requires
 router-new-requires c κs = search rules
 
 returns-5 : tie.Need-returns-5
-returns-5 c = next_named _ _ _ c.before.before.before.before.before.before.before.before.before.before.before.requires.2 _ c.before.before.before.before.before.before.before.before.be16-at.ensures c.before.before.before.before.before.before.before.if2.false (omega (arith, c.before.before.before.before.before.before.if3.false, c.before.before.before.before.before.before.before.before.before.before.before.requires.3)) _ _ c.before.before.be32-at.ensures c.before.router-new.ensures (not-true _ c.if5.true)
+returns-5 c = next_named _ _ _ c.before.before.before.before.before.before.before.before.before.before.before.requires.2 _ c.before.before.before.before.before.before.before.before.be16-at.ensures c.before.before.before.before.before.before.before.if2.false (omega (arith, c.before.before.before.before.before.before.if3.false, c.before.before.before.before.before.before.before.before.before.before.before.requires.3)) _ _ c.before.before.be32-at.ensures c.before.router-new.ensures (c.if5.true)
 
 returns-6 : tie.Need-returns-6
-returns-6 c = next_good _ _ _ c.before.before.before.before.before.before.before.before.before.before.before.requires.2 _ c.before.before.before.before.before.before.before.before.be16-at.ensures c.before.before.before.before.before.before.before.if2.false (omega (arith, c.before.before.before.before.before.before.if3.false, c.before.before.before.before.before.before.before.before.before.before.before.requires.3)) _ _ _ c.before.before.before.before.sound-lsa.ensures (not-false _ c.before.before.before.if4.false) c.before.before.be32-at.ensures c.before.router-new.ensures (not-false _ c.if5.false)
+returns-6 c = next_good _ _ _ c.before.before.before.before.before.before.before.before.before.before.before.requires.2 _ c.before.before.before.before.before.before.before.before.be16-at.ensures c.before.before.before.before.before.before.before.if2.false (omega (arith, c.before.before.before.before.before.before.if3.false, c.before.before.before.before.before.before.before.before.before.before.before.requires.3)) _ _ _ c.before.before.before.before.sound-lsa.ensures (c.before.before.before.if4.false) c.before.before.be32-at.ensures c.before.router-new.ensures (c.if5.false)
 
 pub lsa_good_spec : {M : Type 1} → statement M
 lsa_good_spec =

@@ -15,12 +15,12 @@ new-among-requires c κs = search rules
 returns : tie.Need-returns
 returns c =
     let start = c.before.before.before.before in
-    named_first _ _ _ _ _ start.requires.1 _ c.before.before.held_of.ensures _ c.before.new-among.ensures (not-true _ c.if1.true)
+    named_first _ _ _ _ _ start.requires.1 _ c.before.before.held_of.ensures _ c.before.new-among.ensures (c.if1.true)
 
 new-later-requires : tie.Need-new-later-requires
 new-later-requires c κs =
     let start = c.before.before.before.before in
-    let r = later_ready _ _ _ _ _ start.requires.1 _ c.before.before.held_of.ensures _ c.before.new-among.ensures (not-false _ c.if1.false) in
+    let r = later_ready _ _ _ _ _ start.requires.1 _ c.before.before.held_of.ensures _ c.before.new-among.ensures (c.if1.false) in
     (start.requires.0, r.0, r.1, r.2)
 
 returns-2 : tie.Need-returns-2

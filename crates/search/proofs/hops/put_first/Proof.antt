@@ -14,7 +14,7 @@ leaves-requires c κs = search rules
 returns : tie.Need-returns
 returns c =
     let a = c.before.before.args in
-    rw (sym c.before.leaves.ensures ∙ not-true _ c.if1.true) (other_left a.arc a.count a.arcs.now)
+    rw (sym c.before.leaves.ensures ∙ c.if1.true) (other_left a.arc a.count a.arcs.now)
 
 element-write-arcs : tie.Need-element-write-arcs
 element-write-arcs c = search rules
@@ -25,7 +25,7 @@ add-result c = search rules
 returns-2 : tie.Need-returns-2
 returns-2 c =
     let a = c.before.before.args in
-    rw (sym c.before.leaves.ensures ∙ not-false _ c.if1.false) (first_put a.arc a.count a.arcs.now (omega (arith, c.before.before.requires)))
+    rw (sym c.before.leaves.ensures ∙ c.if1.false) (first_put a.arc a.count a.arcs.now (omega (arith, c.before.before.requires)))
 
 pub put_first_spec : {M : Type 1} → statement M
 put_first_spec =

@@ -16,7 +16,7 @@ can-search-requires c κs = search rules
 
 returns : tie.Need-returns
 unfolding link_if
-returns c = rw (sym c.before.can_search.ensures ∙ not-true _ c.if1.true)
+returns c = rw (sym c.before.can_search.ensures ∙ c.if1.true)
 
 towards-router-requires : tie.Need-towards-router-requires
 towards-router-requires c κs = search rules
@@ -27,7 +27,7 @@ avoiding-to-requires c κs = search rules
 pair-found-requires : tie.Need-pair-found-requires
 pair-found-requires c κs =
     let e = c.before.before.before.before.before in
-    let s = can_search _ _ _ _ (sym e.before.can_search.ensures ∙ not-false _ e.if1.false) in
+    let s = can_search _ _ _ _ (sym e.before.can_search.ensures ∙ e.if1.false) in
     (s.0, s.1, s.3)
 
 returns-2 : tie.Need-returns-2
@@ -36,7 +36,7 @@ returns-2 c =
     let towards = c.before.before.before.before.before in
     let e = towards.before in
     let a = e.before.before.before.before.args in
-    let passes = sym e.before.can_search.ensures ∙ not-false _ e.if1.false in
+    let passes = sym e.before.can_search.ensures ∙ e.if1.false in
     let found = c.pair_found.ensures
     ∙ ap (λ (s : ℕ). pair_for a.ranks.now a.n (arcs_in a.from.now a.to.now a.out.now a.back.now a.links) (asked a.protected) a.dist.now towards.towards_router.result (record { avoiding = s; missing = 0 })) c.before.before.avoiding_to_lem.ensures
     ∙ ap (link_for a.ranks.now a.n (arcs_in a.from.now a.to.now a.out.now a.back.now a.links) (asked a.protected) a.dist.now) towards.towards_router.ensures in

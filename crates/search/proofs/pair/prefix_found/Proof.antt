@@ -18,11 +18,11 @@ can-search-requires c κs = search rules
 
 returns : tie.Need-returns
 unfolding prefix_if
-returns c = rw (sym c.before.can_search.ensures ∙ not-true _ c.if1.true)
+returns c = rw (sym c.before.can_search.ensures ∙ c.if1.true)
 
 -- the question is searched for
 passes : (c : tie.Else1) → let a = c.before.before.before.before.args in searchable a.n a.links (asked a.protected) (length a.dist.now) ≡ true
-passes c = sym c.before.can_search.ensures ∙ not-false _ c.if1.false
+passes c = sym c.before.can_search.ensures ∙ c.if1.false
 
 mul-if2 : tie.Need-overflow-mul-if2
 mul-if2 c = omega (arith, (can_search _ _ _ _ (passes c)).1)
@@ -41,7 +41,7 @@ returns-3 : tie.Need-returns-3
 unfolding prefix_if prefix_for
 returns-3 c =
     let e = c.before.before in
-    rw (passes e.before.before, prefix_if, lt-ltb _ _ e.if2.false, prefix_for, sym c.before.steps-over.ensures ∙ not-true _ c.if3.true)
+    rw (passes e.before.before, prefix_if, lt-ltb _ _ e.if2.false, prefix_for, sym c.before.steps-over.ensures ∙ c.if3.true)
 
 onward-by-steps-requires : tie.Need-onward-by-steps-requires
 onward-by-steps-requires c κs = search rules
@@ -55,7 +55,7 @@ returns-4 c =
     let m = c.before.before.before in
     let e = m.before in
     let a = e.before.before.before.before.before.before.args in
-    rw (passes e.before.before, prefix_if, lt-ltb _ _ e.if2.false, prefix_for, sym m.steps-over.ensures ∙ not-false _ c.before.before.if3.false)
+    rw (passes e.before.before, prefix_if, lt-ltb _ _ e.if2.false, prefix_for, sym m.steps-over.ensures ∙ c.before.before.if3.false)
     (c.pair_found.ensures ∙ ap (pair_for a.ranks.now a.n (arcs_in a.from.now a.to.now a.out.now a.back.now a.links) (asked a.protected) a.dist.now a.target.now) c.before.onward-by-steps.ensures)
 
 pub prefix_found_spec : {M : Type 1} → statement M

@@ -27,11 +27,11 @@ searched s n hops q area e f = rw (e, space_if) f
 
 -- it is
 passes : (c : tie.Else1) → let a = c.before.before.before.args in searchable a.n a.links (asked a.protected) (length a.dist.now) ≡ true
-passes c = sym c.before.can_search.ensures ∙ not-false _ c.if1.false
+passes c = sym c.before.can_search.ensures ∙ c.if1.false
 
 returns : tie.Need-returns
 unfolding space_if
-returns c = rw (sym c.before.can_search.ensures ∙ not-true _ c.if1.true)
+returns c = rw (sym c.before.can_search.ensures ∙ c.if1.true)
 
 enum_told : tie.Need-enum-told
 enum_told c = search rules

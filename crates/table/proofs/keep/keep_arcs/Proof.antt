@@ -57,7 +57,7 @@ returns c =
     let turn = c.before.before.before.before.before.before.before.before in
     let a = turn.before.before.before.args in
     links_under a.from.now a.to.now a.out.now a.back.now _ turn.loop-test.true (inl (c.before.before.before.before.before.before.wide.ensures, c.before.before.before.before.wide2.ensures, refl))
-    (c.before.keep-arc.ensures.under (not-true _ c.if1.true))
+    (c.before.keep-arc.ensures.under (c.if1.true))
 
 mul-keep-arc-2 : tie.Need-overflow-mul-keep-arc-2 invariant-loop decreases-loop
 mul-keep-arc-2 c = search rules
@@ -84,7 +84,7 @@ returns-2 c =
     let turn = c.before.before.before.before.before.before.before.before.before.before.before.before in
     let a = turn.before.before.before.args in
     links_under a.from.now a.to.now a.out.now a.back.now _ turn.loop-test.true (inr (c.before.before.before.before.before.before.before.before.wide2.ensures, c.before.before.before.before.before.before.before.before.before.before.wide.ensures, refl))
-    (c.before.keep-arc2.ensures.under (not-true _ c.if2.true))
+    (c.before.keep-arc2.ensures.under (c.if2.true))
 
 add-k : tie.Need-overflow-add-k invariant-loop decreases-loop
 add-k c = search rules
@@ -99,7 +99,7 @@ loop-again c =
     let first = c.before.before.before.before in (
       omega arith,
       links_more a.from.now a.to.now a.out.now a.back.now c.before.before.before.before.before.before.before.before.before.before.wide.ensures c.before.before.before.before.before.before.before.before.wide2.ensures refl refl turn.before.loop.invariant.1
-          first.before.keep-arc.ensures (not-false _ first.if1.false) c.before.keep-arc2.ensures (not-false _ c.if2.false),
+          first.before.keep-arc.ensures (first.if1.false) c.before.keep-arc2.ensures (c.if2.false),
     )
 
 returns-3 : tie.Need-returns-3 invariant-loop decreases-loop

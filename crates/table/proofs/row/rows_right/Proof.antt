@@ -35,7 +35,7 @@ returns : tie.Need-returns invariant-loop decreases-loop
 returns c =
     let turn = c.before.before.before.before in
     let a = turn.before.before.args in
-    one_wrong a.heads.now a.cells.now turn.loop-test.true c.before.row-right.ensures (not-true _ c.if1.true)
+    one_wrong a.heads.now a.cells.now turn.loop-test.true c.before.row-right.ensures (c.if1.true)
 
 add-x : tie.Need-overflow-add-x invariant-loop decreases-loop
 add-x c = search rules
@@ -47,7 +47,7 @@ loop-again : tie.Need-loop-preserved invariant-loop decreases-loop
 loop-again c =
     let turn = c.before.before.before.before in
     let a = turn.before.before.args in
-    (omega arith, all_more a.heads.now a.cells.now turn.before.loop.x turn.before.loop.invariant.1 (c.before.row-right.ensures.right (not-false _ c.if1.false)))
+    (omega arith, all_more a.heads.now a.cells.now turn.before.loop.x turn.before.loop.invariant.1 (c.before.row-right.ensures.right (c.if1.false)))
 
 returns-2 : tie.Need-returns-2 invariant-loop decreases-loop
 returns-2 c =
