@@ -10,20 +10,20 @@ use Rattle.avoid.proofs.can_read.Statement.{statement}
 use Rattle.avoid.proofs.can_read.Tie as tie
 
 -- the cells passed
-fits : (c : tie.Else1) → let a = c.before.before.args in cells_fit a.n a.cells ≡ true
-fits c = sym c.before.cells_fit.ensures ∙ c.if1.false
+fits : (c : tie.Else-not-cells_fit) → let a = c.args in cells_fit a.n a.cells ≡ true
+fits c = sym c.cells_fit.ensures ∙ c.if-not-cells_fit.false
 
-cells-fit-requires : tie.Need-cells-fit-requires
-cells-fit-requires c κs = search rules
+cells_fit-requires : tie.Need-cells_fit-requires
+cells_fit-requires c κs = search rules
 
-returns : tie.Need-returns
-returns c = cells_refuse _ _ _ (sym c.before.cells_fit.ensures ∙ c.if1.true)
+returns-then-not-cells_fit : tie.Need-returns-then-not-cells_fit
+returns-then-not-cells_fit c = cells_refuse _ _ _ (sym c.cells_fit.ensures ∙ c.if-not-cells_fit.true)
 
-returns-2 : tie.Need-returns-2
-returns-2 c = ends_decide _ _ _ (fits c.before.before.before) (rw (lt-ltb _ _ c.before.if2.true))
+returns-then-protected-n : tie.Need-returns-then-protected-n
+returns-then-protected-n c = ends_decide _ _ _ (fits c.before.before.before) (rw (lt-ltb _ _ c.if-protected-n.true))
 
-returns-3 : tie.Need-returns-3
-returns-3 c = ends_decide _ _ _ (fits c.before.before) (rw (le-ltb _ _ c.if2.false))
+returns-else-protected-n : tie.Need-returns-else-protected-n
+returns-else-protected-n c = ends_decide _ _ _ (fits c.before.before) (rw (le-ltb _ _ c.if-protected-n.false))
 
 pub can_read_spec : {M : Type 1} → statement M
-can_read_spec = tie.close (tie.spec cells-fit-requires returns returns-2 returns-3)
+can_read_spec = tie.close (tie.spec cells_fit-requires returns-then-not-cells_fit returns-then-protected-n returns-else-protected-n)

@@ -23,12 +23,12 @@ add_three-requires c κs = search rules
 wrapping_sub_u64-even-requires : tie.Need-wrapping_sub_u64-even-requires
 wrapping_sub_u64-even-requires c κs = search rules
 
-facts : (c : tie.After-wrapping_sub_u64-even) → let a = c.before.before.before.before.before.before.args in
-    Added a.x a.y a.z c.wrapping_sub_u64-even.result c.before.before.add_three-odd.result
+facts : (c : tie.After-wrapping_sub_u64-even) → let a = c.args in
+    Added a.x a.y a.z c.wrapping_sub_u64-even.result c.add_three-odd.result
 facts c =
-    let a = c.before.before.before.before.before.before.args in
-    added a.x a.y a.z _ _ _ _ _ _ c.before.before.before.before.before.odd_lanes.ensures c.before.before.before.before.odd_lanes-2.ensures
-    c.before.before.before.odd_lanes-3.ensures c.before.before.add_three-odd.ensures c.before.add_three.ensures c.wrapping_sub_u64-even.ensures (search rules)
+    let a = c.args in
+    added a.x a.y a.z _ _ _ _ _ _ c.odd_lanes.ensures c.odd_lanes-2.ensures
+    c.odd_lanes-3.ensures c.add_three-odd.ensures c.add_three-odd.ensures c.wrapping_sub_u64-even.ensures (search rules)
 
 overflow_add-even : tie.Need-overflow_add-even
 overflow_add-even c = record { fits = (facts c).ranges }

@@ -20,10 +20,10 @@ long_of-requires c κs = search rules
 
 returns : tie.Need-returns
 returns c =
-    let a = c.before.before.before.before.args in
-    let low = c.before.before.half_at in
-    let high = c.before.half_at-2 in
-    lanes_of_halves low.result high.result _ (omega arith) c.Long-of.ensures ∙ omega (arith, sum_four a.at a.s.now)
+    let a = c.args in
+    let low = c.half_at in
+    let high = c.half_at-2 in
+    lanes_of_halves low.result high.result _ (omega arith) c.long_of.ensures ∙ omega (arith, sum_four a.at a.s.now)
 
 pub long_at_spec : {M : Type 1} → statement M
 long_at_spec =

@@ -23,7 +23,7 @@ lanes_of-requires : tie.Need-lanes_of-requires
 lanes_of-requires c κs = search rules
 
 returns : tie.Need-returns
-returns c = rw (c.before.before.before.long_at.ensures, c.before.before.long_at-2.ensures, c.before.long_at-3.ensures) at c.lanes_of.ensures
+returns c = rw (c.long_at.ensures, c.long_at-2.ensures, c.long_at-3.ensures) at c.lanes_of.ensures
 
 pub parts_at_spec : {M : Type 1} → statement M
 parts_at_spec =

@@ -22,10 +22,10 @@ wrapping_add_u16-requires c κs = search rules
 
 returns : tie.Need-returns
 returns c =
-    let b = c.before.before.before.before.before.before.args.block.now in
-    let first = c.before.before.before.before.word_at_lem.ensures in
-    let second = c.before.before.before.word_at-2.ensures in
-    c.wrapping_add_u16.ensures ∙ rest_sum b _ _ _ _ first second c.before.word_at-3.ensures c.before.before.wrapping_add_u16-sum.ensures
+    let b = c.args.block.now in
+    let first = c.word_at.ensures in
+    let second = c.word_at-2.ensures in
+    c.wrapping_add_u16-sum.ensures ∙ rest_sum b _ _ _ _ first second c.word_at-3.ensures c.wrapping_add_u16-sum.ensures
 
 pub rest_of_spec : {M : Type 1} → statement M
 rest_of_spec =

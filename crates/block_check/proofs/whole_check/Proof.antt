@@ -17,7 +17,7 @@ rest_of-sum-requires : tie.Need-rest_of-sum-requires invariant-loop-i decreases-
 rest_of-sum-requires c κs = search rules
 
 loop-i-init : tie.Need-loop-i-init invariant-loop-i decreases-loop-i
-loop-i-init c = (omega arith, c.rest_of-sum.ensures ∙ check_none c.before.before.args.block.now)
+loop-i-init c = (omega arith, c.rest_of-sum.ensures ∙ check_none c.args.block.now)
 
 overflow_mul-i : tie.Need-overflow_mul-i invariant-loop-i decreases-loop-i
 overflow_mul-i c = search rules
@@ -36,14 +36,14 @@ loop-i-smaller c = search rules
 
 loop-i-preserved : tie.Need-loop-i-preserved invariant-loop-i decreases-loop-i
 loop-i-preserved c =
-    let l = c.before.before.before.loop-i in
-    let b = c.before.before.before.before.before.before.args.block.now in
-    (omega arith, c.wrapping_add_u16-sum.ensures ∙ check_more l.i _ _ b l.invariant.1 c.before.parts_at.ensures)
+    let l = c.loop-i in
+    let b = c.args.block.now in
+    (omega arith, c.wrapping_add_u16-sum.ensures ∙ check_more l.i _ _ b l.invariant.1 c.parts_at.ensures)
 
 returns : tie.Need-returns invariant-loop-i decreases-loop-i
 unfolding check_of
 returns c =
-    let l = c.before.loop-i in
+    let l = c.loop-i in
     l.invariant.1 ∙ check_all l.i _ (omega arith)
 
 pub whole_check_spec : {M : Type 1} → statement M

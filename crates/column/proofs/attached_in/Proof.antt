@@ -10,60 +10,60 @@ use Rattle.column.proofs.SlotLaws.{no_slots, slot_more}
 use Rattle.column.proofs.attached_in.Statement.{statement}
 use Rattle.column.proofs.attached_in.Tie as tie
 
-abbrev invariant-loop : tie.invariant-loop
-invariant-loop at slot count set₀ s₀ set s = (s ≤ count) × (set ≡ set_of 64 (in_slots at slot s))
+abbrev invariant-loop-s : tie.invariant-loop-s
+invariant-loop-s at slot count set₀ s₀ set s = (s ≤ count) × (set ≡ set_of 64 (in_slots at slot s))
 
-abbrev decreases-loop : tie.decreases-loop
-decreases-loop at slot count set₀ s₀ set s = count - s
+abbrev decreases-loop-s : tie.decreases-loop-s
+decreases-loop-s at slot count set₀ s₀ set s = count - s
 
-loop-holds : tie.Need-loop-init invariant-loop decreases-loop
-loop-holds c = (omega arith, no_slots _ _)
+loop-s-init : tie.Need-loop-s-init invariant-loop-s decreases-loop-s
+loop-s-init c = (omega arith, no_slots _ _)
 
-add_wide : tie.Need-overflow-add-wide invariant-loop decreases-loop
-add_wide c = search rules
+overflow_add-slot : tie.Need-overflow_add-slot invariant-loop-s decreases-loop-s
+overflow_add-slot c = search rules
 
-element-copy-out-wide : tie.Need-element-copy-out-wide invariant-loop decreases-loop
-element-copy-out-wide c = search rules
+bounds-at-slot : tie.Need-bounds-at-slot invariant-loop-s decreases-loop-s
+bounds-at-slot c = search rules
 
-wide-requires : tie.Need-wide-requires invariant-loop decreases-loop
+wide-requires : tie.Need-wide-requires invariant-loop-s decreases-loop-s
 wide-requires c κs = search rules
 
 -- the slot holds a router
-inside : (c : tie.After-wide invariant-loop decreases-loop) → c.wide.result < 64
-inside c = let l = c.before.before.before in omega (arith, c.wide.ensures, l.before.requires.router_in l.loop.s c.before.before.loop-test.true)
+inside : (c : tie.After-wide invariant-loop-s decreases-loop-s) → c.wide.result < 64
+inside c = let l = c.before.before.before in omega (arith, c.wide.ensures, l.requires.router_in l.loop-s.s c.loop-s-test.true)
 
-shl-set : tie.Need-overflow-shl-set invariant-loop decreases-loop
-shl-set c = inside c
+overflow_shl-set : tie.Need-overflow_shl-set invariant-loop-s decreases-loop-s
+overflow_shl-set c = inside c
 
-add-s : tie.Need-overflow-add-s invariant-loop decreases-loop
-add-s c = search rules
+overflow_add-s : tie.Need-overflow_add-s invariant-loop-s decreases-loop-s
+overflow_add-s c = search rules
 
-loop-less : tie.Need-loop-smaller invariant-loop decreases-loop
-loop-less c = search rules
+loop-s-smaller : tie.Need-loop-s-smaller invariant-loop-s decreases-loop-s
+loop-s-smaller c = search rules
 
-loop-again : tie.Need-loop-preserved invariant-loop decreases-loop
-loop-again c =
+loop-s-preserved : tie.Need-loop-s-preserved invariant-loop-s decreases-loop-s
+loop-s-preserved c =
     let l = c.before.before.before in
-    (omega arith, slot_more l.before.args.at.now l.before.args.slot l.loop.s l.loop.invariant.1 c.wide.ensures (inside c))
+    (omega arith, slot_more l.args.at.now l.args.slot l.loop-s.s l.loop-s.invariant.1 c.wide.ensures (inside c))
 
-returns : tie.Need-returns invariant-loop decreases-loop
+returns : tie.Need-returns invariant-loop-s decreases-loop-s
 returns c =
     let s = c.before.before in
-    let e : c.before.loop.s ≡ s.args.count = omega arith in
-    c.before.loop.invariant.1 ∙ ap (λ (k : ℕ). set_of 64 (in_slots s.args.at.now s.args.slot k)) e
+    let e : c.loop-s.s ≡ s.args.count = omega arith in
+    c.loop-s.invariant.1 ∙ ap (λ (k : ℕ). set_of 64 (in_slots s.args.at.now s.args.slot k)) e
 
 pub attached_in_spec : {M : Type 1} → statement M
 attached_in_spec =
     tie.close
     (tie.spec
-    invariant-loop
-    decreases-loop
-    loop-holds
-    add_wide
-    element-copy-out-wide
+    invariant-loop-s
+    decreases-loop-s
+    loop-s-init
+    overflow_add-slot
+    bounds-at-slot
     wide-requires
-    shl-set
-    add-s
-    loop-less
-    loop-again
+    overflow_shl-set
+    overflow_add-s
+    loop-s-smaller
+    loop-s-preserved
     returns)

@@ -14,54 +14,54 @@ use Rattle.column.proofs.ColumnLaws.{column_none, column_more}
 use Rattle.column.proofs.router_column.Statement.{statement}
 use Rattle.column.proofs.router_column.Tie as tie
 
-abbrev invariant-loop : tie.invariant-loop
-invariant-loop dist n t target₀ x₀ target x = (x ≤ n) × (target ≡ column x (towards (held n dist) (router t)))
+abbrev invariant-loop-x : tie.invariant-loop-x
+invariant-loop-x dist n t target₀ x₀ target x = (x ≤ n) × (target ≡ column x (towards (held n dist) (router t)))
 
-abbrev decreases-loop : tie.decreases-loop
-decreases-loop dist n t target₀ x₀ target x = n - x
+abbrev decreases-loop-x : tie.decreases-loop-x
+decreases-loop-x dist n t target₀ x₀ target x = n - x
 
-loop-holds : tie.Need-loop-init invariant-loop decreases-loop
-loop-holds c = (omega arith, column_none _)
+loop-x-init : tie.Need-loop-x-init invariant-loop-x decreases-loop-x
+loop-x-init c = (omega arith, column_none _)
 
-cell-requires : tie.Need-cell-requires invariant-loop decreases-loop
+cell-requires : tie.Need-cell-requires invariant-loop-x decreases-loop-x
 cell-requires c κs = search rules
 
-mul-target : tie.Need-overflow-mul-target invariant-loop decreases-loop
-mul-target c = search rules
+offset_bounds-target-x : tie.Need-offset_bounds-target-x invariant-loop-x decreases-loop-x
+offset_bounds-target-x c = search rules
 
-array-write-target : tie.Need-array-write-target invariant-loop decreases-loop
-array-write-target c = search rules
+bounds-target-x : tie.Need-bounds-target-x invariant-loop-x decreases-loop-x
+bounds-target-x c = search rules
 
-add-x : tie.Need-overflow-add-x invariant-loop decreases-loop
-add-x c = search rules
+overflow_add-x : tie.Need-overflow_add-x invariant-loop-x decreases-loop-x
+overflow_add-x c = search rules
 
-loop-less : tie.Need-loop-smaller invariant-loop decreases-loop
-loop-less c = search rules
+loop-x-smaller : tie.Need-loop-x-smaller invariant-loop-x decreases-loop-x
+loop-x-smaller c = search rules
 
-loop-again : tie.Need-loop-preserved invariant-loop decreases-loop
-loop-again c =
-    let l = c.before.before.loop in
+loop-x-preserved : tie.Need-loop-x-preserved invariant-loop-x decreases-loop-x
+loop-x-preserved c =
+    let l = c.loop-x in
     let s = c.before.before.before.before in
     let v = cell_known s.args.n s.args.dist.now l.x s.args.t (omega arith) s.requires.2 s.requires.0 s.requires.1 c.cell.ensures in
     (omega arith, column_more _ (omega arith) l.invariant.1 (v ∙ sym (towards_router (held s.args.n s.args.dist.now) s.args.t l.x (omega arith))))
 
-returns : tie.Need-returns invariant-loop decreases-loop
+returns : tie.Need-returns invariant-loop-x decreases-loop-x
 returns c =
-    let e : c.before.loop.x ≡ c.before.before.before.args.n = omega arith in
+    let e : c.loop-x.x ≡ c.args.n = omega arith in
     let s = c.before.before.before in
-    c.before.loop.invariant.1 ∙ ap (λ (k : ℕ). column k (towards (held s.args.n s.args.dist.now) (router s.args.t))) e
+    c.loop-x.invariant.1 ∙ ap (λ (k : ℕ). column k (towards (held s.args.n s.args.dist.now) (router s.args.t))) e
 
 pub router_column_spec : {M : Type 1} → statement M
 router_column_spec =
     tie.close
     (tie.spec
-    invariant-loop
-    decreases-loop
-    loop-holds
+    invariant-loop-x
+    decreases-loop-x
+    loop-x-init
     cell-requires
-    mul-target
-    array-write-target
-    add-x
-    loop-less
-    loop-again
+    offset_bounds-target-x
+    bounds-target-x
+    overflow_add-x
+    loop-x-smaller
+    loop-x-preserved
     returns)

@@ -13,31 +13,31 @@ use Rattle.column.proofs.CallLaws.{router_none, router_found}
 use Rattle.column.proofs.towards_router.Statement.{statement}
 use Rattle.column.proofs.towards_router.Tie as tie
 
-cells-fit-requires : tie.Need-cells-fit-requires
-cells-fit-requires c κs = search rules
+cells_fit-requires : tie.Need-cells_fit-requires
+cells_fit-requires c κs = search rules
 
-returns : tie.Need-returns
-returns c = router_none _ _ _ (inl (sym c.before.cells_fit.ensures ∙ c.if1.true))
+returns-then-not-cells_fit : tie.Need-returns-then-not-cells_fit
+returns-then-not-cells_fit c = router_none _ _ _ (inl (sym c.cells_fit.ensures ∙ c.if-not-cells_fit.true))
 
-returns-2 : tie.Need-returns-2
-returns-2 c =
-    let a = c.before.before.before.before.args in
+returns-then-n-t : tie.Need-returns-then-n-t
+returns-then-n-t c =
+    let a = c.args in
     router_none _ _ _ (inr (le-ltb a.t a.n (omega arith)))
 
 -- the first test passed
-fits : (c : tie.Else1) → cells_fit c.before.before.before.args.n (length c.before.before.before.args.dist.now) ≡ true
-fits c = sym c.before.cells_fit.ensures ∙ c.if1.false
+fits : (c : tie.Else-not-cells_fit) → cells_fit c.args.n (length c.args.dist.now) ≡ true
+fits c = sym c.cells_fit.ensures ∙ c.if-not-cells_fit.false
 
-router-column-requires : tie.Need-router-column-requires
-router-column-requires c κs =
+router_column-requires : tie.Need-router_column-requires
+router_column-requires c κs =
     let f = cells_give _ _ (fits c.before) in
-    (f.0, f.1, c.if2.false)
+    (f.0, f.1, c.if-n-t.false)
 
-returns-3 : tie.Need-returns-3
-returns-3 c =
+returns : tie.Need-returns
+returns c =
     let f = cells_give _ _ (fits c.before.before) in
-    router_found _ _ f.0 f.1 _ c.before.if2.false c.router-column.ensures
+    router_found _ _ f.0 f.1 _ c.if-n-t.false c.router_column.ensures
 
 pub towards_router_spec : {M : Type 1} → statement M
 towards_router_spec =
-    tie.close (tie.spec cells-fit-requires returns returns-2 router-column-requires returns-3)
+    tie.close (tie.spec cells_fit-requires returns-then-not-cells_fit returns-then-n-t router_column-requires returns)

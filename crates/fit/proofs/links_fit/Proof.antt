@@ -8,70 +8,70 @@ use Rattle.fit.proofs.FitLaws.{Largest, largest_none, largest_more, links_many, 
 use Rattle.fit.proofs.links_fit.Statement.{statement}
 use Rattle.fit.proofs.links_fit.Tie as tie
 
-abbrev invariant-loop : tie.invariant-loop
-invariant-loop routers links from to top₀ k₀ top k = (k ≤ links) × Largest routers k from to top
+abbrev invariant-loop-k : tie.invariant-loop-k
+invariant-loop-k routers links from to top₀ k₀ top k = (k ≤ links) × Largest routers k from to top
 
-abbrev decreases-loop : tie.decreases-loop
-decreases-loop routers links from to top₀ k₀ top k = links - k
+abbrev decreases-loop-k : tie.decreases-loop-k
+decreases-loop-k routers links from to top₀ k₀ top k = links - k
 
-returns : tie.Need-returns invariant-loop decreases-loop
-returns c = links_many _ _ _ _ c.if1.true
+returns-then-links-gt128 : tie.Need-returns-then-links-gt128 invariant-loop-k decreases-loop-k
+returns-then-links-gt128 c = links_many _ _ _ _ c.if-links-gt128.true
 
-returns-2 : tie.Need-returns-2 invariant-loop decreases-loop
-returns-2 c = links_none _ _ _ _ c.if2.true
+returns-then-links-eq0 : tie.Need-returns-then-links-eq0 invariant-loop-k decreases-loop-k
+returns-then-links-eq0 c = links_none _ _ _ _ c.if-links-eq0.true
 
-loop-holds : tie.Need-loop-init invariant-loop decreases-loop
-loop-holds c = (omega arith, largest_none _ _ _)
+loop-k-init : tie.Need-loop-k-init invariant-loop-k decreases-loop-k
+loop-k-init c = (omega arith, largest_none _ _ _)
 
-element-copy-out-larger : tie.Need-element-copy-out-larger invariant-loop decreases-loop
-element-copy-out-larger c = search rules
+bounds-from-k : tie.Need-bounds-from-k invariant-loop-k decreases-loop-k
+bounds-from-k c = search rules
 
-element-copy-out-larger-2 : tie.Need-element-copy-out-larger-2 invariant-loop decreases-loop
-element-copy-out-larger-2 c = search rules
+bounds-to-k : tie.Need-bounds-to-k invariant-loop-k decreases-loop-k
+bounds-to-k c = search rules
 
-larger-requires : tie.Need-larger-requires invariant-loop decreases-loop
+larger-requires : tie.Need-larger-requires invariant-loop-k decreases-loop-k
 larger-requires c κs = search rules
 
-larger-requires-2 : tie.Need-larger-requires-2 invariant-loop decreases-loop
-larger-requires-2 c κs = search rules
+larger-top-requires : tie.Need-larger-top-requires invariant-loop-k decreases-loop-k
+larger-top-requires c κs = search rules
 
-add-k : tie.Need-overflow-add-k invariant-loop decreases-loop
-add-k c = search rules
+overflow_add-k : tie.Need-overflow_add-k invariant-loop-k decreases-loop-k
+overflow_add-k c = search rules
 
-loop-less : tie.Need-loop-smaller invariant-loop decreases-loop
-loop-less c = search rules
+loop-k-smaller : tie.Need-loop-k-smaller invariant-loop-k decreases-loop-k
+loop-k-smaller c = search rules
 
-loop-again : tie.Need-loop-preserved invariant-loop decreases-loop
-loop-again c =
+loop-k-preserved : tie.Need-loop-k-preserved invariant-loop-k decreases-loop-k
+loop-k-preserved c =
     let at-loop = c.before.before.before.before.before in
-    (omega arith, largest_more _ _ _ at-loop.loop.invariant.1 c.before.larger.ensures c.larger2.ensures)
+    (omega arith, largest_more _ _ _ at-loop.loop-k.invariant.1 c.before.larger.ensures c.larger-top.ensures)
 
-wide-requires : tie.Need-wide-requires invariant-loop decreases-loop
+wide-requires : tie.Need-wide-requires invariant-loop-k decreases-loop-k
 wide-requires c κs = search rules
 
-returns-3 : tie.Need-returns-3 invariant-loop decreases-loop
-returns-3 c =
+returns : tie.Need-returns invariant-loop-k decreases-loop-k
+returns c =
     let at-loop = c.before.before in
     let a = at-loop.before.before.before.args in
-    let e : at-loop.loop.k ≡ a.links = omega arith in
-    let all = subst (λ (k : ℕ). Largest a.routers k a.from.now a.to.now at-loop.loop.top) e at-loop.loop.invariant.1 in
+    let e : at-loop.loop-k.k ≡ a.links = omega arith in
+    let all = subst (λ (k : ℕ). Largest a.routers k a.from.now a.to.now at-loop.loop-k.top) e at-loop.loop-k.invariant.1 in
     rw c.wide.ensures (links_told _ _ _ _ (omega arith) (omega arith) all)
 
 pub links_fit_spec : {M : Type 1} → statement M
 links_fit_spec =
     tie.close
     (tie.spec
-    invariant-loop
-    decreases-loop
-    returns
-    returns-2
-    loop-holds
-    element-copy-out-larger
-    element-copy-out-larger-2
+    invariant-loop-k
+    decreases-loop-k
+    returns-then-links-gt128
+    returns-then-links-eq0
+    loop-k-init
+    bounds-from-k
+    bounds-to-k
     larger-requires
-    larger-requires-2
-    add-k
-    loop-less
-    loop-again
+    larger-top-requires
+    overflow_add-k
+    loop-k-smaller
+    loop-k-preserved
     wide-requires
-    returns-3)
+    returns)

@@ -11,20 +11,20 @@ use borrow.Author.Rules.{rules}
 use Rattle.rows.proofs.inputs_of.Statement.{statement}
 use Rattle.rows.proofs.inputs_of.Tie as tie
 
-enum_told : tie.Need-enum-told
-enum_told c = search rules
+enum_told-1 : tie.Need-enum_told-1
+enum_told-1 c = search rules
 
-enum-told-2 : tie.Need-enum-told-2
-enum-told-2 c = search rules
+enum_told-in-Space : tie.Need-enum_told-in-Space
+enum_told-in-Space c = search rules
 
-enum-told-3 : tie.Need-enum-told-3
-enum-told-3 c = search rules
+enum_told-in-Link : tie.Need-enum_told-in-Link
+enum_told-in-Link c = search rules
 
-enum-told-4 : tie.Need-enum-told-4
-enum-told-4 c = search rules
+enum_told-in-Prefix : tie.Need-enum_told-in-Prefix
+enum_told-in-Prefix c = search rules
 
-enum-told-5 : tie.Need-enum-told-5
-enum-told-5 c = search rules
+enum_told-in-Route : tie.Need-enum_told-in-Route
+enum_told-in-Route c = search rules
 
 -- the calls that may be lent a table, by whether they are
 link_inputs : (given : Bool) (s : lfa.Space) → record { table = given; buffer = false; ranks = true; link = true; prefix = false } ≡ inputs_in (call_of Link given s)
@@ -42,24 +42,24 @@ unfolding source_of call_of inputs_in has_input inputs_of cells_from input_numbe
 route_inputs true s = refl
 route_inputs false s = refl
 
-returns : tie.Need-returns
+returns-in-Distances : tie.Need-returns-in-Distances
 unfolding call_of inputs_in has_input inputs_of input_number member_of any_of
-returns c = rw c.enum_told.given.1 (λ s. refl)
+returns-in-Distances c = rw c.enum_told-1.given.1 (λ s. refl)
 
-returns-2 : tie.Need-returns-2
+returns-in-Space : tie.Need-returns-in-Space
 unfolding call_of inputs_in has_input inputs_of input_number member_of any_of
-returns-2 c = rw c.enum-told2.given.1 (λ s. refl)
+returns-in-Space c = rw c.enum_told-in-Space-1.given.1 (λ s. refl)
 
-returns-3 : tie.Need-returns-3
-returns-3 c = rw c.enum-told3.given.1 (λ s. link_inputs _ s)
+returns-in-Link : tie.Need-returns-in-Link
+returns-in-Link c = rw c.enum_told-in-Link-1.given.1 (λ s. link_inputs _ s)
 
-returns-4 : tie.Need-returns-4
-returns-4 c = rw c.enum-told4.given.1 (λ s. prefix_inputs _ s)
+returns-in-Prefix : tie.Need-returns-in-Prefix
+returns-in-Prefix c = rw c.enum_told-in-Prefix-1.given.1 (λ s. prefix_inputs _ s)
 
-returns-5 : tie.Need-returns-5
-returns-5 c = rw c.enum-told5.given.1 (λ s. route_inputs _ s)
+returns-in-Route : tie.Need-returns-in-Route
+returns-in-Route c = rw c.enum_told-in-Route-1.given.1 (λ s. route_inputs _ s)
 
 pub inputs_of_spec : {M : Type 1} → statement M
 inputs_of_spec =
     tie.close
-    (tie.spec enum_told enum-told-2 enum-told-3 enum-told-4 enum-told-5 returns returns-2 returns-3 returns-4 returns-5)
+    (tie.spec enum_told-1 enum_told-in-Space enum_told-in-Link enum_told-in-Prefix enum_told-in-Route returns-in-Distances returns-in-Space returns-in-Link returns-in-Prefix returns-in-Route)

@@ -4,11 +4,11 @@ use borrow.Author.Tests.{lt-ltb, le-ltb}
 use Rattle.rows.proofs.named.Statement.{statement}
 use Rattle.rows.proofs.named.Tie as tie
 
-returns : tie.Need-returns
-returns c = rw (lt-ltb _ _ c.if1.true)
+returns-then-link-links : tie.Need-returns-then-link-links
+returns-then-link-links c = rw (lt-ltb _ _ c.if-link-links.true)
 
-returns-2 : tie.Need-returns-2
-returns-2 c = rw (le-ltb _ _ c.if1.false)
+returns-else-link-links : tie.Need-returns-else-link-links
+returns-else-link-links c = rw (le-ltb _ _ c.if-link-links.false)
 
 pub named_spec : {M : Type 1} → statement M
-named_spec = tie.close (tie.spec returns returns-2)
+named_spec = tie.close (tie.spec returns-then-link-links returns-else-link-links)

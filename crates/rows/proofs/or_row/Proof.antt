@@ -4,17 +4,17 @@ use Rattle.rows.specs.Rows.{or_row}
 use Rattle.rows.proofs.or_row.Statement.{statement}
 use Rattle.rows.proofs.or_row.Tie as tie
 
+returns-then-passes : tie.Need-returns-then-passes
+unfolding or_row
+returns-then-passes c = rw c.if-passes.true
+
+returns-then-tried : tie.Need-returns-then-tried
+unfolding or_row
+returns-then-tried c = rw (c.if-passes.false, c.if-tried.true)
+
 returns : tie.Need-returns
 unfolding or_row
-returns c = rw c.if1.true
-
-returns-2 : tie.Need-returns-2
-unfolding or_row
-returns-2 c = rw (c.before.if1.false, c.if2.true)
-
-returns-3 : tie.Need-returns-3
-unfolding or_row
-returns-3 c = rw (c.before.if1.false, c.if2.false)
+returns c = rw (c.if-passes.false, c.if-tried.false)
 
 pub or_row_spec : {M : Type 1} → statement M
-or_row_spec = tie.close (tie.spec returns returns-2 returns-3)
+or_row_spec = tie.close (tie.spec returns-then-passes returns-then-tried returns)

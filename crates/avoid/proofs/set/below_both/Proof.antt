@@ -8,14 +8,14 @@ use Rattle.avoid.proofs.set.below_both.Tie as tie
 add3-requires : tie.Need-add3-requires
 add3-requires c κs = search rules
 
-add3-requires-2 : tie.Need-add3-requires-2
-add3-requires-2 c κs = search rules
+add3-requires-then-own-add3 : tie.Need-add3-requires-then-own-add3
+add3-requires-then-own-add3 c κs = search rules
 
-returns : tie.Need-returns
-returns c = second_tried c.before.if1.true c.before.before.add3.ensures c.add32.ensures
+returns-then-own-add3 : tie.Need-returns-then-own-add3
+returns-then-own-add3 c = second_tried c.if-own-add3.true c.add3.ensures c.add3-then-own-add3.ensures
 
-returns-2 : tie.Need-returns-2
-returns-2 c = first_fails _ c.if1.false c.before.add3.ensures
+returns-else-own-add3 : tie.Need-returns-else-own-add3
+returns-else-own-add3 c = first_fails _ c.if-own-add3.false c.add3.ensures
 
 pub below_both_spec : {M : Type 1} → statement M
-below_both_spec = tie.close (tie.spec add3-requires add3-requires-2 returns returns-2)
+below_both_spec = tie.close (tie.spec add3-requires add3-requires-then-own-add3 returns-then-own-add3 returns-else-own-add3)

@@ -11,52 +11,52 @@ use Rattle.rows.proofs.RankLaws.{once, wrong_length, not_once, each_once}
 use Rattle.rows.proofs.ranks.arranged.Statement.{statement}
 use Rattle.rows.proofs.ranks.arranged.Tie as tie
 
-abbrev invariant-loop : tie.invariant-loop
-invariant-loop ranks rank₀ rank = (rank ≤ 8) × ((k : ℕ) → k < rank → once ranks k ≡ true)
+abbrev invariant-loop-rank : tie.invariant-loop-rank
+invariant-loop-rank ranks rank₀ rank = (rank ≤ 8) × ((k : ℕ) → k < rank → once ranks k ≡ true)
 
-abbrev decreases-loop : tie.decreases-loop
-decreases-loop ranks rank₀ rank = 8 - rank
+abbrev decreases-loop-rank : tie.decreases-loop-rank
+decreases-loop-rank ranks rank₀ rank = 8 - rank
 
-returns : tie.Need-returns invariant-loop decreases-loop
-returns c = wrong_length _ (λ e. absurd (omega (arith, e)))
+returns-then-ranks-ne8 : tie.Need-returns-then-ranks-ne8 invariant-loop-rank decreases-loop-rank
+returns-then-ranks-ne8 c = wrong_length _ (λ e. absurd (omega (arith, e)))
 
-loop-holds : tie.Need-loop-init invariant-loop decreases-loop
-loop-holds c = (omega arith, λ k h. absurd (omega arith))
+loop-rank-init : tie.Need-loop-rank-init invariant-loop-rank decreases-loop-rank
+loop-rank-init c = (omega arith, λ k h. absurd (omega arith))
 
-times-given-requires : tie.Need-times-given-requires invariant-loop decreases-loop
-times-given-requires c κs = search rules
+times_given-requires : tie.Need-times_given-requires invariant-loop-rank decreases-loop-rank
+times_given-requires c κs = search rules
 
-returns-2 : tie.Need-returns-2 invariant-loop decreases-loop
-returns-2 c =
+returns-then-times_given-ne1 : tie.Need-returns-then-times_given-ne1 invariant-loop-rank decreases-loop-rank
+returns-then-times_given-ne1 c =
     let turn = c.before.before in
-    not_once _ turn.before.loop.rank (omega arith) (λ e. c.if2.true (c.before.times-given.ensures ∙ e))
+    not_once _ turn.loop-rank.rank (omega arith) (λ e. c.if-times_given-ne1.true (c.times_given.ensures ∙ e))
 
-add-rank : tie.Need-overflow-add-rank invariant-loop decreases-loop
-add-rank c = search rules
+overflow_add-rank : tie.Need-overflow_add-rank invariant-loop-rank decreases-loop-rank
+overflow_add-rank c = search rules
 
-loop-less : tie.Need-loop-smaller invariant-loop decreases-loop
-loop-less c = search rules
+loop-rank-smaller : tie.Need-loop-rank-smaller invariant-loop-rank decreases-loop-rank
+loop-rank-smaller c = search rules
 
-loop-again : tie.Need-loop-preserved invariant-loop decreases-loop
-loop-again c =
+loop-rank-preserved : tie.Need-loop-rank-preserved invariant-loop-rank decreases-loop-rank
+loop-rank-preserved c =
     let at-loop = c.before.before.before in
-    let this = eq-eqb _ 1 (sym c.before.times-given.ensures ∙ c.if2.false) in
-    (omega arith, every_more (once at-loop.before.before.before.args.ranks.now) at-loop.loop.rank at-loop.loop.invariant.1 this)
+    let this = eq-eqb _ 1 (sym c.times_given.ensures ∙ c.if-times_given-ne1.false) in
+    (omega arith, every_more (once at-loop.args.ranks.now) at-loop.loop-rank.rank at-loop.loop-rank.invariant.1 this)
 
-returns-3 : tie.Need-returns-3 invariant-loop decreases-loop
-returns-3 c = each_once _ (omega arith) (λ k h. c.before.loop.invariant.1 k (omega arith))
+returns : tie.Need-returns invariant-loop-rank decreases-loop-rank
+returns c = each_once _ (omega arith) (λ k h. c.loop-rank.invariant.1 k (omega arith))
 
 pub arranged_spec : {M : Type 1} → statement M
 arranged_spec =
     tie.close
     (tie.spec
-    invariant-loop
-    decreases-loop
-    returns
-    loop-holds
-    times-given-requires
-    returns-2
-    add-rank
-    loop-less
-    loop-again
-    returns-3)
+    invariant-loop-rank
+    decreases-loop-rank
+    returns-then-ranks-ne8
+    loop-rank-init
+    times_given-requires
+    returns-then-times_given-ne1
+    overflow_add-rank
+    loop-rank-smaller
+    loop-rank-preserved
+    returns)
