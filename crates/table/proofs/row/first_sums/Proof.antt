@@ -52,7 +52,7 @@ loop-t-preserved c =
 returns : tie.Need-returns invariant-loop-t decreases-loop-t
 returns c =
     let e : c.loop-t.t ≡ 64 = omega arith in
-    started_all (subst (λ (t : ℕ). Started c.args.x t c.loop-t.sums-1) e c.loop-t.invariant.1)
+    started_all (subst (λ (t : ℕ). Started c.args.x t c.loop-t.sums) e c.loop-t.invariant.1)
 
 pub first_sums_spec : {M : Type 1} → statement M
 first_sums_spec =

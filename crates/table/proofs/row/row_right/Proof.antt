@@ -17,20 +17,17 @@ invariant-loop-rest x heads starts cells sums₀ rest₀ sums rest = (rest < 2 ^
 abbrev decreases-loop-rest : tie.decreases-loop-rest
 decreases-loop-rest x heads starts cells sums₀ rest₀ sums rest = rest
 
--- a turn takes the lowest bit
-head : (c : tie.In-loop-rest invariant-loop-rest decreases-loop-rest) → Taken c.loop-rest.rest (bit_and c.loop-rest.rest (c.loop-rest.rest - 1)) (count_trailing_zeros 64 c.loop-rest.rest)
-head c = taken c.loop-rest.rest (λ e. omega arith) c.loop-rest.invariant.0
-
 first_sums-sums-requires : tie.Need-first_sums-sums-requires invariant-loop-rest decreases-loop-rest
 first_sums-sums-requires c κs = search rules
 
 loop-rest-init : tie.Need-loop-rest-init invariant-loop-rest decreases-loop-rest
 loop-rest-init c =
-    let start = c.before in
-    (omega arith, rw c.first_sums-sums.ensures (sums_first start.args.cells.now start.requires.0))
+    (omega arith, rw c.first_sums-sums.ensures (sums_first c.args.cells.now c.requires.0))
 
 overflow_cast-head : tie.Need-overflow_cast-head invariant-loop-rest decreases-loop-rest
-overflow_cast-head c = omega (arith, (head c).in_row)
+overflow_cast-head c =
+    let head : Taken c.loop-rest.rest (bit_and c.loop-rest.rest (c.loop-rest.rest - 1)) (count_trailing_zeros 64 c.loop-rest.rest) = taken c.loop-rest.rest (λ e. omega arith) c.loop-rest.invariant.0 in
+    omega (arith, head.in_row)
 
 overflow_sub-rest : tie.Need-overflow_sub-rest invariant-loop-rest decreases-loop-rest
 overflow_sub-rest c = omega arith
@@ -39,39 +36,43 @@ overflow_mul-x : tie.Need-overflow_mul-x invariant-loop-rest decreases-loop-rest
 overflow_mul-x c = search rules
 
 overflow_add-x : tie.Need-overflow_add-x invariant-loop-rest decreases-loop-rest
-overflow_add-x c = omega (arith, (head c).in_row)
+overflow_add-x c =
+    let head : Taken c.loop-rest.rest (bit_and c.loop-rest.rest (c.loop-rest.rest - 1)) (count_trailing_zeros 64 c.loop-rest.rest) = taken c.loop-rest.rest (λ e. omega arith) c.loop-rest.invariant.0 in
+    omega (arith, head.in_row)
 
 offset_bounds-cells-x : tie.Need-offset_bounds-cells-x invariant-loop-rest decreases-loop-rest
-offset_bounds-cells-x c = omega (arith, (head c).in_row)
+offset_bounds-cells-x c =
+    let head : Taken c.loop-rest.rest (bit_and c.loop-rest.rest (c.loop-rest.rest - 1)) (count_trailing_zeros 64 c.loop-rest.rest) = taken c.loop-rest.rest (λ e. omega arith) c.loop-rest.invariant.0 in
+    omega (arith, head.in_row)
 
 bounds-cells-x : tie.Need-bounds-cells-x invariant-loop-rest decreases-loop-rest
-bounds-cells-x c = omega (arith, c.requires.0, (head c).in_row)
+bounds-cells-x c =
+    let head : Taken c.loop-rest.rest (bit_and c.loop-rest.rest (c.loop-rest.rest - 1)) (count_trailing_zeros 64 c.loop-rest.rest) = taken c.loop-rest.rest (λ e. omega arith) c.loop-rest.invariant.0 in
+    omega (arith, c.requires.0, head.in_row)
 
 lower-requires : tie.Need-lower-requires invariant-loop-rest decreases-loop-rest
 lower-requires c κs =
-    let turn = c.before.before in
-    let start = turn.before.before.before in
-    (start.requires.1 start.args.x _ start.requires.0 (head turn).in_row, (head turn).in_row, start.requires.1, turn.loop-rest.invariant.1.little)
+    let head : Taken c.loop-rest.rest (bit_and c.loop-rest.rest (c.loop-rest.rest - 1)) (count_trailing_zeros 64 c.loop-rest.rest) = taken c.loop-rest.rest (λ e. omega arith) c.loop-rest.invariant.0 in
+    (c.requires.1 c.args.x _ c.requires.0 head.in_row, head.in_row, c.requires.1, c.loop-rest.invariant.1.little)
 
 loop-rest-smaller : tie.Need-loop-rest-smaller invariant-loop-rest decreases-loop-rest
-loop-rest-smaller c = (head c.before.before.before).fewer
+loop-rest-smaller c =
+    let head : Taken c.loop-rest.rest (bit_and c.loop-rest.rest (c.loop-rest.rest - 1)) (count_trailing_zeros 64 c.loop-rest.rest) = taken c.loop-rest.rest (λ e. omega arith) c.loop-rest.invariant.0 in
+    head.fewer
 
 loop-rest-preserved : tie.Need-loop-rest-preserved invariant-loop-rest decreases-loop-rest
 loop-rest-preserved c =
-    let turn = c.before.before.before in
-    let start = turn.before.before.before in
-    (omega (arith, (head turn).fewer), sums_next start.args.cells.now start.requires.0 turn.loop-rest.invariant.1 (head turn) refl c.lower.ensures)
+    let head : Taken c.loop-rest.rest (bit_and c.loop-rest.rest (c.loop-rest.rest - 1)) (count_trailing_zeros 64 c.loop-rest.rest) = taken c.loop-rest.rest (λ e. omega arith) c.loop-rest.invariant.0 in
+    (omega (arith, head.fewer), sums_next c.args.cells.now c.requires.0 c.loop-rest.invariant.1 head refl c.lower.ensures)
 
 same_row-requires : tie.Need-same_row-requires invariant-loop-rest decreases-loop-rest
 same_row-requires c κs = search rules
 
 returns : tie.Need-returns invariant-loop-rest decreases-loop-rest
 returns c =
-    let at-loop = c.before.before.before in
-    let start = at-loop.before.before in
-    let e : at-loop.loop-rest.rest ≡ 0 = omega arith in
-    sums_told start.args.cells.now start.requires.0 start.requires.1
-    (subst (λ (rest : ℕ). RowSums start.args.x start.args.heads rest start.args.cells.now at-loop.loop-rest.sums-1) e at-loop.loop-rest.invariant.1) c.same_row.ensures
+    let e : c.loop-rest.rest ≡ 0 = omega arith in
+    sums_told c.args.cells.now c.requires.0 c.requires.1
+    (subst (λ (rest : ℕ). RowSums c.args.x c.args.heads rest c.args.cells.now c.loop-rest.sums) e c.loop-rest.invariant.1) c.same_row.ensures
 
 pub row_right_spec : {M : Type 1} → statement M
 row_right_spec =
