@@ -3,7 +3,6 @@
 use Prim.Native.Nat.{ℕ, ◌≤◌, ◌<◌}
 use mathlib.Core.Path.{refl}
 use native.Mathlib.Omega.{arith}
-use borrow.Author.Tests.{not-true, not-false}
 use Rattle.metric.specs.Area.{area_cell}
 use Rattle.table.proofs.NarrowLaws.{rows_little, cells_small}
 use Rattle.table.proofs.AgreeLaws.{under_tested, rows_tested}

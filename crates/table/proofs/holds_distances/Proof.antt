@@ -4,7 +4,6 @@ use Prim.Native.Nat.{◌*◌, ◌≤◌}
 use mathlib.Core.Path.{◌≡◌, sym, ◌∙◌}
 use mathlib.Core.Bool.{true}
 use lib.ListN.{length}
-use borrow.Author.Tests.{not-true, not-false}
 use Rattle.metric.specs.Fit.{cells_fit, links_fit, ColumnsWithin}
 use Rattle.metric.specs.Laws.Fit.{cells_give, links_give}
 use Rattle.table.specs.Calls.{costs_fit}

@@ -7,7 +7,6 @@ use native.Mathlib.Omega.{arith}
 use borrow.Author.Rules.{rules}
 use Rattle.table.specs.Rows.{Over, Kept}
 use Rattle.table.proofs.KeepLaws.{links_none, links_more, links_under, links_kept}
-use borrow.Author.Tests.{not-true, not-false}
 use Rattle.table.proofs.keep.keep_arcs.Statement.{statement}
 use Rattle.table.proofs.keep.keep_arcs.Tie as tie
 

@@ -4,7 +4,6 @@ use mathlib.Core.Path.{◌≡◌, subst}
 use Prim.Native.Nat.{ℕ, ◌-◌, ◌≤◌}
 use native.Mathlib.Omega.{arith}
 use borrow.Author.Rules.{rules}
-use borrow.Author.Tests.{not-true, not-false}
 use Rattle.table.specs.Rows.{RowsRight}
 use Rattle.table.proofs.RowLaws.{all_more, all_right, one_wrong}
 use Rattle.table.proofs.row.rows_right.Statement.{statement}
