@@ -24,7 +24,7 @@ overflow_sub-k : tie.Need-overflow_sub-k invariant-loop-k decreases-loop-k
 overflow_sub-k c = search rules
 
 overflow_mul-k : tie.Need-overflow_mul-k invariant-loop-k decreases-loop-k
-overflow_mul-k c = omega (arith, row_inside (fallen_limited c.requires c.loop-k.invariant.0.fallen) (omega (arith, c.loop-k-test.true, c.loop-k.invariant.1)))
+overflow_mul-k c = omega (arith, row_inside {k = c.loop-k.k - 1} (fallen_limited c.requires c.loop-k.invariant.0.fallen) (omega (arith, c.loop-k-test.true, c.loop-k.invariant.1)))
 
 slice_bounds-copy_cells-end : tie.Need-slice_bounds-copy_cells-end invariant-loop-k decreases-loop-k
 slice_bounds-copy_cells-end c = search rules
