@@ -1,14 +1,10 @@
 -- `distance::fill` meets its contract. The area is filled where both tests pass.
 -- Assumes nothing.
-use Prim.Native.Nat.{◌*◌, ◌≤◌}
-use mathlib.Core.Path.{◌≡◌, sym, ◌∙◌}
-use mathlib.Core.Bool.{true}
+use Prim.Native.Nat.{◌*◌}
+use mathlib.Core.Path.{sym, ◌∙◌}
 use mathlib.Core.Logic.{inl, inr}
 use native.Mathlib.Omega.{arith}
-use lib.ListN.{length}
 use borrow.Rule.Slice.PartMut.{mid_len}
-use borrow.Author.Tests.{not-true, not-false}
-use Rattle.metric.specs.Fit.{cells_fit, links_fit}
 use Rattle.metric.specs.Laws.Fit.{cells_give, links_give}
 use Rattle.distance.proofs.StoreLaws.{square_few}
 use Rattle.distance.proofs.AreaLaws.{area_left, area_found}

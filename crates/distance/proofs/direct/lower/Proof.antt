@@ -1,7 +1,6 @@
 -- `lower` stores the smaller of the cell and the cost.
 -- Assumes nothing.
 use Rattle.distance.proofs.DirectLaws.{place_in, lowered_cell}
-use Prim.Native.Nat.{◌-◌}
 use native.Mathlib.Omega.{arith}
 use borrow.Author.Rules.{rules}
 use Rattle.distance.proofs.direct.lower.Statement.{statement}

@@ -1,10 +1,10 @@
 -- `eliminate` has eliminated the routers from k on.
 -- Assumes nothing.
-use Rattle.distance.specs.Cells.{Limited, Eliminated}
+use Rattle.distance.specs.Cells.{Eliminated}
 use Rattle.distance.proofs.RowLaws.{row_inside}
 use Rattle.distance.proofs.EliminationLaws.{fallen_limited, eliminated_none, eliminated_more}
 use mathlib.Core.Path.{◌≡◌, refl, ◌∙◌}
-use Prim.Native.Nat.{◌+◌, ◌-◌, ◌*◌, ◌≤◌}
+use Prim.Native.Nat.{◌+◌, ◌-◌, ◌≤◌}
 use native.Mathlib.Omega.{arith}
 use lib.ListN.{length}
 use borrow.Author.Rules.{rules}

@@ -7,9 +7,8 @@ use Rattle.distance.proofs.StoreLaws.{next}
 use Rattle.distance.proofs.RowLaws.{row_inside, row_ready, rows_none, rows_more}
 use mathlib.Core.Path.{◌≡◌, sym, subst}
 use mathlib.Core.Logic.{inr}
-use Prim.Native.Nat.{ℕ, ◌+◌, ◌-◌, ◌*◌, ◌≤◌, ◌<◌}
+use Prim.Native.Nat.{ℕ, ◌-◌, ◌*◌, ◌≤◌, ◌<◌}
 use native.Mathlib.Omega.{arith}
-use lib.ListN.{length}
 use borrow.Author.Rules.{rules}
 use Rattle.distance.proofs.rows.lower_earlier.Statement.{statement}
 use Rattle.distance.proofs.rows.lower_earlier.Tie as tie

@@ -7,7 +7,6 @@ use Rattle.distance.proofs.RowLaws.{row_inside, row_ready, rows_more}
 use mathlib.Core.Path.{◌≡◌, refl, subst}
 use Prim.Native.Nat.{ℕ, ◌+◌, ◌-◌, ◌*◌, ◌≤◌, ◌<◌}
 use native.Mathlib.Omega.{arith}
-use lib.ListN.{length}
 use borrow.Author.Rules.{rules}
 use Rattle.distance.proofs.rows.lower_later.Statement.{statement}
 use Rattle.distance.proofs.rows.lower_later.Tie as tie

@@ -1,7 +1,6 @@
 -- Assumes nothing.
 use Rattle.distance.proofs.CloseLaws.{finished_small, finished_large}
 use mathlib.Core.Path.{sym}
-use Prim.Native.Nat.{◌-◌}
 use Rattle.distance.proofs.rows.shown.Statement.{statement}
 use Rattle.distance.proofs.rows.shown.Tie as tie
 

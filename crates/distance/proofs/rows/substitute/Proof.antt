@@ -1,11 +1,11 @@
 -- `substitute` has substituted the rows of the first k routers.
 -- Assumes nothing.
-use Rattle.distance.specs.Cells.{Limited, Substituted}
+use Rattle.distance.specs.Cells.{Substituted}
 use Rattle.distance.proofs.StoreLaws.{square_few}
 use Rattle.distance.proofs.RowLaws.{row_inside}
 use Rattle.distance.proofs.EliminationLaws.{fallen_limited, stored_copied, substituted_none, substituted_more}
 use mathlib.Core.Path.{◌≡◌, refl, ◌∙◌}
-use Prim.Native.Nat.{◌+◌, ◌-◌, ◌*◌, ◌≤◌}
+use Prim.Native.Nat.{◌-◌, ◌≤◌}
 use native.Mathlib.Omega.{arith}
 use lib.ListN.{length}
 use borrow.Author.Rules.{rules}
