@@ -109,3 +109,4 @@ linked_more from to out back k {n} {a} {b} {c} {d} ea eb ec ed first second (cap
     go (inl m) = capped.cost m
     go {e} (inr (Memᴰ.head p)) = let s : e ≡ c = cc in omega (arith, first.0)
     go {e} (inr (Memᴰ.tail (Memᴰ.head p))) = let s : e ≡ d = cc in omega (arith, second.0)
+    go {z = z} {e = e} {l = l} (inr (Memᴰ.tail (Memᴰ.tail x11))) = elim x11 [ ]
