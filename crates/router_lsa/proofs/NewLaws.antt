@@ -16,7 +16,7 @@ use Rattle.lfa.proofs.Laws.List.{every_gives, every_make}
 use Rattle.metric.proofs.Laws.List.{every_fails}
 use Rattle.ospf.specs.Lsa.{be32, router_field}
 use Rattle.ospf.specs.Run.{begin_of, lsa_bytes}
-use Rattle.ospf.proofs.Laws.Run.{Passed}
+use Rattle.ospf.specs.Run.{Passed}
 use Rattle.ospf.proofs.Laws.Reading.{router_read}
 use Rattle.router_lsa.specs.Scan.{new_router, new_among, AtHand}
 

@@ -8,7 +8,8 @@ use mathlib.Core.Logic.{⊎_elim}
 use native.Mathlib.Omega.{arith}
 use lib.ListN.{length, length-set}
 use Rattle.ospf.specs.Run.{begin_of}
-use Rattle.ospf.proofs.Laws.Run.{Passed, passed_none}
+use Rattle.ospf.proofs.Laws.Run.{passed_none}
+use Rattle.ospf.specs.Run.{Passed}
 use Rattle.ospf.proofs.Laws.Reading.{passed_fields, router_read}
 use Rattle.router_lsa.specs.Scan.{scanned, AtHand}
 use Rattle.router_lsa.proofs.RunLaws.{scan_bad, scan_good, scan_whole}
