@@ -22,10 +22,9 @@ link_found-requires c κs = search rules
 returns : tie.Need-returns
 unfolding link_by
 returns c =
-    let e = c.before.before.before.before.before.before.before.before.before.before.before.before in
-    let a = e.args in
-    let found = c.link_found.ensures ∙ ap (λ (q : Protected). link_if a.ranks.now (searchable a.t1.routers a.t1.links q (length a.dist.now)) a.t1.routers (hops_of a.t1) q a.dist.now) c.protect-protected.ensures in
-    rw (lt-ltb _ _ e.if-link-ge128.false) found
+    let a = c.args in
+    let found = c.link_found.ensures ∙ ap (λ (q : Protected). link_if a.ranks.now (searchable a.columns.routers a.columns.links q (length a.dist.now)) a.columns.routers (hops_of a.columns) q a.dist.now) c.protect-protected.ensures in
+    rw (lt-ltb _ _ c.if-link-ge128.false) found
 
 pub link_pair_spec : {M : Type 1} → statement M
 link_pair_spec = tie.close (tie.spec returns-then-link-ge128 protect-protected-requires link_found-requires returns)

@@ -50,19 +50,14 @@ prefix_found-requires c κs = search rules
 returns : tie.Need-returns
 unfolding prefix_by
 returns c =
-    let p = c.before.before.before.before.before.before.before in
-    let t = p.before.before.before.before.before.before in
-    let d = t.before.before.before in
-    let w = d.before.before.before.before in
-    let e = w.before.before in
-    let a = e.args in
+    let a = c.args in
     let found : Protected → List ℕ → ℕ → Outcome = λ q l ends.
-    prefix_if a.ranks.now (searchable a.t1.routers a.t1.links q (length a.dist.now)) a.t1.routers (hops_of (link_part a.t1)) q a.dist.now ends l
-    (onward_by_steps a.t1.routers a.t1.links a.t1.from a.t1.to a.t1.out a.t1.back q ends l) in
-    let target = d.towards_prefix-target.ensures ∙ ap (λ (k : ℕ). prefix_column a.t1.routers a.t1.at a.t1.own (8 * a.prefix) k a.dist.now) w.wide-count.ensures in
-    let ends = t.attached_routers-ends.ensures ∙ ap (λ (k : ℕ). attached_set a.t1.at (8 * a.prefix) k) w.wide-count.ensures in
-    rw (lt-ltb _ _ e.if-prefix-ge128.false, lt-ltb _ _ e.if-link-ge128.false)
-    (c.prefix_found.ensures ∙ ap₂ (λ (q : Protected) (l : List ℕ). found q l t.attached_routers-ends.result) p.protect-protected.ensures target ∙ ap (found _ _) ends)
+    prefix_if a.ranks.now (searchable a.network.routers a.network.links q (length a.dist.now)) a.network.routers (hops_of (link_part a.network)) q a.dist.now ends l
+    (onward_by_steps a.network.routers a.network.links a.network.from a.network.to a.network.out a.network.back q ends l) in
+    let target = c.towards_prefix-target.ensures ∙ ap (λ (k : ℕ). prefix_column a.network.routers a.network.at a.network.own (8 * a.prefix) k a.dist.now) c.wide-count.ensures in
+    let ends = c.attached_routers-ends.ensures ∙ ap (λ (k : ℕ). attached_set a.network.at (8 * a.prefix) k) c.wide-count.ensures in
+    rw (lt-ltb _ _ c.if-prefix-ge128.false, lt-ltb _ _ c.if-link-ge128.false)
+    (c.prefix_found.ensures ∙ ap₂ (λ (q : Protected) (l : List ℕ). found q l c.attached_routers-ends.result) c.protect-protected.ensures target ∙ ap (found _ _) ends)
 
 pub prefix_pair_spec : {M : Type 1} → statement M
 prefix_pair_spec =

@@ -23,10 +23,9 @@ space_of-requires c κs = search rules
 returns : tie.Need-returns
 unfolding space_by
 returns c =
-    let e = c.before.before.before.before.before.before.before.before.before.before.before.before in
-    let a = e.args in
-    let found = c.space_of.ensures ∙ ap (λ (q : Protected). space_if (searchable a.t2.routers a.t2.links q (length a.dist.now)) (space_named a.which) a.t2.routers (hops_of a.t2) q a.dist.now) c.protect-protected.ensures in
-    rw (lt-ltb _ _ e.if-link-ge128.false) found
+    let a = c.args in
+    let found = c.space_of.ensures ∙ ap (λ (q : Protected). space_if (searchable a.columns.routers a.columns.links q (length a.dist.now)) (space_named a.which) a.columns.routers (hops_of a.columns) q a.dist.now) c.protect-protected.ensures in
+    rw (lt-ltb _ _ c.if-link-ge128.false) found
 
 pub space_in_spec : {M : Type 1} → statement M
 space_in_spec = tie.close (tie.spec returns-then-link-ge128 protect-protected-requires space_of-requires returns)

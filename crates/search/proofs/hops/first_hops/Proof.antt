@@ -51,14 +51,13 @@ loop-k-smaller c = search rules
 
 loop-k-preserved : tie.Need-loop-k-preserved invariant-loop-k decreases-loop-k
 loop-k-preserved c =
-    let at-loop = c.before.before.before.before.before in
-    let a = at-loop.args in
-    let l = at-loop.loop-k in
+    let a = c.args in
+    let l = c.loop-k in
     let q = asked a.protected in
     let e : 2 * (l.k + 1) ≡ 2 * l.k + 1 + 1 = omega arith in
     let t = c.touches.ensures in (
       omega arith,
-      rw e (⊎_elim (λ w. rw (w.5, w.6) (arc_tried q a.from.now a.to.now a.out.now a.back.now (2 * l.k + 1) (arc_tried q a.from.now a.to.now a.out.now a.back.now (2 * l.k) l.invariant.1 w.2.ensures) w.4.ensures)) (λ w. rw (w.1, w.2) (link_passed q a.from.now a.to.now a.out.now a.back.now l.k (sym t ∙ w.if-touches.false) l.invariant.1)) c.if-touches.branch-raw),
+      rw e (⊎_elim (λ w. rw (w.arcs-is, w.count-is) (arc_tried q a.from.now a.to.now a.out.now a.back.now (2 * l.k + 1) (arc_tried q a.from.now a.to.now a.out.now a.back.now (2 * l.k) l.invariant.1 w.put_first-count.ensures) w.put_first-count-then-touches.ensures)) (λ w. rw (w.arcs-is, w.count-is) (link_passed q a.from.now a.to.now a.out.now a.back.now l.k (sym t ∙ w.if-touches.false) l.invariant.1)) c.if-touches.branch-raw),
     )
 
 returns : tie.Need-returns invariant-loop-k decreases-loop-k

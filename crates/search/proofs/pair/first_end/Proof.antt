@@ -35,9 +35,8 @@ loop-y-smaller c = search rules
 
 loop-y-preserved : tie.Need-loop-y-preserved invariant-loop-y decreases-loop-y
 loop-y-preserved c =
-    let at-loop = c.before.before.before in
-    let a = at-loop.args in
-    let l = at-loop.loop-y in
+    let a = c.args in
+    let l = c.loop-y in
     let t = c.may_end.ensures in (
       omega arith,
       λ ranks f e known.

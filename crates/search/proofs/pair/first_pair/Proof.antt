@@ -19,9 +19,8 @@ search-requires c κs = search rules
 returns : tie.Need-returns
 unfolding first_serving space_for
 returns c =
-    let hops = c.before.before.before.before.before in
     let a = c.args in
-    let firsts = listed_hops _ _ _ _ _ _ _ _ hops.first_hops-hops.ensures in
+    let firsts = listed_hops _ _ _ _ _ _ _ _ c.first_hops-hops.ensures in
     let extended = rw firsts at (c.reached-extended.ensures.all a.out.now a.back.now) in
     rw (extended, firsts) at c.search.ensures
 

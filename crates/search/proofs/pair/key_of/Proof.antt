@@ -34,13 +34,10 @@ overflow_cast-class c = search rules
 offset_bounds-keys-class : tie.Need-offset_bounds-keys-class
 offset_bounds-keys-class c = search rules
 
-class_below : (c : tie.After-class_of-class) → c.class_of-class.result-1 < 8
-class_below c =
+bounds-keys-class : tie.Need-bounds-keys-class
+bounds-keys-class c =
     let a = c.args in
     rw (c.class_of-class.ensures, bit_read a.protecting a.y) (class_small a.first a.y (get_or a.target.now a.y 0) (get_or a.target.now a.near 0) (has a.protecting a.y))
-
-bounds-keys-class : tie.Need-bounds-keys-class
-bounds-keys-class c = class_below c
 
 cell-requires : tie.Need-cell-requires
 cell-requires c κs = search rules
@@ -50,15 +47,15 @@ overflow_cast-result c = search rules
 
 overflow_add-result : tie.Need-overflow_add-result
 overflow_add-result c =
-    let class = c.before.before in
-    let fits = class.requires.2 class.class_of-class.result-1 (class_below class) in
-    omega (arith, c.cell.type-inv)
+    let a = c.args in
+    let small : c.class_of-class.result < 8 = rw (c.class_of-class.ensures, bit_read a.protecting a.y) (class_small a.first a.y (get_or a.target.now a.y 0) (get_or a.target.now a.near 0) (has a.protecting a.y)) in
+    let fits = c.requires.2 c.class_of-class.result small in
+    omega (arith, c.cell.type_inv)
 
 returns : tie.Need-returns
 returns c =
-    let class = c.before.before in
-    let a = class.args in
-    record { sum = rw (c.cell.ensures, class.class_of-class.ensures, bit_read a.protecting a.y); short = rw (← c.cell.ensures) c.cell.type-inv }
+    let a = c.args in
+    record { sum = rw (c.cell.ensures, c.class_of-class.ensures, bit_read a.protecting a.y); short = rw (← c.cell.ensures) c.cell.type_inv }
 
 pub key_of_spec : {M : Type 1} → statement M
 key_of_spec =

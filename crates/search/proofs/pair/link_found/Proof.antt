@@ -26,20 +26,17 @@ avoiding_to-requires c κs = search rules
 
 pair_found-requires : tie.Need-pair_found-requires
 pair_found-requires c κs =
-    let e = c.before.before.before.before.before in
-    let s = can_search _ _ _ _ (sym e.can_search.ensures ∙ e.if-not-can_search.false) in
+    let s = can_search _ _ _ _ (sym c.can_search.ensures ∙ c.if-not-can_search.false) in
     (s.0, s.1, s.3)
 
 returns : tie.Need-returns
 unfolding link_if link_for
 returns c =
-    let towards = c.before.before.before.before.before in
-    let e = towards.before in
-    let a = e.args in
-    let passes = sym e.can_search.ensures ∙ e.if-not-can_search.false in
+    let a = c.args in
+    let passes = sym c.can_search.ensures ∙ c.if-not-can_search.false in
     let found = c.pair_found.ensures
-    ∙ ap (λ (s : ℕ). pair_for a.ranks.now a.n (arcs_in a.from.now a.to.now a.out.now a.back.now a.links) (asked a.protected) a.dist.now towards.towards_router-target.result (record { avoiding = s; missing = 0 })) c.avoiding_to.ensures
-    ∙ ap (link_for a.ranks.now a.n (arcs_in a.from.now a.to.now a.out.now a.back.now a.links) (asked a.protected) a.dist.now) towards.towards_router-target.ensures in
+    ∙ ap (λ (s : ℕ). pair_for a.ranks.now a.n (arcs_in a.from.now a.to.now a.out.now a.back.now a.links) (asked a.protected) a.dist.now c.towards_router-target.result (record { avoiding = s; missing = 0 })) c.avoiding_to.ensures
+    ∙ ap (link_for a.ranks.now a.n (arcs_in a.from.now a.to.now a.out.now a.back.now a.links) (asked a.protected) a.dist.now) c.towards_router-target.ensures in
     rw passes found
 
 pub link_found_spec : {M : Type 1} → statement M

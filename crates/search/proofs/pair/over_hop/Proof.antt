@@ -12,9 +12,8 @@ use Rattle.search.proofs.pair.over_hop.Tie as tie
 
 first_end-y-requires : tie.Need-first_end-y-requires
 first_end-y-requires c κs =
-    let start = c.before.before in
-    let p = start.requires in
-    (p.0, p.1, keys_fit start.args.ranks.now start.args.keys.now p.2)
+    let p = c.requires in
+    (p.0, p.1, keys_fit c.args.ranks.now c.args.keys.now p.2)
 
 -- the endpoint that was found is that of the first of the pairs
 end_of : (c : tie.After-first_end-y) → let a = c.args in
@@ -33,9 +32,8 @@ earlier-requires c κs = search rules
 
 returns : tie.Need-returns
 returns c =
-    let end = c.before.before.before in
-    let found = earliest_in end.args.before in
-    c.earlier.ensures ∙ ap (earlier_of found) c.pair_of.ensures ∙ sym (first_one found _ _ ((end_of end).ends c.if-y-ge64.false))
+    let found = earliest_in c.args.before in
+    c.earlier.ensures ∙ ap (earlier_of found) c.pair_of.ensures ∙ sym (first_one found _ _ ((end_of c.before.before.before).ends c.if-y-ge64.false))
 
 pub over_hop_spec : {M : Type 1} → statement M
 over_hop_spec =

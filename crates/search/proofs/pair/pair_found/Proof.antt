@@ -27,10 +27,10 @@ unfolding pair_for
 outcome c = ap outcome_for c.first_pair-best.ensures
 
 returns-in_default : tie.Need-returns-in_default
-returns-in_default c = nothing_outcome c.first_pair-best.result c.in_default.keys2 (outcome c.before.before)
+returns-in_default c = nothing_outcome c.first_pair-best.result c.in_default.not-Found (outcome c.before.before)
 
 returns : tie.Need-returns
-returns c = pair_outcome c.best-1.given.1 (outcome c.before.before.before.before)
+returns c = pair_outcome c.in-Found.is (outcome c.before.before.before.before)
 
 pub pair_found_spec : {M : Type 1} → statement M
 pair_found_spec =

@@ -20,19 +20,15 @@ returns-then-not-can_search : tie.Need-returns-then-not-can_search
 unfolding prefix_if
 returns-then-not-can_search c = rw (sym c.can_search.ensures ∙ c.if-not-can_search.true)
 
--- the question is searched for
-passes : (c : tie.Else-not-can_search) → let a = c.args in searchable a.n a.links (asked a.protected) (length a.dist.now) ≡ true
-passes c = sym c.can_search.ensures ∙ c.if-not-can_search.false
-
 offset_bounds-target-near : tie.Need-offset_bounds-target-near
-offset_bounds-target-near c = omega (arith, (can_search _ _ _ _ (passes c)).1)
+offset_bounds-target-near c = omega (arith, (can_search _ _ _ _ (sym c.can_search.ensures ∙ c.if-not-can_search.false)).1)
 
 bounds-target-near : tie.Need-bounds-target-near
-bounds-target-near c = omega (arith, (can_search _ _ _ _ (passes c)).1)
+bounds-target-near c = omega (arith, (can_search _ _ _ _ (sym c.can_search.ensures ∙ c.if-not-can_search.false)).1)
 
 returns-then-target-near-ge-UNREACHABLE : tie.Need-returns-then-target-near-ge-UNREACHABLE
 unfolding prefix_if prefix_for
-returns-then-target-near-ge-UNREACHABLE c = rw (passes c.before.before, prefix_if, le-ltb _ _ c.if-target-near-ge-UNREACHABLE.true, prefix_for)
+returns-then-target-near-ge-UNREACHABLE c = rw (sym c.can_search.ensures ∙ c.if-not-can_search.false, prefix_if, le-ltb _ _ c.if-target-near-ge-UNREACHABLE.true, prefix_for)
 
 steps_over-requires : tie.Need-steps_over-requires
 steps_over-requires c κs = search rules
@@ -40,22 +36,19 @@ steps_over-requires c κs = search rules
 returns-then-not-steps_over : tie.Need-returns-then-not-steps_over
 unfolding prefix_if prefix_for
 returns-then-not-steps_over c =
-    let e = c.before.before in
-    rw (passes e.before.before, prefix_if, lt-ltb _ _ e.if-target-near-ge-UNREACHABLE.false, prefix_for, sym c.steps_over.ensures ∙ c.if-not-steps_over.true)
+    rw (sym c.can_search.ensures ∙ c.if-not-can_search.false, prefix_if, lt-ltb _ _ c.if-target-near-ge-UNREACHABLE.false, prefix_for, sym c.steps_over.ensures ∙ c.if-not-steps_over.true)
 
 onward_by_steps-onward-requires : tie.Need-onward_by_steps-onward-requires
 onward_by_steps-onward-requires c κs = search rules
 
 pair_found-requires : tie.Need-pair_found-requires
-pair_found-requires c κs = let s = can_search _ _ _ _ (passes c.before.before.before.before.before) in (s.0, s.1, s.3)
+pair_found-requires c κs = let s = can_search _ _ _ _ (sym c.can_search.ensures ∙ c.if-not-can_search.false) in (s.0, s.1, s.3)
 
 returns : tie.Need-returns
 unfolding prefix_if prefix_for
 returns c =
-    let m = c.before.before.before in
-    let e = m.before in
-    let a = e.args in
-    rw (passes e.before.before, prefix_if, lt-ltb _ _ e.if-target-near-ge-UNREACHABLE.false, prefix_for, sym m.steps_over.ensures ∙ c.if-not-steps_over.false)
+    let a = c.args in
+    rw (sym c.can_search.ensures ∙ c.if-not-can_search.false, prefix_if, lt-ltb _ _ c.if-target-near-ge-UNREACHABLE.false, prefix_for, sym c.steps_over.ensures ∙ c.if-not-steps_over.false)
     (c.pair_found.ensures ∙ ap (pair_for a.ranks.now a.n (arcs_in a.from.now a.to.now a.out.now a.back.now a.links) (asked a.protected) a.dist.now a.target.now) c.onward_by_steps-onward.ensures)
 
 pub prefix_found_spec : {M : Type 1} → statement M

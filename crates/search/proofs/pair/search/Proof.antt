@@ -42,9 +42,8 @@ protecting_from-protecting-requires c κs = search rules
 
 over_hop-best-requires : tie.Need-over_hop-best-requires invariant-loop-i decreases-loop-i
 over_hop-best-requires c κs =
-    let keys = c.before.before.before.before.before.before.before.before in
-    let p = keys.requires in
-    (p.0, p.1, keys.rank_keys-keys.ensures)
+    let p = c.requires in
+    (p.0, p.1, c.rank_keys-keys.ensures)
 
 overflow_add-i : tie.Need-overflow_add-i invariant-loop-i decreases-loop-i
 overflow_add-i c = search rules
@@ -54,21 +53,18 @@ loop-i-smaller c = search rules
 
 loop-i-preserved : tie.Need-loop-i-preserved invariant-loop-i decreases-loop-i
 loop-i-preserved c =
-    let hop = c.before.before.before.before.before in
-    let at-loop = hop.before.before.before in
-    let start = at-loop.before.before.before.before in
-    let a = start.args in (
+    let a = c.args in (
       omega arith,
-      hop_tried a.ranks.now a.n (asked a.protected) a.dist.now a.target.now a.kept a.from.now a.to.now a.out.now a.back.now a.t10.arcs at-loop.loop-i.i
-          at-loop.loop-i.invariant.1 hop.hop_of-hop.ensures (start.requires.3 at-loop.loop-i.i (omega arith)) c.protecting_from-protecting.ensures c.over_hop-best.ensures,
+      hop_tried a.ranks.now a.n (asked a.protected) a.dist.now a.target.now a.kept a.from.now a.to.now a.out.now a.back.now a.hops.arcs c.loop-i.i
+          c.loop-i.invariant.1 c.hop_of-hop.ensures (c.requires.3 c.loop-i.i (omega arith)) c.protecting_from-protecting.ensures c.over_hop-best.ensures,
     )
 
 returns : tie.Need-returns invariant-loop-i decreases-loop-i
 returns c =
     let a = c.args in
-    let e : c.loop-i.i ≡ a.t10.count = omega arith in
+    let e : c.loop-i.i ≡ a.hops.count = omega arith in
     c.loop-i.invariant.1
-    ∙ ap (λ (k : ℕ). first_of none (pairs_tried a.ranks.now a.n (asked a.protected) a.dist.now a.target.now a.kept (hops_in a.from.now a.to.now a.out.now a.back.now k a.t10.arcs))) e
+    ∙ ap (λ (k : ℕ). first_of none (pairs_tried a.ranks.now a.n (asked a.protected) a.dist.now a.target.now a.kept (hops_in a.from.now a.to.now a.out.now a.back.now k a.hops.arcs))) e
 
 pub search_spec : {M : Type 1} → statement M
 search_spec =

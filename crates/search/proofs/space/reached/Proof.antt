@@ -43,18 +43,17 @@ loop-i-smaller c = search rules
 
 loop-i-preserved : tie.Need-loop-i-preserved invariant-loop-i decreases-loop-i
 loop-i-preserved c =
-    let at-loop = c.before.before.before.before in
-    let a = at-loop.args in
-    let l = at-loop.loop-i in (
+    let a = c.args in
+    let l = c.loop-i in (
       omega arith,
       simp length-set l.invariant.1,
-      hop_reached a.n (asked a.protected) a.dist.now a.from.now a.to.now a.t6.arcs l.i c.head_of-hop.ensures c.avoiding_from_lem.ensures l.sets (omega arith) l.invariant.2,
+      hop_reached a.n (asked a.protected) a.dist.now a.from.now a.to.now a.hops.arcs l.i c.head_of-hop.ensures c.avoiding_from-one.ensures l.sets (omega arith) l.invariant.2,
     )
 
 returns : tie.Need-returns invariant-loop-i decreases-loop-i
 returns c =
     let a = c.args in
-    let e : c.loop-i.i ≡ a.t6.count = omega arith in
+    let e : c.loop-i.i ≡ a.hops.count = omega arith in
     rw e at c.loop-i.invariant.2
 
 pub reached_spec : {M : Type 1} → statement M

@@ -25,10 +25,6 @@ searched : {passes : Bool} {set : ℕ} (s : Space) (n : ℕ) (hops : List Arc) (
 unfolding space_if
 searched s n hops q area e f = rw (e, space_if) f
 
--- it is
-passes : (c : tie.Else-not-can_search) → let a = c.args in searchable a.n a.links (asked a.protected) (length a.dist.now) ≡ true
-passes c = sym c.can_search.ensures ∙ c.if-not-can_search.false
-
 returns-then-not-can_search : tie.Need-returns-then-not-can_search
 unfolding space_if
 returns-then-not-can_search c = rw (sym c.can_search.ensures ∙ c.if-not-can_search.true)
@@ -44,7 +40,7 @@ enum_told-in-ExtendedP c = search rules
 
 first_hops-requires : tie.Need-first_hops-requires
 first_hops-requires c κs =
-    (can_search _ _ _ _ (passes c.before.before)).3
+    (can_search _ _ _ _ (sym c.can_search.ensures ∙ c.if-not-can_search.false)).3
 
 extended_p-requires : tie.Need-extended_p-requires
 extended_p-requires c κs = c.first_hops.ensures.few
@@ -57,17 +53,17 @@ q_space-requires c κs = search rules
 
 returns-in-P : tie.Need-returns-in-P
 unfolding space_for
-returns-in-P c = rw c.in-P.is (searched p_space _ _ _ _ (passes c.before.before.before) c.avoiding_from.ensures)
+returns-in-P c = rw c.in-P.is (searched p_space _ _ _ _ (sym c.can_search.ensures ∙ c.if-not-can_search.false) c.avoiding_from.ensures)
 
 returns-in-ExtendedP : tie.Need-returns-in-ExtendedP
 unfolding space_for
 returns-in-ExtendedP c =
     let firsts = listed_hops _ _ _ _ _ _ _ _ c.first_hops.ensures in
-    rw c.in-ExtendedP.is (searched extended_p _ _ _ _ (passes c.before.before.before.before) (rw (← firsts) (c.extended_p.ensures _ _)))
+    rw c.in-ExtendedP.is (searched extended_p _ _ _ _ (sym c.can_search.ensures ∙ c.if-not-can_search.false) (rw (← firsts) (c.extended_p.ensures _ _)))
 
 returns-in-Q : tie.Need-returns-in-Q
 unfolding space_for
-returns-in-Q c = rw c.in-Q.is (searched q_space _ _ _ _ (passes c.before.before.before) c.q_space.ensures)
+returns-in-Q c = rw c.in-Q.is (searched q_space _ _ _ _ (sym c.can_search.ensures ∙ c.if-not-can_search.false) c.q_space.ensures)
 
 pub space_of_spec : {M : Type 1} → statement M
 space_of_spec =
