@@ -30,9 +30,9 @@ use Rattle.search.proofs.HopLaws.{hops_more}
 -- ---- the pair that was found
 
 -- what was found, passed on
-pub nothing_outcome : {o : Outcome} (r : Earliest) → OneOf (0 ∷ []) (tag_of the_type r) → outcome_for (earliest_in r) ≡ o → none_serves ≡ o
+pub nothing_outcome : {o : Outcome} (r : Earliest) → ((p : Ordered) → r ≡ Found p → ⊥) → outcome_for (earliest_in r) ≡ o → none_serves ≡ o
 nothing_outcome Nothing t e = e
-nothing_outcome (Found p) t e = absurd (eqb-false 1 0 refl t)
+nothing_outcome (Found p) t e = absurd (t p refl)
 
 pub pair_outcome : {o : Outcome} {r : Earliest} {p : Ordered} → r ≡ Found p → outcome_for (earliest_in r) ≡ o → serving (told_in p.pair) ≡ o
 pair_outcome e f = rw e at f

@@ -42,11 +42,11 @@ loop-y-preserved c =
       λ ranks f e known.
           let before = l.invariant.1 ranks f e known in
           ⊎_elim
-          (λ w. rw (w.3, w.4) (end_taken ranks a.n a.dist.now a.near a.far a.target.now f a.protecting a.endpoints a.keys.now l.y known (sym t ∙ w.0.taken) (rw (← e) at w.1.ensures) w.2.taken before))
+          (λ w. rw (w.best-is, w.least-is) (end_taken ranks a.n a.dist.now a.near a.far a.target.now f a.protecting a.endpoints a.keys.now l.y known (sym t ∙ w.if-may_end.true) (rw (← e) at w.key_of-key.ensures) w.if-key-least.true before))
           (⊎_elim
-          (λ w. rw (w.3, w.4) (end_kept ranks a.n a.dist.now a.near a.far a.target.now f a.protecting a.endpoints a.keys.now l.y known (sym t ∙ w.0.taken) (rw (← e) at w.1.ensures) w.2.left before))
-          (λ w. rw (w.1, w.2) (end_passed ranks a.n a.dist.now a.near a.far a.target.now f a.protecting a.endpoints l.y (sym t ∙ w.0.left) before)))
-          c.if-may_end.branch,
+          (λ w. rw (w.best-is, w.least-is) (end_kept ranks a.n a.dist.now a.near a.far a.target.now f a.protecting a.endpoints a.keys.now l.y known (sym t ∙ w.if-may_end.true) (rw (← e) at w.key_of-key.ensures) w.if-key-least.false before))
+          (λ w. rw (w.best-is, w.least-is) (end_passed ranks a.n a.dist.now a.near a.far a.target.now f a.protecting a.endpoints l.y (sym t ∙ w.if-may_end.false) before)))
+          c.if-may_end.branch-raw,
     )
 
 returns : tie.Need-returns invariant-loop-y decreases-loop-y

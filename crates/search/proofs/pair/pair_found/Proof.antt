@@ -20,17 +20,13 @@ enum_known-best c = search rules
 enum_told-1 : tie.Need-enum_told-1
 enum_told-1 c = search rules
 
--- what the first pair tells
-outcome : (c : tie.After-first_pair-best) → let a = c.args in
-    outcome_for (earliest_in c.first_pair-best.result) ≡ pair_for a.ranks.now a.n (arcs_in a.from.now a.to.now a.out.now a.back.now a.links) (asked a.protected) a.dist.now a.target.now a.onward
-unfolding pair_for
-outcome c = ap outcome_for c.first_pair-best.ensures
-
 returns-in_default : tie.Need-returns-in_default
-returns-in_default c = nothing_outcome c.first_pair-best.result c.in_default.not-Found (outcome c.before.before)
+unfolding pair_for
+returns-in_default c = nothing_outcome c.first_pair-best.result c.in_default.not-Found (ap outcome_for c.first_pair-best.ensures)
 
 returns : tie.Need-returns
-returns c = pair_outcome c.in-Found.is (outcome c.before.before.before.before)
+unfolding pair_for
+returns c = pair_outcome c.in-Found.is (ap outcome_for c.first_pair-best.ensures)
 
 pub pair_found_spec : {M : Type 1} → statement M
 pair_found_spec =
