@@ -8,9 +8,6 @@ use lib.ListN.{get_or}
 use lib.Bits.{bit_and, and_mask, and_le_r}
 use lib.Dec.{eqb}
 use native.Mathlib.Omega.{arith}
-use types.Run.{OneOf}
-use denote.Enum.Declared.{tag_of}
-use borrow.Author.Tests.{eqb-false}
 use Rattle.lfa.specs.Lists.{count_up, below, flat}
 use Rattle.lfa.specs.Space.{Protected, FirstHop, has}
 use Rattle.lfa.specs.Repair.{Outcome, none_serves, serving}
@@ -18,7 +15,6 @@ use Rattle.order.specs.declared.Ordered.{Ordered}
 use Rattle.order.specs.declared.Earliest.{Earliest}
 use Rattle.order.specs.declared.Earliest.TheVariants.{Nothing, Found}
 use Rattle.order.specs.Order.{told_in, earliest_in, earlier_of}
-use Rattle.order.specs.contracts.Earliest.{the_type}
 use Rattle.steps.specs.declared.Onward.{Onward}
 use Rattle.arcs.specs.Arcs.{side_of, hop_by}
 use Rattle.search.specs.Hops.{hops_in}

@@ -2,7 +2,6 @@
 -- Assumes nothing.
 use mathlib.Core.Path.{sym, ◌∙◌}
 use native.Mathlib.Omega.{arith}
-use borrow.Author.Tests.{not-true, not-false}
 use Rattle.search.proofs.HopLaws.{first_put, other_left}
 use borrow.Author.Rules.{rules}
 use Rattle.search.proofs.hops.put_first.Statement.{statement}

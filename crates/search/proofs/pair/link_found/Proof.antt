@@ -2,7 +2,6 @@
 -- Assumes nothing.
 use mathlib.Core.Path.{sym, ap, ◌∙◌}
 use Prim.Native.Nat.{ℕ}
-use borrow.Author.Tests.{not-true, not-false}
 use Rattle.metric.specs.Columns.{arcs_in}
 use Rattle.avoid.specs.Avoiding.{asked}
 use Rattle.search.specs.Calls.{pair_for, link_for, link_if}

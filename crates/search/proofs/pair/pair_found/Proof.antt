@@ -1,9 +1,6 @@
 -- `search::pair::pair_found` meets its contract. What only orders the pair is left out.
 -- Assumes nothing.
-use mathlib.Core.Path.{◌≡◌, ap}
-use Rattle.metric.specs.Columns.{arcs_in}
-use Rattle.order.specs.Order.{earliest_in}
-use Rattle.avoid.specs.Avoiding.{asked}
+use mathlib.Core.Path.{ap}
 use Rattle.search.specs.Choice.{outcome_for}
 use Rattle.search.specs.Calls.{pair_for}
 use Rattle.search.proofs.ChoiceLaws.{nothing_outcome, pair_outcome}

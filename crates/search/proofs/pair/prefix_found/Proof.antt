@@ -1,13 +1,11 @@
 -- `search::pair::prefix_found` meets its contract. Unreachable, untouched, or the pair that serves.
 -- Assumes nothing.
-use mathlib.Core.Path.{◌≡◌, sym, ap, ◌∙◌}
-use mathlib.Core.Bool.{true}
+use mathlib.Core.Path.{sym, ap, ◌∙◌}
 use native.Mathlib.Omega.{arith}
-use borrow.Author.Tests.{not-true, not-false, lt-ltb, le-ltb}
+use borrow.Author.Tests.{lt-ltb, le-ltb}
 use Rattle.avoid.specs.Avoiding.{asked}
-use lib.ListN.{length}
 use Rattle.metric.specs.Columns.{arcs_in}
-use Rattle.search.specs.Calls.{searchable, pair_for, prefix_if, prefix_for}
+use Rattle.search.specs.Calls.{pair_for, prefix_if, prefix_for}
 use Rattle.search.proofs.SpaceLaws.{can_search}
 use borrow.Author.Rules.{rules}
 use Rattle.search.proofs.pair.prefix_found.Statement.{statement}

@@ -4,13 +4,10 @@ use mathlib.Core.Path.{◌≡◌, sym, ◌∙◌}
 use Prim.Native.Nat.{ℕ}
 use mathlib.Core.Bool.{Bool, true}
 use mathlib.Core.List.{List}
-use lib.ListN.{length}
 use Rattle.lfa.specs.Network.{Arc}
 use Rattle.lfa.specs.Space.{Protected, Space, p_space, extended_p, q_space}
-use Rattle.avoid.specs.Avoiding.{asked}
-use borrow.Author.Tests.{not-true, not-false}
 use Rattle.search.specs.Spaces.{space_for}
-use Rattle.search.specs.Calls.{searchable, space_if}
+use Rattle.search.specs.Calls.{space_if}
 use Rattle.search.proofs.HopLaws.{listed_hops}
 use Rattle.search.proofs.SpaceLaws.{can_search}
 use borrow.Author.Rules.{rules}
