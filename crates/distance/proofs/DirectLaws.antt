@@ -19,8 +19,8 @@ use Rattle.lfa.proofs.Laws.Test.{and_left, and_right, and_make}
 use Rattle.lfa.proofs.Laws.Hop.{least_most}
 use Rattle.metric.specs.Area.{area_cell}
 use Rattle.metric.specs.Columns.{links_in, arcs_in}
-use Rattle.metric.specs.Laws.List.{map_below_more}
-use Rattle.metric.specs.Laws.Columns.{arcs_in_more}
+use Rattle.metric.proofs.Laws.List.{map_below_more}
+use Rattle.metric.proofs.Laws.Columns.{arcs_in_more}
 use Rattle.distance.specs.Cells.{limit, Cells, Limited, Stored, cheapest, self_loops, Lowered, CostsCapped}
 use Rattle.distance.proofs.StoreLaws.{square_few, one_place}
 
@@ -109,3 +109,4 @@ linked_more from to out back k {n} {a} {b} {c} {d} ea eb ec ed first second (cap
     go (inl m) = capped.cost m
     go {e} (inr (Memᴰ.head p)) = let s : e ≡ c = cc in omega (arith, first.0)
     go {e} (inr (Memᴰ.tail (Memᴰ.head p))) = let s : e ≡ d = cc in omega (arith, second.0)
+    go {z = z} {e = e} {l = l} (inr (Memᴰ.tail (Memᴰ.tail x11))) = elim x11 [ ]

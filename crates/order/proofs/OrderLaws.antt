@@ -42,10 +42,10 @@ later_last x y = go (ltb x y) refl (eqb x y) refl
 
 -- ---- the earlier of what was found and one more
 
-pub nothing_found : (r : Earliest) (o : Ordered) → OneOf (0 ∷ []) (tag_of the_type r) → some o ≡ earlier_of (earliest_in r) o
+pub nothing_found : (r : Earliest) (o : Ordered) → ((p : Ordered) → r ≡ Found p → ⊥) → some o ≡ earlier_of (earliest_in r) o
 unfolding earlier_of
 nothing_found Nothing o t = refl
-nothing_found (Found p) o t = absurd (eqb-false 1 0 refl t)
+nothing_found (Found p) o t = absurd (t p refl)
 
 pub found_stays : {r : Earliest} {p : Ordered} {b : Bool} (q : Ordered) → r ≡ Found p → b ≡ no_later (keys_in p) (keys_in q) → b ≡ true → some p ≡ earlier_of (earliest_in r) q
 unfolding earlier_of

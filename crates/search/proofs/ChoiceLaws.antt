@@ -24,7 +24,7 @@ use Rattle.arcs.specs.Arcs.{side_of, hop_by}
 use Rattle.search.specs.Hops.{hops_in}
 use Rattle.search.specs.Spaces.{avoided_from}
 use Rattle.search.specs.Choice.{outcome_for, first_of, hop_pairs, protecting_from, pairs_over, pairs_tried}
-use Rattle.metric.specs.Laws.Select.{flat_append}
+use Rattle.metric.proofs.Laws.Select.{flat_append}
 use Rattle.search.proofs.HopLaws.{hops_more}
 
 -- ---- the pair that was found

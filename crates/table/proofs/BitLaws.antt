@@ -10,10 +10,9 @@ use native.Mathlib.Decide.{ℕ_discrete}
 use lib.Bits.{bit_and, bit_or, and_step, or_step, and_block, or_block, and_le_r, and_self, and_zero_l, or_zero_r}
 use lib.Count.{count_trailing_zeros, under}
 use lib.Pow.{pow_pos}
-use lib.ListN.{set}
 use Rattle.lfa.specs.Space.{has}
 use Rattle.lfa.proofs.Laws.Test.{or_cases, or_left, or_right}
-use Rattle.metric.specs.Laws.Set.{has_or, has_self, has_other}
+use Rattle.metric.proofs.Laws.Set.{has_or, has_self, has_other}
 
 -- the zeros below the lowest bit, and an odd number above them
 lowest : (k n : ℕ) → 0 < n → n < 2 ^ k → (count_trailing_zeros k n < k) × ((q : ℕ) × (n ≡ (2 * q + 1) * 2 ^ count_trailing_zeros k n))

@@ -6,30 +6,30 @@ use borrow.Author.Rules.{rules}
 use Rattle.arcs.proofs.leaves.Statement.{statement}
 use Rattle.arcs.proofs.leaves.Tie as tie
 
-head-of-requires : tie.Need-head-of-requires
-head-of-requires c κs = search rules
+head_of-requires : tie.Need-head_of-requires
+head_of-requires c κs = search rules
+
+returns-then-head_of-protected : tie.Need-returns-then-head_of-protected
+returns-then-head_of-protected c = sym (other_start _ _ _ _ _ _ c.head_of.ensures c.if-head_of-protected.true)
+
+head_of-requires-2 : tie.Need-head_of-requires-2
+head_of-requires-2 c κs = search rules
+
+returns-then-head_of-protected-2 : tie.Need-returns-then-head_of-protected-2
+returns-then-head_of-protected-2 c =
+    let e = c.before.before.before in
+    sym (leads_far _ _ _ _ _ _ e.head_of.ensures e.if-head_of-protected.false c.head_of-2.ensures c.if-head_of-protected-2.true)
+
+price_of-requires : tie.Need-price_of-requires
+price_of-requires c κs = search rules
 
 returns : tie.Need-returns
-returns c = sym (other_start _ _ _ _ _ _ c.before.before.head_of.ensures c.if1.true)
-
-head-of-requires-2 : tie.Need-head-of-requires-2
-head-of-requires-2 c κs = search rules
-
-returns-2 : tie.Need-returns-2
-returns-2 c =
-    let e = c.before.before.before in
-    sym (leads_far _ _ _ _ _ _ e.before.before.head_of.ensures e.if1.false c.before.before.head-of2.ensures c.if2.true)
-
-price-of-requires : tie.Need-price-of-requires
-price-of-requires c κs = search rules
-
-returns-3 : tie.Need-returns-3
-returns-3 c =
+returns c =
     let far = c.before in
     let e = far.before.before.before in
-    sym (in_service _ _ _ _ _ _ e.before.before.head_of.ensures e.if1.false far.before.before.head-of2.ensures far.if2.false c.price-of.ensures)
+    sym (in_service _ _ _ _ _ _ e.head_of.ensures e.if-head_of-protected.false far.head_of-2.ensures far.if-head_of-protected-2.false c.price_of.ensures)
 
 pub leaves_spec : {M : Type 1} → statement M
 leaves_spec =
     tie.close
-    (tie.spec head-of-requires returns head-of-requires-2 returns-2 price-of-requires returns-3)
+    (tie.spec head_of-requires returns-then-head_of-protected head_of-requires-2 returns-then-head_of-protected-2 price_of-requires returns)

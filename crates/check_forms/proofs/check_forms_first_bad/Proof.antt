@@ -2,7 +2,7 @@
 -- Assumes nothing.
 use Rattle.std.proofs.Common.{◌-◌, sym, ◌∙◌, arith, rules}
 use Rattle.lfa.specs.File.{blocks_in, check_good}
-use Rattle.metric.specs.Laws.List.{every_more}
+use Rattle.metric.proofs.Laws.List.{every_more}
 use Rattle.check_forms.specs.FirstBad.{Passed, bad_found, all_passed}
 use Rattle.check_forms.proofs.check_forms_first_bad.Statement.{statement}
 use Rattle.check_forms.proofs.check_forms_first_bad.Tie as tie

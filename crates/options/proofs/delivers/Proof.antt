@@ -11,22 +11,22 @@ use Rattle.options.specs.Options.{delivers_by}
 use Rattle.options.proofs.delivers.Statement.{statement}
 use Rattle.options.proofs.delivers.Tie as tie
 
-mul-if1 : tie.Need-overflow-mul-if1
-mul-if1 c = search rules
+offset_bounds-target-x : tie.Need-offset_bounds-target-x
+offset_bounds-target-x c = search rules
 
-element-copy-out-if1 : tie.Need-element-copy-out-if1
-element-copy-out-if1 c = search rules
+bounds-target-x : tie.Need-bounds-target-x
+bounds-target-x c = search rules
+
+returns-then-target-x-ge-UNREACHABLE : tie.Need-returns-then-target-x-ge-UNREACHABLE
+unfolding delivers_by
+returns-then-target-x-ge-UNREACHABLE c = rw (le-ltb _ _ c.if-target-x-ge-UNREACHABLE.true)
+
+overflow_shr-result : tie.Need-overflow_shr-result
+overflow_shr-result c = search rules
 
 returns : tie.Need-returns
-unfolding delivers_by
-returns c = rw (le-ltb _ _ c.if1.true)
-
-shr-result : tie.Need-overflow-shr-result
-shr-result c = search rules
-
-returns-2 : tie.Need-returns-2
 unfolding delivers_by has
-returns-2 c = rw (lt-ltb _ _ c.if1.false) (ap (λ (k : ℕ). eqb k 1) (and_mask (c.before.before.args.ends / 2 ^ c.before.before.args.x) 1))
+returns c = rw (lt-ltb _ _ c.if-target-x-ge-UNREACHABLE.false) (ap (λ (k : ℕ). eqb k 1) (and_mask (c.args.ends / 2 ^ c.args.x) 1))
 
 pub delivers_spec : {M : Type 1} → statement M
-delivers_spec = tie.close (tie.spec mul-if1 element-copy-out-if1 returns shr-result returns-2)
+delivers_spec = tie.close (tie.spec offset_bounds-target-x bounds-target-x returns-then-target-x-ge-UNREACHABLE overflow_shr-result returns)

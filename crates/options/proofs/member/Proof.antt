@@ -11,52 +11,52 @@ use Rattle.options.proofs.MemberLaws.{from, from_all, member_found, member_passe
 use Rattle.options.proofs.member.Statement.{statement}
 use Rattle.options.proofs.member.Tie as tie
 
-abbrev invariant-loop : tie.invariant-loop
-invariant-loop set k left₀ r₀ left r = (r ≤ 64) × (get_or (from set r) left 0 ≡ get_or (members_of set) k 0)
+abbrev invariant-loop-r : tie.invariant-loop-r
+invariant-loop-r set k left₀ r₀ left r = (r ≤ 64) × (get_or (from set r) left 0 ≡ get_or (members_of set) k 0)
 
-abbrev decreases-loop : tie.decreases-loop
-decreases-loop set k left₀ r₀ left r = 64 - r
+abbrev decreases-loop-r : tie.decreases-loop-r
+decreases-loop-r set k left₀ r₀ left r = 64 - r
 
-loop-holds : tie.Need-loop-init invariant-loop decreases-loop
-loop-holds c = (omega arith, rw (from_all c.args.set))
+loop-r-init : tie.Need-loop-r-init invariant-loop-r decreases-loop-r
+loop-r-init c = (omega arith, rw (from_all c.args.set))
 
-shr-if1 : tie.Need-overflow-shr-if1 invariant-loop decreases-loop
-shr-if1 c = search rules
+overflow_shr-set : tie.Need-overflow_shr-set invariant-loop-r decreases-loop-r
+overflow_shr-set c = search rules
 
-returns : tie.Need-returns invariant-loop decreases-loop
-returns c = member_found _ _ c.before.before.loop-test.true _ c.before.before.before.loop.invariant.1 c.before.if1.true c.if2.true
+returns-then-left-eq0 : tie.Need-returns-then-left-eq0 invariant-loop-r decreases-loop-r
+returns-then-left-eq0 c = member_found _ _ c.loop-r-test.true _ c.loop-r.invariant.1 c.if-set-r-eq1.true c.if-left-eq0.true
 
-sub-left : tie.Need-overflow-sub-left invariant-loop decreases-loop
-sub-left c = search rules
+overflow_sub-left : tie.Need-overflow_sub-left invariant-loop-r decreases-loop-r
+overflow_sub-left c = search rules
 
-add_r : tie.Need-overflow-add-r invariant-loop decreases-loop
-add_r c = search rules
+overflow_add-r : tie.Need-overflow_add-r invariant-loop-r decreases-loop-r
+overflow_add-r c = search rules
 
-loop-less : tie.Need-loop-smaller invariant-loop decreases-loop
-loop-less c = search rules
+loop-r-smaller : tie.Need-loop-r-smaller invariant-loop-r decreases-loop-r
+loop-r-smaller c = search rules
 
-loop-again : tie.Need-loop-preserved invariant-loop decreases-loop
-loop-again c =
+loop-r-preserved : tie.Need-loop-r-preserved invariant-loop-r decreases-loop-r
+loop-r-preserved c =
     let at-loop = c.before.before in (
       omega arith,
-      ⊎_elim (λ w. rw w.2 (member_passed _ _ c.before.loop-test.true _ at-loop.loop.invariant.1 w.0.taken w.1.left))
-          (λ w. rw w.1 (member_other _ _ c.before.loop-test.true _ at-loop.loop.invariant.1 w.0.left)) c.if1.branch,
+      ⊎_elim (λ w. rw w.left-is (member_passed _ _ c.loop-r-test.true _ at-loop.loop-r.invariant.1 w.if-set-r-eq1.true w.if-left-eq0.false))
+          (λ w. rw w.left-is (member_other _ _ c.loop-r-test.true _ at-loop.loop-r.invariant.1 w.if-set-r-eq1.false)) c.if-set-r-eq1.branch-raw,
     )
 
-returns-2 : tie.Need-returns-2 invariant-loop decreases-loop
-returns-2 c = member_none _ _ (omega arith) c.before.loop.invariant.1
+returns : tie.Need-returns invariant-loop-r decreases-loop-r
+returns c = member_none _ _ (omega arith) c.loop-r.invariant.1
 
 pub member_spec : {M : Type 1} → statement M
 member_spec =
     tie.close
     (tie.spec
-    invariant-loop
-    decreases-loop
-    loop-holds
-    shr-if1
-    returns
-    sub-left
-    add_r
-    loop-less
-    loop-again
-    returns-2)
+    invariant-loop-r
+    decreases-loop-r
+    loop-r-init
+    overflow_shr-set
+    returns-then-left-eq0
+    overflow_sub-left
+    overflow_add-r
+    loop-r-smaller
+    loop-r-preserved
+    returns)

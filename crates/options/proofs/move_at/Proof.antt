@@ -7,18 +7,18 @@ use Rattle.options.proofs.MoveLaws.{move_none, move_taken}
 use Rattle.options.proofs.move_at.Statement.{statement}
 use Rattle.options.proofs.move_at.Tie as tie
 
-returns : tie.Need-returns
+returns-then-x-ge64 : tie.Need-returns-then-x-ge64
 unfolding move_in
-returns c = move_none _ _ _ _ _ (omega arith)
+returns-then-x-ge64 c = move_none _ _ _ _ _ (omega arith)
 
-delivers-requires : tie.Need-delivers-requires
-delivers-requires c κs = search rules
+delivers-deliver-requires : tie.Need-delivers-deliver-requires
+delivers-deliver-requires c κs = search rules
 
-option-taken-requires : tie.Need-option-taken-requires
-option-taken-requires c κs = search rules
+option_taken-requires : tie.Need-option_taken-requires
+option_taken-requires c κs = search rules
 
-returns-2 : tie.Need-returns-2
-returns-2 c = move_taken _ _ _ _ _ (omega arith) c.before.delivers.ensures c.option-taken.ensures
+returns : tie.Need-returns
+returns c = move_taken _ _ _ _ _ (omega arith) c.delivers-deliver.ensures c.option_taken.ensures
 
 pub move_at_spec : {M : Type 1} → statement M
-move_at_spec = tie.close (tie.spec returns delivers-requires option-taken-requires returns-2)
+move_at_spec = tie.close (tie.spec returns-then-x-ge64 delivers-deliver-requires option_taken-requires returns)

@@ -13,76 +13,76 @@ use Rattle.options.proofs.MoveLaws.{taken_none, taken_step, taken_delivery, take
 use Rattle.options.proofs.option_taken.Statement.{statement}
 use Rattle.options.proofs.option_taken.Tie as tie
 
-cast-steps : tie.Need-overflow-cast-steps
-cast-steps c = record { fits = omega (arith, few_ones c.args.next c.ranges.next.fits) }
+overflow_cast-steps : tie.Need-overflow_cast-steps
+overflow_cast-steps c = record { fits = omega (arith, few_ones c.args.next c.ranges.next.fits) }
 
-returns : tie.Need-returns
+returns-then-steps-eq0 : tie.Need-returns-then-steps-eq0
 unfolding move_in
-returns c =
+returns-then-steps-eq0 c =
     let s = c.before.before in
-    rw (c.before.if1.true) (taken_none _ _ (sym (members_count s.args.next s.ranges.next.fits) ∙ c.if2.true))
+    rw (c.if-not-deliver.true) (taken_none _ _ (sym (members_count s.args.next s.ranges.next.fits) ∙ c.if-steps-eq0.true))
 
 wide-requires : tie.Need-wide-requires
 wide-requires c κs = search rules
 
-rem-member : tie.Need-nonzero-rem-member
-rem-member c = search rules
+nonzero_rem-wide : tie.Need-nonzero_rem-wide
+nonzero_rem-wide c = search rules
 
 member-requires : tie.Need-member-requires
 member-requires c κs = search rules
 
-returns-2 : tie.Need-returns-2
+returns-then-not-deliver : tie.Need-returns-then-not-deliver
 unfolding move_in
-returns-2 c =
+returns-then-not-deliver c =
     let s = c.before.before.before.before in
-    rw (c.before.before.before.if1.true)
-    (taken_step _ _ (members_count s.args.next s.ranges.next.fits) c.before.before.if2.false (c.member.ensures ∙ ap (λ (b : ℕ). get_or (members_of s.args.next) (b % ones s.args.next) 0) c.before.wide.ensures))
+    rw (c.if-not-deliver.true)
+    (taken_step _ _ (members_count s.args.next s.ranges.next.fits) c.if-steps-eq0.false (c.member.ensures ∙ ap (λ (b : ℕ). get_or (members_of s.args.next) (b % ones s.args.next) 0) c.wide.ensures))
 
 wide-requires-2 : tie.Need-wide-requires-2
 wide-requires-2 c κs = search rules
 
-add-number : tie.Need-overflow-add-number
-add-number c = record { fits = omega (arith, few_ones c.before.before.args.next c.before.before.ranges.next.fits) }
+overflow_add-number : tie.Need-overflow_add-number
+overflow_add-number c = record { fits = omega (arith, few_ones c.args.next c.ranges.next.fits) }
 
-rem-number : tie.Need-nonzero-rem-number
-rem-number c = search rules
+nonzero_rem-number : tie.Need-nonzero_rem-number
+nonzero_rem-number c = search rules
 
-returns-3 : tie.Need-returns-3
+returns-then-number-eq0 : tie.Need-returns-then-number-eq0
 unfolding move_in
-returns-3 c =
+returns-then-number-eq0 c =
     let s = c.before.before.before in
-    rw (c.before.before.if1.false)
-    (taken_delivery _ _ (members_count s.args.next s.ranges.next.fits) (ap (λ (b : ℕ). b % (ones s.args.next + 1)) (sym c.before.wide2.ensures) ∙ c.if3.true))
+    rw (c.if-not-deliver.false)
+    (taken_delivery _ _ (members_count s.args.next s.ranges.next.fits) (ap (λ (b : ℕ). b % (ones s.args.next + 1)) (sym c.wide-2.ensures) ∙ c.if-number-eq0.true))
 
-sub-member : tie.Need-overflow-sub-member
-sub-member c = search rules
+overflow_sub-number : tie.Need-overflow_sub-number
+overflow_sub-number c = search rules
 
 member-requires-2 : tie.Need-member-requires-2
 member-requires-2 c κs = search rules
 
-returns-4 : tie.Need-returns-4
+returns : tie.Need-returns
 unfolding move_in
-returns-4 c =
+returns c =
     let s = c.before.before.before.before in
     let n = s.args.next in
-    rw (c.before.before.before.if1.false)
-    (taken_later _ _ (members_count n s.ranges.next.fits) (λ e. c.before.if3.false (ap (λ (b : ℕ). b % (ones n + 1)) c.before.before.wide2.ensures ∙ e))
-    (c.member2.ensures ∙ ap (λ (b : ℕ). get_or (members_of n) (b % (ones n + 1) - 1) 0) c.before.before.wide2.ensures))
+    rw (c.if-not-deliver.false)
+    (taken_later _ _ (members_count n s.ranges.next.fits) (λ e. c.if-number-eq0.false (ap (λ (b : ℕ). b % (ones n + 1)) c.wide-2.ensures ∙ e))
+    (c.member-2.ensures ∙ ap (λ (b : ℕ). get_or (members_of n) (b % (ones n + 1) - 1) 0) c.wide-2.ensures))
 
 pub option_taken_spec : {M : Type 1} → statement M
 option_taken_spec =
     tie.close
     (tie.spec
-    cast-steps
-    returns
+    overflow_cast-steps
+    returns-then-steps-eq0
     wide-requires
-    rem-member
+    nonzero_rem-wide
     member-requires
-    returns-2
+    returns-then-not-deliver
     wide-requires-2
-    add-number
-    rem-number
-    returns-3
-    sub-member
+    overflow_add-number
+    nonzero_rem-number
+    returns-then-number-eq0
+    overflow_sub-number
     member-requires-2
-    returns-4)
+    returns)

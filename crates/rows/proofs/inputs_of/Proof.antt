@@ -44,20 +44,20 @@ route_inputs false s = refl
 
 returns-in-Distances : tie.Need-returns-in-Distances
 unfolding call_of inputs_in has_input inputs_of input_number member_of any_of
-returns-in-Distances c = rw c.enum_told-1.given.1 (λ s. refl)
+returns-in-Distances c = rw c.in-Distances.is (λ s. refl)
 
 returns-in-Space : tie.Need-returns-in-Space
 unfolding call_of inputs_in has_input inputs_of input_number member_of any_of
-returns-in-Space c = rw c.enum_told-in-Space-1.given.1 (λ s. refl)
+returns-in-Space c = rw c.in-Space.is (λ s. refl)
 
 returns-in-Link : tie.Need-returns-in-Link
-returns-in-Link c = rw c.enum_told-in-Link-1.given.1 (λ s. link_inputs _ s)
+returns-in-Link c = rw c.in-Link.is (λ s. link_inputs _ s)
 
 returns-in-Prefix : tie.Need-returns-in-Prefix
-returns-in-Prefix c = rw c.enum_told-in-Prefix-1.given.1 (λ s. prefix_inputs _ s)
+returns-in-Prefix c = rw c.in-Prefix.is (λ s. prefix_inputs _ s)
 
 returns-in-Route : tie.Need-returns-in-Route
-returns-in-Route c = rw c.enum_told-in-Route-1.given.1 (λ s. route_inputs _ s)
+returns-in-Route c = rw c.in-Route.is (λ s. route_inputs _ s)
 
 pub inputs_of_spec : {M : Type 1} → statement M
 inputs_of_spec =

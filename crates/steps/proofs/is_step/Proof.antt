@@ -5,43 +5,43 @@ use Rattle.steps.proofs.NextLaws.{at_end, not_reached, by_sum}
 use Rattle.steps.proofs.is_step.Statement.{statement}
 use Rattle.steps.proofs.is_step.Tie as tie
 
-mul-own : tie.Need-overflow-mul-own
-mul-own c = search rules
+offset_bounds-target-u : tie.Need-offset_bounds-target-u
+offset_bounds-target-u c = search rules
 
-element-copy-out-own : tie.Need-element-copy-out-own
-element-copy-out-own c = search rules
+bounds-target-u : tie.Need-bounds-target-u
+bounds-target-u c = search rules
 
-shr-if1 : tie.Need-overflow-shr-if1
-shr-if1 c = search rules
+overflow_shr-ends : tie.Need-overflow_shr-ends
+overflow_shr-ends c = search rules
 
-returns : tie.Need-returns
-returns c = at_end _ _ _ _ _ c.if1.true
+returns-then-ends-u-eq1 : tie.Need-returns-then-ends-u-eq1
+returns-then-ends-u-eq1 c = at_end _ _ _ _ _ c.if-ends-u-eq1.true
 
-returns-2 : tie.Need-returns-2
-returns-2 c = not_reached _ _ _ _ _ c.if2.true
+returns-then-own-ge-UNREACHABLE : tie.Need-returns-then-own-ge-UNREACHABLE
+returns-then-own-ge-UNREACHABLE c = not_reached _ _ _ _ _ c.if-own-ge-UNREACHABLE.true
 
-mul-add : tie.Need-overflow-mul-add
-mul-add c = search rules
+offset_bounds-target-v : tie.Need-offset_bounds-target-v
+offset_bounds-target-v c = search rules
 
-element-copy-out-add : tie.Need-element-copy-out-add
-element-copy-out-add c = search rules
+bounds-target-v : tie.Need-bounds-target-v
+bounds-target-v c = search rules
 
 add-requires : tie.Need-add-requires
 add-requires c κs = search rules
 
-returns-3 : tie.Need-returns-3
-returns-3 c = by_sum _ _ _ _ _ c.before.before.before.if1.false c.before.before.if2.false c.add.ensures
+returns : tie.Need-returns
+returns c = by_sum _ _ _ _ _ c.if-ends-u-eq1.false c.if-own-ge-UNREACHABLE.false c.add.ensures
 
 pub is_step_spec : {M : Type 1} → statement M
 is_step_spec =
     tie.close
     (tie.spec
-    mul-own
-    element-copy-out-own
-    shr-if1
-    returns
-    returns-2
-    mul-add
-    element-copy-out-add
+    offset_bounds-target-u
+    bounds-target-u
+    overflow_shr-ends
+    returns-then-ends-u-eq1
+    returns-then-own-ge-UNREACHABLE
+    offset_bounds-target-v
+    bounds-target-v
     add-requires
-    returns-3)
+    returns)

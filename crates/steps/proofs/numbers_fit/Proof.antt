@@ -5,17 +5,17 @@ use Rattle.steps.specs.Crossing.{numbers_fit}
 use Rattle.steps.proofs.numbers_fit.Statement.{statement}
 use Rattle.steps.proofs.numbers_fit.Tie as tie
 
-returns : tie.Need-returns
+returns-then-n-gt64 : tie.Need-returns-then-n-gt64
 unfolding numbers_fit
-returns c = rw (lt-leb _ _ c.if1.true)
+returns-then-n-gt64 c = rw (lt-leb _ _ c.if-n-gt64.true)
 
-returns-2 : tie.Need-returns-2
+returns-then-protected-lt64 : tie.Need-returns-then-protected-lt64
 unfolding numbers_fit
-returns-2 c = rw (le-leb _ _ c.before.before.before.if1.false, lt-ltb _ _ c.before.if2.true)
+returns-then-protected-lt64 c = rw (le-leb _ _ c.if-n-gt64.false, lt-ltb _ _ c.if-protected-lt64.true)
 
-returns-3 : tie.Need-returns-3
+returns-else-protected-lt64 : tie.Need-returns-else-protected-lt64
 unfolding numbers_fit
-returns-3 c = rw (le-leb _ _ c.before.before.if1.false, le-ltb _ _ c.if2.false)
+returns-else-protected-lt64 c = rw (le-leb _ _ c.if-n-gt64.false, le-ltb _ _ c.if-protected-lt64.false)
 
 pub numbers_fit_spec : {M : Type 1} → statement M
-numbers_fit_spec = tie.close (tie.spec returns returns-2 returns-3)
+numbers_fit_spec = tie.close (tie.spec returns-then-n-gt64 returns-then-protected-lt64 returns-else-protected-lt64)

@@ -12,56 +12,56 @@ use Rattle.steps.proofs.CrossingLaws.{fit_gives}
 use Rattle.steps.proofs.onward_by_steps.Statement.{statement}
 use Rattle.steps.proofs.onward_by_steps.Tie as tie
 
-numbers-fit-requires : tie.Need-numbers-fit-requires
-numbers-fit-requires c κs = search rules
+numbers_fit-requires : tie.Need-numbers_fit-requires
+numbers_fit-requires c κs = search rules
 
-returns : tie.Need-returns
-returns c = none_onward _ _ _ _ _ _ _ _ _ (sym c.before.numbers_fit.ensures ∙ c.if1.true)
+returns-then-not-numbers_fit : tie.Need-returns-then-not-numbers_fit
+returns-then-not-numbers_fit c = none_onward _ _ _ _ _ _ _ _ _ (sym c.numbers_fit.ensures ∙ c.if-not-numbers_fit.true)
 
 -- the numbers fit
-passes : (c : tie.Else1) → let a = c.before.before.args in numbers_fit a.n (asked a.protected) ≡ true
-passes c = sym c.before.numbers_fit.ensures ∙ c.if1.false
+passes : (c : tie.Else-not-numbers_fit) → let a = c.args in numbers_fit a.n (asked a.protected) ≡ true
+passes c = sym c.numbers_fit.ensures ∙ c.if-not-numbers_fit.false
 
-next-routers-requires : tie.Need-next-routers-requires
-next-routers-requires c κs = search rules
+next_routers-nexts-requires : tie.Need-next_routers-nexts-requires
+next_routers-nexts-requires c κs = search rules
 
-over-link-requires : tie.Need-over-link-requires
-over-link-requires c κs = let f = fit_gives _ _ (passes c.before.before) in (f.1, f.2)
+over_link-requires : tie.Need-over_link-requires
+over_link-requires c κs = let f = fit_gives _ _ (passes c.before.before) in (f.1, f.2)
 
-leading-to-requires : tie.Need-leading-to-requires
-leading-to-requires c κs = search rules
+leading_to-crossing-requires : tie.Need-leading_to-crossing-requires
+leading_to-crossing-requires c κs = search rules
 
-one-if-requires : tie.Need-one-if-requires
-one-if-requires c κs = let f = fit_gives _ _ (passes c.before.before.before.before.before) in omega (arith, f.1, f.2)
+one_if-requires : tie.Need-one_if-requires
+one_if-requires c κs = let f = fit_gives _ _ (passes c.before.before.before.before.before) in omega (arith, f.1, f.2)
 
-leading-to-requires-2 : tie.Need-leading-to-requires-2
-leading-to-requires-2 c κs = search rules
+leading_to-visiting-requires : tie.Need-leading_to-visiting-requires
+leading_to-visiting-requires c κs = search rules
 
-reaching-without-requires : tie.Need-reaching-without-requires
-reaching-without-requires c κs = (fit_gives _ _ (passes c.before.before.before.before.before.before.before)).0
+reaching_without-avoiding-requires : tie.Need-reaching_without-avoiding-requires
+reaching_without-avoiding-requires c κs = (fit_gives _ _ (passes c.before.before.before.before.before.before.before)).0
 
-reaching-without-requires-2 : tie.Need-reaching-without-requires-2
-reaching-without-requires-2 c κs = (fit_gives _ _ (passes c.before.before.before.before.before.before.before.before)).0
+reaching_without-missing-requires : tie.Need-reaching_without-missing-requires
+reaching_without-missing-requires c κs = (fit_gives _ _ (passes c.before.before.before.before.before.before.before.before)).0
 
-returns-2 : tie.Need-returns-2
-returns-2 c =
+returns : tie.Need-returns
+returns c =
     let visits = c.before.before in
     let crosses = visits.before.before.before in
     let start = crosses.before.before.before in
-    found_onward _ _ _ _ _ _ _ _ _ (passes start.before) start.next-routers.ensures crosses.before.over-link.ensures crosses.leading-to.ensures
-    visits.before.one_if.ensures visits.leading-to2.ensures c.before.reaching-without.ensures c.reaching-without2.ensures
+    found_onward _ _ _ _ _ _ _ _ _ (passes start.before) start.next_routers-nexts.ensures crosses.over_link.ensures crosses.leading_to-crossing.ensures
+    visits.one_if.ensures visits.leading_to-visiting.ensures c.reaching_without-avoiding.ensures c.reaching_without-missing.ensures
 
 pub onward_by_steps_spec : {M : Type 1} → statement M
 onward_by_steps_spec =
     tie.close
     (tie.spec
-    numbers-fit-requires
-    returns
-    next-routers-requires
-    over-link-requires
-    leading-to-requires
-    one-if-requires
-    leading-to-requires-2
-    reaching-without-requires
-    reaching-without-requires-2
-    returns-2)
+    numbers_fit-requires
+    returns-then-not-numbers_fit
+    next_routers-nexts-requires
+    over_link-requires
+    leading_to-crossing-requires
+    one_if-requires
+    leading_to-visiting-requires
+    reaching_without-avoiding-requires
+    reaching_without-missing-requires
+    returns)

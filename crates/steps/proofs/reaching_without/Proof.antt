@@ -7,57 +7,57 @@ use native.Mathlib.Omega.{arith}
 use lib.ListN.{get_or}
 use borrow.Author.Rules.{rules}
 use Rattle.lfa.specs.Space.{set_of}
-use Rattle.metric.specs.Laws.Set.{put_in, left_out}
+use Rattle.metric.proofs.Laws.Set.{put_in, left_out}
 use Rattle.steps.specs.Crossing.{reaches_without}
 use Rattle.steps.proofs.reaching_without.Statement.{statement}
 use Rattle.steps.proofs.reaching_without.Tie as tie
 
-abbrev invariant-loop : tie.invariant-loop
-invariant-loop n target set kept₀ x₀ kept x = (x ≤ n) × (kept ≡ set_of x (reaches_without (λ y. get_or target y 0) set))
+abbrev invariant-loop-x : tie.invariant-loop-x
+invariant-loop-x n target set kept₀ x₀ kept x = (x ≤ n) × (kept ≡ set_of x (reaches_without (λ y. get_or target y 0) set))
 
-abbrev decreases-loop : tie.decreases-loop
-decreases-loop n target set kept₀ x₀ kept x = n - x
+abbrev decreases-loop-x : tie.decreases-loop-x
+decreases-loop-x n target set kept₀ x₀ kept x = n - x
 
-loop-holds : tie.Need-loop-init invariant-loop decreases-loop
+loop-x-init : tie.Need-loop-x-init invariant-loop-x decreases-loop-x
 unfolding set_of
-loop-holds c = search rules
+loop-x-init c = search rules
 
-reaches-without-requires : tie.Need-reaches-without-requires invariant-loop decreases-loop
-reaches-without-requires c κs = search rules
+reaches_without-requires : tie.Need-reaches_without-requires invariant-loop-x decreases-loop-x
+reaches_without-requires c κs = search rules
 
-shl-kept : tie.Need-overflow-shl-kept invariant-loop decreases-loop
-shl-kept c = search rules
+overflow_shl-kept : tie.Need-overflow_shl-kept invariant-loop-x decreases-loop-x
+overflow_shl-kept c = search rules
 
-add-x : tie.Need-overflow-add-x invariant-loop decreases-loop
-add-x c = search rules
+overflow_add-x : tie.Need-overflow_add-x invariant-loop-x decreases-loop-x
+overflow_add-x c = search rules
 
-loop-less : tie.Need-loop-smaller invariant-loop decreases-loop
-loop-less c = search rules
+loop-x-smaller : tie.Need-loop-x-smaller invariant-loop-x decreases-loop-x
+loop-x-smaller c = search rules
 
-loop-again : tie.Need-loop-preserved invariant-loop decreases-loop
-loop-again c =
-    let l = c.before.before.before.loop in
-    let a = c.before.before.before.before.args in
+loop-x-preserved : tie.Need-loop-x-preserved invariant-loop-x decreases-loop-x
+loop-x-preserved c =
+    let l = c.loop-x in
+    let a = c.args in
     let p = reaches_without (λ y. get_or a.target.now y 0) a.set in
-    let e = c.before.reaches-without.ensures in
-    (omega arith, ⊎_elim (λ w. w.1 ∙ put_in p (omega arith) l.invariant.1 (sym e ∙ w.0.taken)) (λ w. w.1 ∙ left_out p l.invariant.1 (sym e ∙ w.0.left)) c.if1.branch)
+    let e = c.reaches_without.ensures in
+    (omega arith, ⊎_elim (λ w. w.kept-is ∙ put_in p (omega arith) l.invariant.1 (sym e ∙ w.if-reaches_without.true)) (λ w. w.kept-is ∙ left_out p l.invariant.1 (sym e ∙ w.if-reaches_without.false)) c.if-reaches_without.branch-raw)
 
-returns : tie.Need-returns invariant-loop decreases-loop
+returns : tie.Need-returns invariant-loop-x decreases-loop-x
 returns c =
-    let a = c.before.before.args in
-    let e : c.before.loop.x ≡ a.n = omega arith in
-    c.before.loop.invariant.1 ∙ ap (λ (n : ℕ). set_of n (reaches_without (λ y. get_or a.target.now y 0) a.set)) e
+    let a = c.args in
+    let e : c.loop-x.x ≡ a.n = omega arith in
+    c.loop-x.invariant.1 ∙ ap (λ (n : ℕ). set_of n (reaches_without (λ y. get_or a.target.now y 0) a.set)) e
 
 pub reaching_without_spec : {M : Type 1} → statement M
 reaching_without_spec =
     tie.close
     (tie.spec
-    invariant-loop
-    decreases-loop
-    loop-holds
-    reaches-without-requires
-    shl-kept
-    add-x
-    loop-less
-    loop-again
+    invariant-loop-x
+    decreases-loop-x
+    loop-x-init
+    reaches_without-requires
+    overflow_shl-kept
+    overflow_add-x
+    loop-x-smaller
+    loop-x-preserved
     returns)

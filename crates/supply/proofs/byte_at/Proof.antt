@@ -6,16 +6,16 @@ use Rattle.lfa.specs.Route.{choice_at}
 use Rattle.supply.proofs.byte_at.Statement.{statement}
 use Rattle.supply.proofs.byte_at.Tie as tie
 
-shared-slice-read-result : tie.Need-shared-slice-read-result
-shared-slice-read-result c = search rules
+bounds-bytes-place : tie.Need-bounds-bytes-place
+bounds-bytes-place c = search rules
 
-returns : tie.Need-returns
+returns-then-place-bytes : tie.Need-returns-then-place-bytes
 unfolding choice_at
-returns c = search rules
+returns-then-place-bytes c = search rules
 
-returns-2 : tie.Need-returns-2
+returns-else-place-bytes : tie.Need-returns-else-place-bytes
 unfolding choice_at
-returns-2 c = sym (get_or-eq_default c.before.args.bytes.now 0 c.if1.false)
+returns-else-place-bytes c = sym (get_or-eq_default c.args.bytes.now 0 c.if-place-bytes.false)
 
 pub byte_at_spec : {M : Type 1} → statement M
-byte_at_spec = tie.close (tie.spec shared-slice-read-result returns returns-2)
+byte_at_spec = tie.close (tie.spec bounds-bytes-place returns-then-place-bytes returns-else-place-bytes)

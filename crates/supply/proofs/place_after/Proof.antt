@@ -5,16 +5,16 @@ use Rattle.supply.specs.Supply.{place_after}
 use Rattle.supply.proofs.place_after.Statement.{statement}
 use Rattle.supply.proofs.place_after.Tie as tie
 
-add-result : tie.Need-overflow-add-result
-add-result c = search rules
+overflow_add-result : tie.Need-overflow_add-result
+overflow_add-result c = search rules
 
-returns : tie.Need-returns
+returns-then-at-bytes : tie.Need-returns-then-at-bytes
 unfolding place_after
-returns c = rw (lt-ltb _ _ c.if1.true, place_after)
+returns-then-at-bytes c = rw (lt-ltb _ _ c.if-at-bytes.true, place_after)
 
-returns-2 : tie.Need-returns-2
+returns-else-at-bytes : tie.Need-returns-else-at-bytes
 unfolding place_after
-returns-2 c = rw (le-ltb _ _ c.if1.false, place_after)
+returns-else-at-bytes c = rw (le-ltb _ _ c.if-at-bytes.false, place_after)
 
 pub place_after_spec : {M : Type 1} → statement M
-place_after_spec = tie.close (tie.spec add-result returns returns-2)
+place_after_spec = tie.close (tie.spec overflow_add-result returns-then-at-bytes returns-else-at-bytes)

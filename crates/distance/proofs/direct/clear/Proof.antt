@@ -10,51 +10,51 @@ use borrow.Author.Rules.{rules}
 use Rattle.distance.proofs.direct.clear.Statement.{statement}
 use Rattle.distance.proofs.direct.clear.Tie as tie
 
-abbrev invariant-loop : tie.invariant-loop
-invariant-loop cells₀ i₀ cells i = (i ≤ length cells₀) × Stored i (λ j. limit) cells₀ cells
+abbrev invariant-loop-i : tie.invariant-loop-i
+invariant-loop-i cells₀ i₀ cells i = (i ≤ length cells₀) × Stored i (λ j. limit) cells₀ cells
 
-abbrev decreases-loop : tie.decreases-loop
-decreases-loop cells₀ i₀ cells i = length cells₀ - i
+abbrev decreases-loop-i : tie.decreases-loop-i
+decreases-loop-i cells₀ i₀ cells i = length cells₀ - i
 
-loop-holds : tie.Need-loop-init invariant-loop decreases-loop
-loop-holds c = (omega arith, stored_none (λ j. limit) c.args.cells.now)
+loop-i-init : tie.Need-loop-i-init invariant-loop-i decreases-loop-i
+loop-i-init c = (omega arith, stored_none (λ j. limit) c.args.cells.now)
 
-mul-cells : tie.Need-overflow-mul-cells invariant-loop decreases-loop
-mul-cells c = search rules
+offset_bounds-cells-i : tie.Need-offset_bounds-cells-i invariant-loop-i decreases-loop-i
+offset_bounds-cells-i c = search rules
 
-slice-write-cells : tie.Need-slice-write-cells invariant-loop decreases-loop
-slice-write-cells c = search rules
+bounds-cells-i : tie.Need-bounds-cells-i invariant-loop-i decreases-loop-i
+bounds-cells-i c = search rules
 
-add-i : tie.Need-overflow-add-i invariant-loop decreases-loop
-add-i c = search rules
+overflow_add-i : tie.Need-overflow_add-i invariant-loop-i decreases-loop-i
+overflow_add-i c = search rules
 
-loop-less : tie.Need-loop-smaller invariant-loop decreases-loop
-loop-less c = search rules
+loop-i-smaller : tie.Need-loop-i-smaller invariant-loop-i decreases-loop-i
+loop-i-smaller c = search rules
 
-loop-again : tie.Need-loop-preserved invariant-loop decreases-loop
-loop-again c =
+loop-i-preserved : tie.Need-loop-i-preserved invariant-loop-i decreases-loop-i
+loop-i-preserved c =
     let at-loop = c.before in
-    (omega arith, stored_more (λ j. limit) limit (omega arith) at-loop.loop.invariant.1 refl)
+    (omega arith, stored_more (λ j. limit) limit (omega arith) at-loop.loop-i.invariant.1 refl)
 
-same_length : tie.Need-same-length invariant-loop decreases-loop
-same_length c = search rules
+shape_of-cells : tie.Need-shape_of-cells invariant-loop-i decreases-loop-i
+shape_of-cells c = search rules
 
-returns : tie.Need-returns invariant-loop decreases-loop
+returns : tie.Need-returns invariant-loop-i decreases-loop-i
 returns c =
-    let e : c.before.loop.i ≡ length c.before.before.args.cells.now = omega arith in
-    rw e at c.before.loop.invariant.1
+    let e : c.loop-i.i ≡ length c.args.cells.now = omega arith in
+    rw e at c.loop-i.invariant.1
 
 pub clear_spec : {M : Type 1} → statement M
 clear_spec =
     tie.close
     (tie.spec
-    invariant-loop
-    decreases-loop
-    loop-holds
-    mul-cells
-    slice-write-cells
-    add-i
-    loop-less
-    loop-again
-    same_length
+    invariant-loop-i
+    decreases-loop-i
+    loop-i-init
+    offset_bounds-cells-i
+    bounds-cells-i
+    overflow_add-i
+    loop-i-smaller
+    loop-i-preserved
+    shape_of-cells
     returns)

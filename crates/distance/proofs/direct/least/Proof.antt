@@ -18,23 +18,23 @@ use Rattle.distance.proofs.direct.least.Tie as tie
 signed : (a b : ℕ) → a < 2147483648 → b < 2147483648 → lt_z (to_z w32 a) (to_z w32 b) ≡ ltb a b
 signed a b ha hb = ap₂ lt_z (to_z_pos w32 a ha) (to_z_pos w32 b hb)
 
-cast-if1 : tie.Need-overflow-cast-if1
-cast-if1 c = search rules
+overflow_cast-a : tie.Need-overflow_cast-a
+overflow_cast-a c = search rules
 
-cast-if1-2 : tie.Need-overflow-cast-if1-2
-cast-if1-2 c = search rules
+overflow_cast-b : tie.Need-overflow_cast-b
+overflow_cast-b c = search rules
 
-returns : tie.Need-returns
-returns c =
-    let a = c.before.args in
-    let h : ltb a.a a.b ≡ true = sym (signed a.a a.b c.before.requires.0 c.before.requires.1) ∙ c.if1.true in
+returns-then-a-b : tie.Need-returns-then-a-b
+returns-then-a-b c =
+    let a = c.args in
+    let h : ltb a.a a.b ≡ true = sym (signed a.a a.b c.requires.0 c.requires.1) ∙ c.if-a-b.true in
     omega (arith, ltb-true a.a a.b h)
 
-returns-2 : tie.Need-returns-2
-returns-2 c =
-    let a = c.before.args in
-    let h : ltb a.a a.b ≡ false = sym (signed a.a a.b c.before.requires.0 c.before.requires.1) ∙ c.if1.false in
+returns-else-a-b : tie.Need-returns-else-a-b
+returns-else-a-b c =
+    let a = c.args in
+    let h : ltb a.a a.b ≡ false = sym (signed a.a a.b c.requires.0 c.requires.1) ∙ c.if-a-b.false in
     omega (arith, ltb-false a.a a.b h)
 
 pub least_spec : {M : Type 1} → statement M
-least_spec = tie.close (tie.spec cast-if1 cast-if1-2 returns returns-2)
+least_spec = tie.close (tie.spec overflow_cast-a overflow_cast-b returns-then-a-b returns-else-a-b)

@@ -11,112 +11,104 @@ use borrow.Author.Rules.{rules}
 use Rattle.distance.proofs.direct.lower_links.Statement.{statement}
 use Rattle.distance.proofs.direct.lower_links.Tie as tie
 
-abbrev invariant-loop : tie.invariant-loop
-invariant-loop n links from to out back cells₀ k₀ cells k = (k ≤ links) × CostsCapped (arcs_in from to out back k) × Cells n (cheapest (self_loops n ++ arcs_in from to out back k)) cells
+abbrev invariant-loop-k : tie.invariant-loop-k
+invariant-loop-k n links from to out back cells₀ k₀ cells k = (k ≤ links) × CostsCapped (arcs_in from to out back k) × Cells n (cheapest (self_loops n ++ arcs_in from to out back k)) cells
 
-abbrev decreases-loop : tie.decreases-loop
-decreases-loop n links from to out back cells₀ k₀ cells k = links - k
+abbrev decreases-loop-k : tie.decreases-loop-k
+decreases-loop-k n links from to out back cells₀ k₀ cells k = links - k
 
-loop-holds : tie.Need-loop-init invariant-loop decreases-loop
-loop-holds c =
-    let a = c.before.args in
-    let l = linked_none a.from.now a.to.now a.out.now a.back.now c.before.requires.1 in
+loop-k-init : tie.Need-loop-k-init invariant-loop-k decreases-loop-k
+loop-k-init c =
+    let a = c.args in
+    let l = linked_none a.from.now a.to.now a.out.now a.back.now c.requires.1 in
     (omega arith, l.0, l.1)
 
-element-copy-out-wide : tie.Need-element-copy-out-wide invariant-loop decreases-loop
-element-copy-out-wide c = search rules
+bounds-from-k : tie.Need-bounds-from-k invariant-loop-k decreases-loop-k
+bounds-from-k c = search rules
 
-wide-requires : tie.Need-wide-requires invariant-loop decreases-loop
-wide-requires c κs = search rules
+wide-a-requires : tie.Need-wide-a-requires invariant-loop-k decreases-loop-k
+wide-a-requires c κs = search rules
 
-element-copy-out-wide-2 : tie.Need-element-copy-out-wide-2 invariant-loop decreases-loop
-element-copy-out-wide-2 c = search rules
+bounds-to-k : tie.Need-bounds-to-k invariant-loop-k decreases-loop-k
+bounds-to-k c = search rules
 
-wide-requires-2 : tie.Need-wide-requires-2 invariant-loop decreases-loop
-wide-requires-2 c κs = search rules
+wide-b-requires : tie.Need-wide-b-requires invariant-loop-k decreases-loop-k
+wide-b-requires c κs = search rules
 
-mul-lower : tie.Need-overflow-mul-lower invariant-loop decreases-loop
-mul-lower c = search rules
+offset_bounds-out-k : tie.Need-offset_bounds-out-k invariant-loop-k decreases-loop-k
+offset_bounds-out-k c = search rules
 
-element-copy-out-lower : tie.Need-element-copy-out-lower invariant-loop decreases-loop
-element-copy-out-lower c = search rules
+bounds-out-k : tie.Need-bounds-out-k invariant-loop-k decreases-loop-k
+bounds-out-k c = search rules
 
-lower-requires : tie.Need-lower-requires invariant-loop decreases-loop
+lower-requires : tie.Need-lower-requires invariant-loop-k decreases-loop-k
 lower-requires c κs =
-    let turn = c.before.before.before.before.before.before in
-    let at-loop = turn.before in
-    let w = at-loop.before.before.requires.0 in
-    let k = at-loop.loop.k in
-    let a_in = w.from_in k turn.loop-test.true in
-    let b_in = w.to_in k turn.loop-test.true in
-    let a-is = c.before.before.before.before.wide.ensures in
-    let b-is = c.before.before.wide2.ensures in
-    (cheapest_limited _ w.few_routers at-loop.loop.invariant.2, omega arith, omega arith)
+    let w = c.requires.0 in
+    let k = c.loop-k.k in
+    let a_in = w.from_in k c.loop-k-test.true in
+    let b_in = w.to_in k c.loop-k-test.true in
+    let a-is = c.wide-a.ensures in
+    let b-is = c.wide-b.ensures in
+    (cheapest_limited _ w.few_routers c.loop-k.invariant.2, omega arith, omega arith)
 
-mul-lower-2 : tie.Need-overflow-mul-lower-2 invariant-loop decreases-loop
-mul-lower-2 c = search rules
+offset_bounds-back-k : tie.Need-offset_bounds-back-k invariant-loop-k decreases-loop-k
+offset_bounds-back-k c = search rules
 
-element-copy-out-lower-2 : tie.Need-element-copy-out-lower-2 invariant-loop decreases-loop
-element-copy-out-lower-2 c = search rules
+bounds-back-k : tie.Need-bounds-back-k invariant-loop-k decreases-loop-k
+bounds-back-k c = search rules
 
-lower-requires-2 : tie.Need-lower-requires-2 invariant-loop decreases-loop
-lower-requires-2 c κs =
-    let at-lower = c.before.before.before.before in
-    let turn = at-lower.before.before.before.before.before.before.before in
-    let at-loop = turn.before in
-    let w = at-loop.before.before.requires.0 in
-    let k = at-loop.loop.k in
-    let a_in = w.from_in k turn.loop-test.true in
-    let b_in = w.to_in k turn.loop-test.true in
-    let a-is = at-lower.before.before.before.before.before.wide.ensures in
-    let b-is = at-lower.before.before.before.wide2.ensures in
-    (lowered_limited (cheapest_limited _ w.few_routers at-loop.loop.invariant.2) at-lower.lower.ensures.1, omega arith, omega arith)
+lower-requires-in-loop-k : tie.Need-lower-requires-in-loop-k invariant-loop-k decreases-loop-k
+lower-requires-in-loop-k c κs =
+    let w = c.requires.0 in
+    let k = c.loop-k.k in
+    let a_in = w.from_in k c.loop-k-test.true in
+    let b_in = w.to_in k c.loop-k-test.true in
+    let a-is = c.wide-a.ensures in
+    let b-is = c.wide-b.ensures in
+    (lowered_limited (cheapest_limited _ w.few_routers c.loop-k.invariant.2) c.lower.ensures.1, omega arith, omega arith)
 
-add-k : tie.Need-overflow-add-k invariant-loop decreases-loop
-add-k c = search rules
+overflow_add-k : tie.Need-overflow_add-k invariant-loop-k decreases-loop-k
+overflow_add-k c = search rules
 
-loop-less : tie.Need-loop-smaller invariant-loop decreases-loop
-loop-less c = search rules
+loop-k-smaller : tie.Need-loop-k-smaller invariant-loop-k decreases-loop-k
+loop-k-smaller c = search rules
 
-loop-again : tie.Need-loop-preserved invariant-loop decreases-loop
-loop-again c =
-    let at-lower = c.before.before.before.before.before.before.before in
-    let turn = at-lower.before.before.before.before.before.before.before in
-    let at-loop = turn.before in
-    let a = at-loop.before.before.args in
-    let l = linked_more a.from.now a.to.now a.out.now a.back.now at-loop.loop.k
-    at-lower.before.before.before.before.before.wide.ensures at-lower.before.before.before.wide2.ensures refl refl
-    at-lower.lower.ensures c.before.before.lower2.ensures (at-loop.loop.invariant.1, at-loop.loop.invariant.2) in
-    (omega (arith, turn.loop-test.true), l.0, l.1)
+loop-k-preserved : tie.Need-loop-k-preserved invariant-loop-k decreases-loop-k
+loop-k-preserved c =
+    let a = c.args in
+    let l = linked_more a.from.now a.to.now a.out.now a.back.now c.loop-k.k
+    c.wide-a.ensures c.wide-b.ensures refl refl
+    c.lower.ensures c.lower-in-loop-k.ensures (c.loop-k.invariant.1, c.loop-k.invariant.2) in
+    (omega (arith, c.loop-k-test.true), l.0, l.1)
 
-same_length : tie.Need-same-length invariant-loop decreases-loop
-same_length c = c.before.loop.invariant.2.long ∙ sym c.before.before.before.requires.1.long
+shape_of-cells : tie.Need-shape_of-cells invariant-loop-k decreases-loop-k
+shape_of-cells c = c.loop-k.invariant.2.long ∙ sym c.requires.1.long
 
-returns : tie.Need-returns invariant-loop decreases-loop
+returns : tie.Need-returns invariant-loop-k decreases-loop-k
 returns c =
-    let e : c.before.loop.k ≡ c.before.before.before.args.links = omega arith in
-    let inv = c.before.loop.invariant in
+    let e : c.loop-k.k ≡ c.args.links = omega arith in
+    let inv = c.loop-k.invariant in
     (rw e at inv.1, rw e at inv.2)
 
 pub lower_links_spec : {M : Type 1} → statement M
 lower_links_spec =
     tie.close
     (tie.spec
-    invariant-loop
-    decreases-loop
-    loop-holds
-    element-copy-out-wide
-    wide-requires
-    element-copy-out-wide-2
-    wide-requires-2
-    mul-lower
-    element-copy-out-lower
+    invariant-loop-k
+    decreases-loop-k
+    loop-k-init
+    bounds-from-k
+    wide-a-requires
+    bounds-to-k
+    wide-b-requires
+    offset_bounds-out-k
+    bounds-out-k
     lower-requires
-    mul-lower-2
-    element-copy-out-lower-2
-    lower-requires-2
-    add-k
-    loop-less
-    loop-again
-    same_length
+    offset_bounds-back-k
+    bounds-back-k
+    lower-requires-in-loop-k
+    overflow_add-k
+    loop-k-smaller
+    loop-k-preserved
+    shape_of-cells
     returns)

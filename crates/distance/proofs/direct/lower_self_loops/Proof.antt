@@ -9,49 +9,49 @@ use borrow.Author.Rules.{rules}
 use Rattle.distance.proofs.direct.lower_self_loops.Statement.{statement}
 use Rattle.distance.proofs.direct.lower_self_loops.Tie as tie
 
-abbrev invariant-loop : tie.invariant-loop
-invariant-loop n cells₀ x₀ cells x = (x ≤ n) × Cells n (cheapest (self_loops x)) cells
+abbrev invariant-loop-x : tie.invariant-loop-x
+invariant-loop-x n cells₀ x₀ cells x = (x ≤ n) × Cells n (cheapest (self_loops x)) cells
 
-abbrev decreases-loop : tie.decreases-loop
-decreases-loop n cells₀ x₀ cells x = n - x
+abbrev decreases-loop-x : tie.decreases-loop-x
+decreases-loop-x n cells₀ x₀ cells x = n - x
 
-loop-holds : tie.Need-loop-init invariant-loop decreases-loop
-loop-holds c = (omega arith, c.before.requires.1)
+loop-x-init : tie.Need-loop-x-init invariant-loop-x decreases-loop-x
+loop-x-init c = (omega arith, c.requires.1)
 
-lower-requires : tie.Need-lower-requires invariant-loop decreases-loop
+lower-requires : tie.Need-lower-requires invariant-loop-x decreases-loop-x
 lower-requires c κs =
     let at-loop = c.before.before in
-    (cheapest_limited (self_loops at-loop.loop.x) at-loop.before.before.requires.0 at-loop.loop.invariant.1, c.before.loop-test.true, c.before.loop-test.true)
+    (cheapest_limited (self_loops at-loop.loop-x.x) at-loop.requires.0 at-loop.loop-x.invariant.1, c.loop-x-test.true, c.loop-x-test.true)
 
-add-x : tie.Need-overflow-add-x invariant-loop decreases-loop
-add-x c = search rules
+overflow_add-x : tie.Need-overflow_add-x invariant-loop-x decreases-loop-x
+overflow_add-x c = search rules
 
-loop-less : tie.Need-loop-smaller invariant-loop decreases-loop
-loop-less c = search rules
+loop-x-smaller : tie.Need-loop-x-smaller invariant-loop-x decreases-loop-x
+loop-x-smaller c = search rules
 
-loop-again : tie.Need-loop-preserved invariant-loop decreases-loop
-loop-again c =
+loop-x-preserved : tie.Need-loop-x-preserved invariant-loop-x decreases-loop-x
+loop-x-preserved c =
     let turn = c.before.before.before.before in
-    (omega (arith, turn.loop-test.true), loops_more turn.before.loop.invariant.1 c.before.before.lower.ensures.1)
+    (omega (arith, turn.loop-x-test.true), loops_more turn.loop-x.invariant.1 c.lower.ensures.1)
 
-same_length : tie.Need-same-length invariant-loop decreases-loop
-same_length c = c.before.loop.invariant.1.long ∙ sym c.before.before.before.requires.1.long
+shape_of-cells : tie.Need-shape_of-cells invariant-loop-x decreases-loop-x
+shape_of-cells c = c.loop-x.invariant.1.long ∙ sym c.requires.1.long
 
-returns : tie.Need-returns invariant-loop decreases-loop
+returns : tie.Need-returns invariant-loop-x decreases-loop-x
 returns c =
-    let e : c.before.loop.x ≡ c.before.before.before.args.n = omega arith in
-    rw e at c.before.loop.invariant.1
+    let e : c.loop-x.x ≡ c.args.n = omega arith in
+    rw e at c.loop-x.invariant.1
 
 pub lower_self_loops_spec : {M : Type 1} → statement M
 lower_self_loops_spec =
     tie.close
     (tie.spec
-    invariant-loop
-    decreases-loop
-    loop-holds
+    invariant-loop-x
+    decreases-loop-x
+    loop-x-init
     lower-requires
-    add-x
-    loop-less
-    loop-again
-    same_length
+    overflow_add-x
+    loop-x-smaller
+    loop-x-preserved
+    shape_of-cells
     returns)

@@ -10,65 +10,65 @@ use borrow.Author.Rules.{rules}
 use Rattle.distance.proofs.rows.copy_cells.Statement.{statement}
 use Rattle.distance.proofs.rows.copy_cells.Tie as tie
 
-abbrev invariant-loop : tie.invariant-loop
-invariant-loop count at cells copy₀ j₀ copy j = (j ≤ count) × Stored j (λ i. get_or cells (at + i) 0) copy₀ copy
+abbrev invariant-loop-j : tie.invariant-loop-j
+invariant-loop-j count at cells copy₀ j₀ copy j = (j ≤ count) × Stored j (λ i. get_or cells (at + i) 0) copy₀ copy
 
-abbrev decreases-loop : tie.decreases-loop
-decreases-loop count at cells copy₀ j₀ copy j = count - j
+abbrev decreases-loop-j : tie.decreases-loop-j
+decreases-loop-j count at cells copy₀ j₀ copy j = count - j
 
-loop-holds : tie.Need-loop-init invariant-loop decreases-loop
-loop-holds c = let a = c.args in (omega arith, stored_none (λ i. get_or a.cells.now (a.at + i) 0) a.copy.now)
+loop-j-init : tie.Need-loop-j-init invariant-loop-j decreases-loop-j
+loop-j-init c = let a = c.args in (omega arith, stored_none (λ i. get_or a.cells.now (a.at + i) 0) a.copy.now)
 
-add-copy : tie.Need-overflow-add-copy invariant-loop decreases-loop
-add-copy c = search rules
+overflow_add-copy : tie.Need-overflow_add-copy invariant-loop-j decreases-loop-j
+overflow_add-copy c = search rules
 
-mul-copy : tie.Need-overflow-mul-copy invariant-loop decreases-loop
-mul-copy c = search rules
+offset_bounds-cells-at : tie.Need-offset_bounds-cells-at invariant-loop-j decreases-loop-j
+offset_bounds-cells-at c = search rules
 
-shared-slice-read-copy : tie.Need-shared-slice-read-copy invariant-loop decreases-loop
-shared-slice-read-copy c = search rules
+bounds-cells-at : tie.Need-bounds-cells-at invariant-loop-j decreases-loop-j
+bounds-cells-at c = search rules
 
-mul-copy-2 : tie.Need-overflow-mul-copy-2 invariant-loop decreases-loop
-mul-copy-2 c = search rules
+offset_bounds-copy-j : tie.Need-offset_bounds-copy-j invariant-loop-j decreases-loop-j
+offset_bounds-copy-j c = search rules
 
-slice-write-copy : tie.Need-slice-write-copy invariant-loop decreases-loop
-slice-write-copy c = search rules
+bounds-copy-j : tie.Need-bounds-copy-j invariant-loop-j decreases-loop-j
+bounds-copy-j c = search rules
 
-add-j : tie.Need-overflow-add-j invariant-loop decreases-loop
-add-j c = search rules
+overflow_add-j : tie.Need-overflow_add-j invariant-loop-j decreases-loop-j
+overflow_add-j c = search rules
 
-loop-less : tie.Need-loop-smaller invariant-loop decreases-loop
-loop-less c = search rules
+loop-j-smaller : tie.Need-loop-j-smaller invariant-loop-j decreases-loop-j
+loop-j-smaller c = search rules
 
-loop-again : tie.Need-loop-preserved invariant-loop decreases-loop
-loop-again c =
+loop-j-preserved : tie.Need-loop-j-preserved invariant-loop-j decreases-loop-j
+loop-j-preserved c =
     let at-loop = c.before.before in
     let start = at-loop.before in
     let a = start.args in
-    (omega arith, stored_more (λ i. get_or a.cells.now (a.at + i) 0) _ (omega (arith, start.requires.1)) at-loop.loop.invariant.1 refl)
+    (omega arith, stored_more (λ i. get_or a.cells.now (a.at + i) 0) _ (omega (arith, start.requires.1)) at-loop.loop-j.invariant.1 refl)
 
-same_length : tie.Need-same-length invariant-loop decreases-loop
-same_length c = search rules
+shape_of-copy : tie.Need-shape_of-copy invariant-loop-j decreases-loop-j
+shape_of-copy c = search rules
 
-returns : tie.Need-returns invariant-loop decreases-loop
+returns : tie.Need-returns invariant-loop-j decreases-loop-j
 returns c =
-    let e : c.before.loop.j ≡ c.before.before.args.count = omega arith in
-    rw e at c.before.loop.invariant.1
+    let e : c.loop-j.j ≡ c.args.count = omega arith in
+    rw e at c.loop-j.invariant.1
 
 pub copy_cells_spec : {M : Type 1} → statement M
 copy_cells_spec =
     tie.close
     (tie.spec
-    invariant-loop
-    decreases-loop
-    loop-holds
-    add-copy
-    mul-copy
-    shared-slice-read-copy
-    mul-copy-2
-    slice-write-copy
-    add-j
-    loop-less
-    loop-again
-    same_length
+    invariant-loop-j
+    decreases-loop-j
+    loop-j-init
+    overflow_add-copy
+    offset_bounds-cells-at
+    bounds-cells-at
+    offset_bounds-copy-j
+    bounds-copy-j
+    overflow_add-j
+    loop-j-smaller
+    loop-j-preserved
+    shape_of-copy
     returns)

@@ -7,95 +7,81 @@ use Rattle.distance.proofs.StoreLaws.{next}
 use Rattle.distance.proofs.RowLaws.{row_inside, row_ready, rows_none, rows_more}
 use mathlib.Core.Path.{◌≡◌, sym, subst}
 use mathlib.Core.Logic.{inr}
-use Prim.Native.Nat.{ℕ, ◌+◌, ◌-◌, ◌*◌, ◌≤◌, ◌<◌}
+use Prim.Native.Nat.{ℕ, ◌-◌, ◌*◌, ◌≤◌, ◌<◌}
 use native.Mathlib.Omega.{arith}
-use lib.ListN.{length}
 use borrow.Author.Rules.{rules}
 use Rattle.distance.proofs.rows.lower_earlier.Statement.{statement}
 use Rattle.distance.proofs.rows.lower_earlier.Tie as tie
 
-abbrev invariant-loop : tie.invariant-loop
-invariant-loop n k by cells₀ i₀ at₀ cells i at = (at ≡ i * n) × (i ≤ k) × RowsLowered n k 0 i (λ x. area_cell n cells₀ x k) cells₀ cells
+abbrev invariant-loop-i : tie.invariant-loop-i
+invariant-loop-i n k by cells₀ i₀ at₀ cells i at = (at ≡ i * n) × (i ≤ k) × RowsLowered n k 0 i (λ x. area_cell n cells₀ x k) cells₀ cells
 
-abbrev decreases-loop : tie.decreases-loop
-decreases-loop n k by cells₀ i₀ at₀ cells i at = k - i
+abbrev decreases-loop-i : tie.decreases-loop-i
+decreases-loop-i n k by cells₀ i₀ at₀ cells i at = k - i
 
--- the row stands in the cells
-room : (c : tie.In-loop invariant-loop decreases-loop) → (c.before.loop.at + c.before.before.before.args.n ≤ length c.before.loop.cells) × (length c.before.loop.cells ≤ 4096)
-room c =
-    let pre = c.before.before.before.requires in
-    let inv = c.before.loop.invariant in
-    omega (arith, row_inside {k = c.before.loop.i} pre.0 (omega (arith, c.loop-test.true)), inv.0, inv.2.long, pre.0.long)
+loop-i-init : tie.Need-loop-i-init invariant-loop-i decreases-loop-i
+loop-i-init c =
+    (sym (zero-mul c.args.n), omega arith, rows_none c.requires.0.long)
 
-loop-holds : tie.Need-loop-init invariant-loop decreases-loop
-loop-holds c =
-    let start = c.before in
-    (sym (zero-mul start.args.n), omega arith, rows_none start.requires.0.long)
+overflow_add-at : tie.Need-overflow_add-at invariant-loop-i decreases-loop-i
+overflow_add-at c = omega (arith, row_inside {k = c.loop-i.i} c.requires.0 (omega (arith, c.loop-i-test.true)), c.loop-i.invariant.0, c.loop-i.invariant.2.long, c.requires.0.long)
 
-add-lower-row : tie.Need-overflow-add-lower-row invariant-loop decreases-loop
-add-lower-row c = omega (arith, room c)
+offset_bounds-cells-at : tie.Need-offset_bounds-cells-at invariant-loop-i decreases-loop-i
+offset_bounds-cells-at c = omega (arith, row_inside {k = c.loop-i.i} c.requires.0 (omega (arith, c.loop-i-test.true)), c.loop-i.invariant.0, c.loop-i.invariant.2.long, c.requires.0.long)
 
-mul-lower-row : tie.Need-overflow-mul-lower-row invariant-loop decreases-loop
-mul-lower-row c = omega (arith, room c)
+bounds-cells-at : tie.Need-bounds-cells-at invariant-loop-i decreases-loop-i
+bounds-cells-at c = omega (arith, row_inside {k = c.loop-i.i} c.requires.0 (omega (arith, c.loop-i-test.true)), c.loop-i.invariant.0, c.loop-i.invariant.2.long, c.requires.0.long)
 
-slice-read-lower-row : tie.Need-slice-read-lower-row invariant-loop decreases-loop
-slice-read-lower-row c = omega (arith, room c.before)
+lower_row-requires : tie.Need-lower_row-requires invariant-loop-i decreases-loop-i
+lower_row-requires c κs =
+    let pre = c.requires in
+    row_ready pre.0 pre.1 pre.2 c.loop-i.invariant.0 (omega (arith, c.loop-i-test.true)) c.loop-i.invariant.2 _
 
-lower-row-requires : tie.Need-lower-row-requires invariant-loop decreases-loop
-lower-row-requires c κs =
-    let turn = c.before.before in
-    let pre = turn.before.before.before.requires in
-    row_ready pre.0 pre.1 pre.2 turn.before.loop.invariant.0 (omega (arith, turn.loop-test.true)) turn.before.loop.invariant.2 _
+overflow_add-at-in-loop-i : tie.Need-overflow_add-at-in-loop-i invariant-loop-i decreases-loop-i
+overflow_add-at-in-loop-i c = omega (arith, row_inside {k = c.loop-i.i} c.requires.0 (omega (arith, c.loop-i-test.true)), c.loop-i.invariant.0, c.loop-i.invariant.2.long, c.requires.0.long)
 
-add_at : tie.Need-overflow-add-at invariant-loop decreases-loop
-add_at c = omega (arith, room c.before.before.before.before.before)
+overflow_add-i : tie.Need-overflow_add-i invariant-loop-i decreases-loop-i
+overflow_add-i c = search rules
 
-add-i : tie.Need-overflow-add-i invariant-loop decreases-loop
-add-i c = search rules
+loop-i-smaller : tie.Need-loop-i-smaller invariant-loop-i decreases-loop-i
+loop-i-smaller c = search rules
 
-loop-less : tie.Need-loop-smaller invariant-loop decreases-loop
-loop-less c = search rules
-
-loop-again : tie.Need-loop-preserved invariant-loop decreases-loop
-loop-again c =
-    let turn = c.before.before.before.before.before in
-    let at-loop = turn.before in
-    let start = at-loop.before.before in
-    let i = at-loop.loop.i in
-    let in_row : i < start.args.n = omega (arith, turn.loop-test.true, start.requires.1) in
-    let same : area_cell start.args.n at-loop.loop.cells i start.args.k ≡ area_cell start.args.n start.args.cells.now i start.args.k
-    = at-loop.loop.invariant.2.rest i start.args.k (inr (omega arith)) in_row start.requires.1 in (
-      omega (arith, next i start.args.n, at-loop.loop.invariant.0),
-      omega (arith, turn.loop-test.true),
-      rows_more start.requires.0 start.requires.1 start.requires.2 at-loop.loop.invariant.0 in_row at-loop.loop.invariant.2 (omega arith) (rw at-loop.loop.invariant.0 same) c.before.before.lower-row.ensures,
+loop-i-preserved : tie.Need-loop-i-preserved invariant-loop-i decreases-loop-i
+loop-i-preserved c =
+    let i = c.loop-i.i in
+    let in_row : i < c.args.n = omega (arith, c.loop-i-test.true, c.requires.1) in
+    let same : area_cell c.args.n c.loop-i.cells i c.args.k ≡ area_cell c.args.n c.args.cells.now i c.args.k
+    = c.loop-i.invariant.2.rest i c.args.k (inr (omega arith)) in_row c.requires.1 in (
+      omega (arith, next i c.args.n, c.loop-i.invariant.0),
+      omega (arith, c.loop-i-test.true),
+      rows_more c.requires.0 c.requires.1 c.requires.2 c.loop-i.invariant.0 in_row c.loop-i.invariant.2 (omega arith) (rw c.loop-i.invariant.0 same) c.lower_row.ensures,
     )
 
-same_length : tie.Need-same-length invariant-loop decreases-loop
-same_length c = search rules
+shape_of-cells : tie.Need-shape_of-cells invariant-loop-i decreases-loop-i
+shape_of-cells c = search rules
 
-returns : tie.Need-returns invariant-loop decreases-loop
+returns : tie.Need-returns invariant-loop-i decreases-loop-i
 returns c =
-    let start = c.before.before.before in
-    let n = start.args.n in
-    let k = start.args.k in
-    let cells = start.args.cells.now in
-    let e : c.before.loop.i ≡ k = omega arith in
-    subst (λ (i : ℕ). RowsLowered n k 0 i (λ x. area_cell n cells x k) cells c.before.loop.cells) e c.before.loop.invariant.2
+    let n = c.args.n in
+    let k = c.args.k in
+    let cells = c.args.cells.now in
+    let e : c.loop-i.i ≡ k = omega arith in
+    subst (λ (i : ℕ). RowsLowered n k 0 i (λ x. area_cell n cells x k) cells c.loop-i.cells) e c.loop-i.invariant.2
 
 pub lower_earlier_spec : {M : Type 1} → statement M
 lower_earlier_spec =
     tie.close
     (tie.spec
-    invariant-loop
-    decreases-loop
-    loop-holds
-    add-lower-row
-    mul-lower-row
-    slice-read-lower-row
-    lower-row-requires
-    add_at
-    add-i
-    loop-less
-    loop-again
-    same_length
+    invariant-loop-i
+    decreases-loop-i
+    loop-i-init
+    overflow_add-at
+    offset_bounds-cells-at
+    bounds-cells-at
+    lower_row-requires
+    overflow_add-at-in-loop-i
+    overflow_add-i
+    loop-i-smaller
+    loop-i-preserved
+    shape_of-cells
     returns)

@@ -9,95 +9,95 @@ use borrow.Author.Rules.{rules}
 use Rattle.distance.proofs.rows.lower_row.Statement.{statement}
 use Rattle.distance.proofs.rows.lower_row.Tie as tie
 
-abbrev invariant-loop : tie.invariant-loop
-invariant-loop n d at by cells₀ j₀ cells j = (j ≤ n) × (d < limit) × RowLowered d at j by cells₀ cells
+abbrev invariant-loop-j : tie.invariant-loop-j
+invariant-loop-j n d at by cells₀ j₀ cells j = (j ≤ n) × (d < limit) × RowLowered d at j by cells₀ cells
 
-abbrev decreases-loop : tie.decreases-loop
-decreases-loop n d at by cells₀ j₀ cells j = n - j
+abbrev decreases-loop-j : tie.decreases-loop-j
+decreases-loop-j n d at by cells₀ j₀ cells j = n - j
 
-returns : tie.Need-returns invariant-loop decreases-loop
-returns c = row_far c.before.before.requires c.if1.true
+returns-then-d-ge-LIMIT : tie.Need-returns-then-d-ge-LIMIT invariant-loop-j decreases-loop-j
+returns-then-d-ge-LIMIT c = row_far c.requires c.if-d-ge-LIMIT.true
 
-loop-holds : tie.Need-loop-init invariant-loop decreases-loop
-loop-holds c = search rules
+loop-j-init : tie.Need-loop-j-init invariant-loop-j decreases-loop-j
+loop-j-init c = search rules
 
-mul-least : tie.Need-overflow-mul-least invariant-loop decreases-loop
-mul-least c = search rules
+offset_bounds-by-j : tie.Need-offset_bounds-by-j invariant-loop-j decreases-loop-j
+offset_bounds-by-j c = search rules
 
-element-copy-out-least : tie.Need-element-copy-out-least invariant-loop decreases-loop
-element-copy-out-least c = search rules
+bounds-by-j : tie.Need-bounds-by-j invariant-loop-j decreases-loop-j
+bounds-by-j c = search rules
 
-add-least : tie.Need-overflow-add-least invariant-loop decreases-loop
-add-least c =
+overflow_add-d : tie.Need-overflow_add-d invariant-loop-j decreases-loop-j
+overflow_add-d c =
     let at-loop = c.before.before in
-    omega (arith, at-loop.before.before.before.requires.small_by at-loop.loop.j (omega arith))
+    omega (arith, at-loop.requires.small_by at-loop.loop-j.j (omega arith))
 
-add-least-2 : tie.Need-overflow-add-least-2 invariant-loop decreases-loop
-add-least-2 c = search rules
+overflow_add-at : tie.Need-overflow_add-at invariant-loop-j decreases-loop-j
+overflow_add-at c = search rules
 
-mul-least-2 : tie.Need-overflow-mul-least-2 invariant-loop decreases-loop
-mul-least-2 c = search rules
+offset_bounds-cells-at : tie.Need-offset_bounds-cells-at invariant-loop-j decreases-loop-j
+offset_bounds-cells-at c = search rules
 
-slice-read-least : tie.Need-slice-read-least invariant-loop decreases-loop
-slice-read-least c = search rules
+bounds-cells-at : tie.Need-bounds-cells-at invariant-loop-j decreases-loop-j
+bounds-cells-at c = search rules
 
-least-requires : tie.Need-least-requires invariant-loop decreases-loop
+least-requires : tie.Need-least-requires invariant-loop-j decreases-loop-j
 least-requires c κs =
     let at-loop = c.before.before.before in
     let start = at-loop.before.before.before in
-    let j = at-loop.loop.j in
-    omega (arith, start.requires.small_by j (omega arith), start.requires.small j (omega arith), at-loop.loop.invariant.2.rest (start.args.at + j) (λ i h p. omega arith))
+    let j = at-loop.loop-j.j in
+    omega (arith, start.requires.small_by j (omega arith), start.requires.small j (omega arith), at-loop.loop-j.invariant.2.rest (start.args.at + j) (λ i h p. omega arith))
 
-add-cells : tie.Need-overflow-add-cells invariant-loop decreases-loop
-add-cells c = search rules
+overflow_add-cells : tie.Need-overflow_add-cells invariant-loop-j decreases-loop-j
+overflow_add-cells c = search rules
 
-mul-cells : tie.Need-overflow-mul-cells invariant-loop decreases-loop
-mul-cells c = search rules
+offset_bounds-cells-at-in-loop-j : tie.Need-offset_bounds-cells-at-in-loop-j invariant-loop-j decreases-loop-j
+offset_bounds-cells-at-in-loop-j c = search rules
 
-slice-write-cells : tie.Need-slice-write-cells invariant-loop decreases-loop
-slice-write-cells c = search rules
+bounds-cells-at-in-loop-j : tie.Need-bounds-cells-at-in-loop-j invariant-loop-j decreases-loop-j
+bounds-cells-at-in-loop-j c = search rules
 
-add-j : tie.Need-overflow-add-j invariant-loop decreases-loop
-add-j c = search rules
+overflow_add-j : tie.Need-overflow_add-j invariant-loop-j decreases-loop-j
+overflow_add-j c = search rules
 
-loop-less : tie.Need-loop-smaller invariant-loop decreases-loop
-loop-less c = search rules
+loop-j-smaller : tie.Need-loop-j-smaller invariant-loop-j decreases-loop-j
+loop-j-smaller c = search rules
 
-loop-again : tie.Need-loop-preserved invariant-loop decreases-loop
-loop-again c =
+loop-j-preserved : tie.Need-loop-j-preserved invariant-loop-j decreases-loop-j
+loop-j-preserved c =
     let at-loop = c.before.before.before.before in
     let start = at-loop.before.before.before in
-    let same = at-loop.loop.invariant.2.rest (start.args.at + at-loop.loop.j) (λ i h p. omega arith) in
-    (omega arith, at-loop.loop.invariant.1, row_more (omega (arith, start.requires.inside)) at-loop.loop.invariant.2 (omega (arith, c.least.ensures)))
+    let same = at-loop.loop-j.invariant.2.rest (start.args.at + at-loop.loop-j.j) (λ i h p. omega arith) in
+    (omega arith, at-loop.loop-j.invariant.1, row_more (omega (arith, start.requires.inside)) at-loop.loop-j.invariant.2 (omega (arith, c.least.ensures)))
 
-same_length : tie.Need-same-length invariant-loop decreases-loop
-same_length c = search rules
+shape_of-cells : tie.Need-shape_of-cells invariant-loop-j decreases-loop-j
+shape_of-cells c = search rules
 
-returns-2 : tie.Need-returns-2 invariant-loop decreases-loop
-returns-2 c =
-    let e : c.before.loop.j ≡ c.before.before.before.before.args.n = omega arith in
-    rw e at c.before.loop.invariant.2
+returns : tie.Need-returns invariant-loop-j decreases-loop-j
+returns c =
+    let e : c.loop-j.j ≡ c.args.n = omega arith in
+    rw e at c.loop-j.invariant.2
 
 pub lower_row_spec : {M : Type 1} → statement M
 lower_row_spec =
     tie.close
     (tie.spec
-    invariant-loop
-    decreases-loop
-    returns
-    loop-holds
-    mul-least
-    element-copy-out-least
-    add-least
-    add-least-2
-    mul-least-2
-    slice-read-least
+    invariant-loop-j
+    decreases-loop-j
+    returns-then-d-ge-LIMIT
+    loop-j-init
+    offset_bounds-by-j
+    bounds-by-j
+    overflow_add-d
+    overflow_add-at
+    offset_bounds-cells-at
+    bounds-cells-at
     least-requires
-    add-cells
-    mul-cells
-    slice-write-cells
-    add-j
-    loop-less
-    loop-again
-    same_length
-    returns-2)
+    overflow_add-cells
+    offset_bounds-cells-at-in-loop-j
+    bounds-cells-at-in-loop-j
+    overflow_add-j
+    loop-j-smaller
+    loop-j-preserved
+    shape_of-cells
+    returns)

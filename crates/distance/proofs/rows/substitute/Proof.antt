@@ -1,102 +1,89 @@
 -- `substitute` has substituted the rows of the first k routers.
 -- Assumes nothing.
-use Rattle.distance.specs.Cells.{Limited, Substituted}
+use Rattle.distance.specs.Cells.{Substituted}
 use Rattle.distance.proofs.StoreLaws.{square_few}
 use Rattle.distance.proofs.RowLaws.{row_inside}
 use Rattle.distance.proofs.EliminationLaws.{fallen_limited, stored_copied, substituted_none, substituted_more}
 use mathlib.Core.Path.{◌≡◌, refl, ◌∙◌}
-use Prim.Native.Nat.{◌+◌, ◌-◌, ◌*◌, ◌≤◌}
+use Prim.Native.Nat.{◌-◌, ◌≤◌}
 use native.Mathlib.Omega.{arith}
 use lib.ListN.{length}
 use borrow.Author.Rules.{rules}
 use Rattle.distance.proofs.rows.substitute.Statement.{statement}
 use Rattle.distance.proofs.rows.substitute.Tie as tie
 
-abbrev invariant-loop : tie.invariant-loop
-invariant-loop n cells₀ weights by₀ k₀ cells by k = Substituted n k cells₀ cells × (k ≤ n) × (length by ≡ 64)
+abbrev invariant-loop-k : tie.invariant-loop-k
+invariant-loop-k n cells₀ weights by₀ k₀ cells by k = Substituted n k cells₀ cells × (k ≤ n) × (length by ≡ 64)
 
-abbrev decreases-loop : tie.decreases-loop
-decreases-loop n cells₀ weights by₀ k₀ cells by k = n - k
+abbrev decreases-loop-k : tie.decreases-loop-k
+decreases-loop-k n cells₀ weights by₀ k₀ cells by k = n - k
 
--- the cells are limited, and row k stands in them
-here : (c : tie.In-loop invariant-loop decreases-loop) →
-    let n = c.before.before.before.before.before.before.before.args.n in
-    let cells = c.before.loop.cells in
-    Limited n cells × ((c.before.loop.k * n + n ≤ length cells) × (length cells ≤ 4096))
-here c =
-    let limited = fallen_limited c.before.before.before.before.before.before.before.requires c.before.loop.invariant.0.fallen in
-    (limited, row_inside limited c.loop-test.true)
+overflow_mul-n : tie.Need-overflow_mul-n invariant-loop-k decreases-loop-k
+overflow_mul-n c = search rules
 
-mul-copy-cells : tie.Need-overflow-mul-copy-cells invariant-loop decreases-loop
-mul-copy-cells c = search rules
+slice_bounds-copy_cells-end : tie.Need-slice_bounds-copy_cells-end invariant-loop-k decreases-loop-k
+slice_bounds-copy_cells-end c = search rules
 
-slice-aggregate-copy-cells : tie.Need-slice-aggregate-copy-cells invariant-loop decreases-loop
-slice-aggregate-copy-cells c = search rules
+copy_cells-requires : tie.Need-copy_cells-requires invariant-loop-k decreases-loop-k
+copy_cells-requires c κs =
+    let pre = c.requires in
+    omega (arith, pre.long, square_few c.args.n pre.few)
 
-copy-cells-requires : tie.Need-copy-cells-requires invariant-loop decreases-loop
-copy-cells-requires c κs =
-    let pre = c.before.before.before.requires in
-    omega (arith, pre.long, square_few c.before.before.before.args.n pre.few)
+loop-k-init : tie.Need-loop-k-init invariant-loop-k decreases-loop-k
+loop-k-init c = (substituted_none c.requires.long, omega arith, refl)
 
-loop-holds : tie.Need-loop-init invariant-loop decreases-loop
-loop-holds c = (substituted_none c.before.before.before.before.before.requires.long, omega arith, refl)
+overflow_mul-k : tie.Need-overflow_mul-k invariant-loop-k decreases-loop-k
+overflow_mul-k c = omega (arith, row_inside (fallen_limited c.requires c.loop-k.invariant.0.fallen) c.loop-k-test.true)
 
-mul-copy-cells-2 : tie.Need-overflow-mul-copy-cells-2 invariant-loop decreases-loop
-mul-copy-cells-2 c = omega (arith, (here c).1)
+slice_bounds-copy_cells-end-in-loop-k : tie.Need-slice_bounds-copy_cells-end-in-loop-k invariant-loop-k decreases-loop-k
+slice_bounds-copy_cells-end-in-loop-k c = search rules
 
-slice-aggregate-copy-cells-2 : tie.Need-slice-aggregate-copy-cells-2 invariant-loop decreases-loop
-slice-aggregate-copy-cells-2 c = search rules
+copy_cells-requires-in-loop-k : tie.Need-copy_cells-requires-in-loop-k invariant-loop-k decreases-loop-k
+copy_cells-requires-in-loop-k c κs = ((row_inside (fallen_limited c.requires c.loop-k.invariant.0.fallen) c.loop-k-test.true).0, omega (arith, c.loop-k.invariant.2))
 
-copy-cells-requires-2 : tie.Need-copy-cells-requires-2 invariant-loop decreases-loop
-copy-cells-requires-2 c κs = ((here c.before.before).1.0, omega (arith, c.before.before.before.loop.invariant.2))
+lower_later-requires : tie.Need-lower_later-requires invariant-loop-k decreases-loop-k
+lower_later-requires c κs =
+    (fallen_limited c.requires c.loop-k.invariant.0.fallen, c.loop-k-test.true, record { same = c.copy_cells-in-loop-k.ensures.done })
 
-lower-later-requires : tie.Need-lower-later-requires invariant-loop decreases-loop
-lower-later-requires c κs =
-    let turn = c.before.before.before.before.before.before.before in
-    ((here turn).0, turn.loop-test.true, record { same = c.before.before.before.before.copy-cells2.ensures.done })
+overflow_add-k : tie.Need-overflow_add-k invariant-loop-k decreases-loop-k
+overflow_add-k c = search rules
 
-add-k : tie.Need-overflow-add-k invariant-loop decreases-loop
-add-k c = search rules
+loop-k-smaller : tie.Need-loop-k-smaller invariant-loop-k decreases-loop-k
+loop-k-smaller c = search rules
 
-loop-less : tie.Need-loop-smaller invariant-loop decreases-loop
-loop-less c = search rules
-
-loop-again : tie.Need-loop-preserved invariant-loop decreases-loop
-loop-again c =
-    let turn = c.before.before.before.before.before.before.before.before.before.before in
-    let at-loop = turn.before in
-    let inv = at-loop.loop.invariant in
-    let start = at-loop.before.before.before.before.before.before in
-    let copied = stored_copied start.args.n start.args.cells.now at-loop.before.before.copy-cells.ensures in (
-      substituted_more turn.loop-test.true copied inv.0 c.before.before.lower-later.ensures,
-      omega (arith, turn.loop-test.true),
-      c.before.before.before.before.before.before.before.copy-cells2.ensures.long ∙ inv.2,
+loop-k-preserved : tie.Need-loop-k-preserved invariant-loop-k decreases-loop-k
+loop-k-preserved c =
+    let inv = c.loop-k.invariant in
+    let copied = stored_copied c.args.n c.args.cells.now c.copy_cells.ensures in (
+      substituted_more c.loop-k-test.true copied inv.0 c.lower_later.ensures,
+      omega (arith, c.loop-k-test.true),
+      c.copy_cells-in-loop-k.ensures.long ∙ inv.2,
     )
 
-same_length : tie.Need-same-length invariant-loop decreases-loop
-same_length c = search rules
+shape_of-cells : tie.Need-shape_of-cells invariant-loop-k decreases-loop-k
+shape_of-cells c = search rules
 
-returns : tie.Need-returns invariant-loop decreases-loop
+returns : tie.Need-returns invariant-loop-k decreases-loop-k
 returns c =
-    let e : c.before.loop.k ≡ c.before.before.before.before.before.before.before.args.n = omega arith in
-    rw e at c.before.loop.invariant.0
+    let e : c.loop-k.k ≡ c.args.n = omega arith in
+    rw e at c.loop-k.invariant.0
 
 pub substitute_spec : {M : Type 1} → statement M
 substitute_spec =
     tie.close
     (tie.spec
-    invariant-loop
-    decreases-loop
-    mul-copy-cells
-    slice-aggregate-copy-cells
-    copy-cells-requires
-    loop-holds
-    mul-copy-cells-2
-    slice-aggregate-copy-cells-2
-    copy-cells-requires-2
-    lower-later-requires
-    add-k
-    loop-less
-    loop-again
-    same_length
+    invariant-loop-k
+    decreases-loop-k
+    overflow_mul-n
+    slice_bounds-copy_cells-end
+    copy_cells-requires
+    loop-k-init
+    overflow_mul-k
+    slice_bounds-copy_cells-end-in-loop-k
+    copy_cells-requires-in-loop-k
+    lower_later-requires
+    overflow_add-k
+    loop-k-smaller
+    loop-k-preserved
+    shape_of-cells
     returns)

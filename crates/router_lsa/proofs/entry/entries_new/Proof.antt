@@ -3,7 +3,7 @@
 use borrow.Author.Tests.{not-true, not-false}
 use Rattle.lfa.specs.Lists.{every_below}
 use Rattle.ospf.specs.Lsa.{entry_new}
-use Rattle.metric.specs.Laws.List.{every_fails}
+use Rattle.metric.proofs.Laws.List.{every_fails}
 use Rattle.router_lsa.proofs.EveryLaws.{every_starts, every_more, every_ends}
 use mathlib.Core.Path.{◌≡◌, sym, ◌∙◌}
 use mathlib.Core.Bool.{true}
@@ -13,47 +13,47 @@ use borrow.Author.Rules.{rules}
 use Rattle.router_lsa.proofs.entry.entries_new.Statement.{statement}
 use Rattle.router_lsa.proofs.entry.entries_new.Tie as tie
 
-abbrev invariant-loop : tie.invariant-loop
-invariant-loop l n k₀ k = (k ≤ n) × (every_below (entry_new l) k ≡ true)
+abbrev invariant-loop-k : tie.invariant-loop-k
+invariant-loop-k l n k₀ k = (k ≤ n) × (every_below (entry_new l) k ≡ true)
 
-abbrev decreases-loop : tie.decreases-loop
-decreases-loop l n k₀ k = n - k
+abbrev decreases-loop-k : tie.decreases-loop-k
+decreases-loop-k l n k₀ k = n - k
 
-loop-holds : tie.Need-loop-init invariant-loop decreases-loop
-loop-holds c = (omega arith, every_starts _)
+loop-k-init : tie.Need-loop-k-init invariant-loop-k decreases-loop-k
+loop-k-init c = (omega arith, every_starts _)
 
-entry-new-requires : tie.Need-entry-new-requires invariant-loop decreases-loop
-entry-new-requires c κs = search rules
+entry_new-requires : tie.Need-entry_new-requires invariant-loop-k decreases-loop-k
+entry_new-requires c κs = search rules
 
-returns : tie.Need-returns invariant-loop decreases-loop
-returns c =
-    let l = c.before.before.before.loop in
-    sym (every_fails _ _ l.k c.before.before.loop-test.true (sym c.before.entry_new.ensures ∙ c.if1.true))
+returns-then-not-entry_new : tie.Need-returns-then-not-entry_new invariant-loop-k decreases-loop-k
+returns-then-not-entry_new c =
+    let l = c.loop-k in
+    sym (every_fails _ _ l.k c.loop-k-test.true (sym c.entry_new.ensures ∙ c.if-not-entry_new.true))
 
-add-k : tie.Need-overflow-add-k invariant-loop decreases-loop
-add-k c = search rules
+overflow_add-k : tie.Need-overflow_add-k invariant-loop-k decreases-loop-k
+overflow_add-k c = search rules
 
-loop-less : tie.Need-loop-smaller invariant-loop decreases-loop
-loop-less c = search rules
+loop-k-smaller : tie.Need-loop-k-smaller invariant-loop-k decreases-loop-k
+loop-k-smaller c = search rules
 
-loop-again : tie.Need-loop-preserved invariant-loop decreases-loop
-loop-again c =
-    let l = c.before.before.before.loop in
-    (omega arith, every_more _ l.k l.invariant.1 (sym c.before.entry_new.ensures ∙ c.if1.false))
+loop-k-preserved : tie.Need-loop-k-preserved invariant-loop-k decreases-loop-k
+loop-k-preserved c =
+    let l = c.loop-k in
+    (omega arith, every_more _ l.k l.invariant.1 (sym c.entry_new.ensures ∙ c.if-not-entry_new.false))
 
-returns-2 : tie.Need-returns-2 invariant-loop decreases-loop
-returns-2 c = sym (every_ends _ _ c.before.loop.k c.before.loop.invariant.0 c.loop-test.false c.before.loop.invariant.1)
+returns : tie.Need-returns invariant-loop-k decreases-loop-k
+returns c = sym (every_ends _ _ c.loop-k.k c.loop-k.invariant.0 c.loop-k-test.false c.loop-k.invariant.1)
 
 pub entries_new_spec : {M : Type 1} → statement M
 entries_new_spec =
     tie.close
     (tie.spec
-    invariant-loop
-    decreases-loop
-    loop-holds
-    entry-new-requires
-    returns
-    add-k
-    loop-less
-    loop-again
-    returns-2)
+    invariant-loop-k
+    decreases-loop-k
+    loop-k-init
+    entry_new-requires
+    returns-then-not-entry_new
+    overflow_add-k
+    loop-k-smaller
+    loop-k-preserved
+    returns)

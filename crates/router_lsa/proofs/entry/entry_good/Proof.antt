@@ -6,63 +6,63 @@ use borrow.Author.Rules.{rules}
 use Rattle.router_lsa.proofs.entry.entry_good.Statement.{statement}
 use Rattle.router_lsa.proofs.entry.entry_good.Tie as tie
 
-mul-be32-at : tie.Need-overflow-mul-be32-at
-mul-be32-at c = search rules
+overflow_mul-k : tie.Need-overflow_mul-k
+overflow_mul-k c = search rules
 
-add-be32-at : tie.Need-overflow-add-be32-at
-add-be32-at c = search rules
+overflow_add-k : tie.Need-overflow_add-k
+overflow_add-k c = search rules
 
-be32-at-requires : tie.Need-be32-at-requires
-be32-at-requires c κs = search rules
+be32_at-id-requires : tie.Need-be32_at-id-requires
+be32_at-id-requires c κs = search rules
 
-mul-be16-at : tie.Need-overflow-mul-be16-at
-mul-be16-at c = search rules
+overflow_mul-k-2 : tie.Need-overflow_mul-k-2
+overflow_mul-k-2 c = search rules
 
-add-be16-at : tie.Need-overflow-add-be16-at
-add-be16-at c = search rules
+overflow_add-k-2 : tie.Need-overflow_add-k-2
+overflow_add-k-2 c = search rules
 
-be16-at-requires : tie.Need-be16-at-requires
-be16-at-requires c κs = search rules
+be16_at-metric-requires : tie.Need-be16_at-metric-requires
+be16_at-metric-requires c κs = search rules
 
-mul-link-good : tie.Need-overflow-mul-link-good
-mul-link-good c = search rules
+overflow_mul-k-3 : tie.Need-overflow_mul-k-3
+overflow_mul-k-3 c = search rules
 
-add-link-good : tie.Need-overflow-add-link-good
-add-link-good c = search rules
+overflow_add-k-3 : tie.Need-overflow_add-k-3
+overflow_add-k-3 c = search rules
 
-shared-slice-read-link-good : tie.Need-shared-slice-read-link-good
-shared-slice-read-link-good c = search rules
+bounds-l-k : tie.Need-bounds-l-k
+bounds-l-k c = search rules
 
-mul-link-good-2 : tie.Need-overflow-mul-link-good-2
-mul-link-good-2 c = search rules
+overflow_mul-k-4 : tie.Need-overflow_mul-k-4
+overflow_mul-k-4 c = search rules
 
-add-link-good-2 : tie.Need-overflow-add-link-good-2
-add-link-good-2 c = search rules
+overflow_add-k-4 : tie.Need-overflow_add-k-4
+overflow_add-k-4 c = search rules
 
-shared-slice-read-link-good-2 : tie.Need-shared-slice-read-link-good-2
-shared-slice-read-link-good-2 c = search rules
+bounds-l-k-2 : tie.Need-bounds-l-k-2
+bounds-l-k-2 c = search rules
 
-link-good-requires : tie.Need-link-good-requires
-link-good-requires c κs = search rules
+link_good-requires : tie.Need-link_good-requires
+link_good-requires c κs = search rules
 
 returns : tie.Need-returns
-returns c = c.link_good_lem.ensures ∙ good_entry _ _ _ _ _ c.before.before.before.before.before.before.requires.1 c.before.before.before.before.be32-at.ensures c.before.before.before.be16-at.ensures
+returns c = c.link_good.ensures ∙ good_entry _ _ _ _ _ c.requires.1 c.be32_at-id.ensures c.be16_at-metric.ensures
 
 pub entry_good_spec : {M : Type 1} → statement M
 entry_good_spec =
     tie.close
     (tie.spec
-    mul-be32-at
-    add-be32-at
-    be32-at-requires
-    mul-be16-at
-    add-be16-at
-    be16-at-requires
-    mul-link-good
-    add-link-good
-    shared-slice-read-link-good
-    mul-link-good-2
-    add-link-good-2
-    shared-slice-read-link-good-2
-    link-good-requires
+    overflow_mul-k
+    overflow_add-k
+    be32_at-id-requires
+    overflow_mul-k-2
+    overflow_add-k-2
+    be16_at-metric-requires
+    overflow_mul-k-3
+    overflow_add-k-3
+    bounds-l-k
+    overflow_mul-k-4
+    overflow_add-k-4
+    bounds-l-k-2
+    link_good-requires
     returns)

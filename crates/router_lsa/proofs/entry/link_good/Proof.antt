@@ -5,20 +5,20 @@ use Rattle.router_lsa.proofs.LinkLaws.{link_tos, link_stub, link_other, link_fre
 use Rattle.router_lsa.proofs.entry.link_good.Statement.{statement}
 use Rattle.router_lsa.proofs.entry.link_good.Tie as tie
 
+returns-then-tos-ne0 : tie.Need-returns-then-tos-ne0
+returns-then-tos-ne0 c = link_tos _ _ _ _ _ _ (ne_eqb _ _ c.if-tos-ne0.true)
+
+returns-then-kind-eq3 : tie.Need-returns-then-kind-eq3
+returns-then-kind-eq3 c = link_stub _ _ _ _ _ _ (eq-eqb _ _ c.if-tos-ne0.false) (eq-eqb _ _ c.if-kind-eq3.true)
+
+returns-then-kind-ne1 : tie.Need-returns-then-kind-ne1
+returns-then-kind-ne1 c = link_other _ _ _ _ _ _ (ne_eqb _ _ c.if-kind-eq3.false) (ne_eqb _ _ c.if-kind-ne1.true)
+
+returns-then-metric-eq0 : tie.Need-returns-then-metric-eq0
+returns-then-metric-eq0 c = link_free _ _ _ _ _ _ (ne_eqb _ _ c.if-kind-eq3.false) (eq-eqb _ _ c.if-metric-eq0.true)
+
 returns : tie.Need-returns
-returns c = link_tos _ _ _ _ _ _ (ne_eqb _ _ c.if1.true)
-
-returns-2 : tie.Need-returns-2
-returns-2 c = link_stub _ _ _ _ _ _ (eq-eqb _ _ c.before.if1.false) (eq-eqb _ _ c.if2.true)
-
-returns-3 : tie.Need-returns-3
-returns-3 c = link_other _ _ _ _ _ _ (ne_eqb _ _ c.before.if2.false) (ne_eqb _ _ c.if3.true)
-
-returns-4 : tie.Need-returns-4
-returns-4 c = link_free _ _ _ _ _ _ (ne_eqb _ _ c.before.before.if2.false) (eq-eqb _ _ c.if4.true)
-
-returns-5 : tie.Need-returns-5
-returns-5 c = link_other_end _ _ _ _ _ _ (eq-eqb _ _ c.before.before.before.if1.false) (ne_eqb _ _ c.before.before.if2.false) (eq-eqb _ _ c.before.if3.false) (ne_eqb _ _ c.if4.false)
+returns c = link_other_end _ _ _ _ _ _ (eq-eqb _ _ c.if-tos-ne0.false) (ne_eqb _ _ c.if-kind-eq3.false) (eq-eqb _ _ c.if-kind-ne1.false) (ne_eqb _ _ c.if-metric-eq0.false)
 
 pub link_good_spec : {M : Type 1} → statement M
-link_good_spec = tie.close (tie.spec returns returns-2 returns-3 returns-4 returns-5)
+link_good_spec = tie.close (tie.spec returns-then-tos-ne0 returns-then-kind-eq3 returns-then-kind-ne1 returns-then-metric-eq0 returns)

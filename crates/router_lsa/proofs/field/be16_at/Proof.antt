@@ -8,44 +8,44 @@ use borrow.Author.Rules.{rules}
 use Rattle.router_lsa.proofs.field.be16_at.Statement.{statement}
 use Rattle.router_lsa.proofs.field.be16_at.Tie as tie
 
-returns : tie.Need-returns
-returns c = half_past _ _ c.if1.true
+returns-then-n-at : tie.Need-returns-then-n-at
+returns-then-n-at c = half_past _ _ c.if-n-at.true
 
-add-next : tie.Need-overflow-add-next
-add-next c = search rules
+overflow_add-next : tie.Need-overflow_add-next
+overflow_add-next c = search rules
 
-shared-slice-read-half : tie.Need-shared-slice-read-half
-shared-slice-read-half c = search rules
+bounds-s-at : tie.Need-bounds-s-at
+bounds-s-at c = search rules
 
 half-requires : tie.Need-half-requires
 half-requires c κs = search rules
 
-returns-2 : tie.Need-returns-2
-returns-2 c = c.half.ensures ∙ half_last _ _ c.before.before.if2.true
+returns-then-n-next : tie.Need-returns-then-n-next
+returns-then-n-next c = c.half.ensures ∙ half_last _ _ c.if-n-next.true
 
-shared-slice-read-half-2 : tie.Need-shared-slice-read-half-2
-shared-slice-read-half-2 c = search rules
+bounds-s-at-2 : tie.Need-bounds-s-at-2
+bounds-s-at-2 c = search rules
 
-shared-slice-read-half-3 : tie.Need-shared-slice-read-half-3
-shared-slice-read-half-3 c = search rules
+bounds-s-next : tie.Need-bounds-s-next
+bounds-s-next c = search rules
 
 half-requires-2 : tie.Need-half-requires-2
 half-requires-2 c κs = search rules
 
-returns-3 : tie.Need-returns-3
+returns : tie.Need-returns
 unfolding be16 byte_at
-returns-3 c = c.half2.ensures
+returns c = c.half-2.ensures
 
 pub be16_at_spec : {M : Type 1} → statement M
 be16_at_spec =
     tie.close
     (tie.spec
-    returns
-    add-next
-    shared-slice-read-half
+    returns-then-n-at
+    overflow_add-next
+    bounds-s-at
     half-requires
-    returns-2
-    shared-slice-read-half-2
-    shared-slice-read-half-3
+    returns-then-n-next
+    bounds-s-at-2
+    bounds-s-next
     half-requires-2
-    returns-3)
+    returns)

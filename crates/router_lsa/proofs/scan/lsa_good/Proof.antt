@@ -7,82 +7,82 @@ use borrow.Author.Rules.{rules}
 use Rattle.router_lsa.proofs.scan.lsa_good.Statement.{statement}
 use Rattle.router_lsa.proofs.scan.lsa_good.Tie as tie
 
-sub-if1 : tie.Need-overflow-sub-if1
-sub-if1 c = search rules
+overflow_sub-run : tie.Need-overflow_sub-run
+overflow_sub-run c = search rules
 
-returns : tie.Need-returns
-returns c = next_short _ _ _ c.before.before.requires.2 c.if1.true
+returns-then-run-at-lt24 : tie.Need-returns-then-run-at-lt24
+returns-then-run-at-lt24 c = next_short _ _ _ c.requires.2 c.if-run-at-lt24.true
 
-add-be16-at : tie.Need-overflow-add-be16-at
-add-be16-at c = search rules
+overflow_add-at : tie.Need-overflow_add-at
+overflow_add-at c = search rules
 
-be16-at-requires : tie.Need-be16-at-requires
-be16-at-requires c κs = search rules
+be16_at-size-requires : tie.Need-be16_at-size-requires
+be16_at-size-requires c κs = search rules
 
-cast-size : tie.Need-overflow-cast-size
-cast-size c = search rules
+overflow_cast-size : tie.Need-overflow_cast-size
+overflow_cast-size c = search rules
 
-returns-2 : tie.Need-returns-2
-returns-2 c = next_small _ _ _ c.before.before.before.before.requires.2 _ c.before.be16-at.ensures c.if2.true
+returns-then-size-lt24 : tie.Need-returns-then-size-lt24
+returns-then-size-lt24 c = next_small _ _ _ c.requires.2 _ c.be16_at-size.ensures c.if-size-lt24.true
 
-sub-if3 : tie.Need-overflow-sub-if3
-sub-if3 c = search rules
+overflow_sub-run-2 : tie.Need-overflow_sub-run-2
+overflow_sub-run-2 c = search rules
 
-returns-3 : tie.Need-returns-3
-returns-3 c = next_cut _ _ _ c.before.before.before.before.before.requires.2 _ c.before.before.be16-at.ensures c.if3.true
+returns-then-run-at : tie.Need-returns-then-run-at
+returns-then-run-at c = next_cut _ _ _ c.requires.2 _ c.be16_at-size.ensures c.if-run-at.true
 
-add-end : tie.Need-overflow-add-end
-add-end c = search rules
+overflow_add-end : tie.Need-overflow_add-end
+overflow_add-end c = search rules
 
-sub-l : tie.Need-overflow-sub-l
-sub-l c = search rules
+slice_bounds-l-count : tie.Need-slice_bounds-l-count
+slice_bounds-l-count c = search rules
 
-part-l-start : tie.Need-slice-bounds-l-start
-part-l-start c = search rules
+slice_bounds-l-start : tie.Need-slice_bounds-l-start
+slice_bounds-l-start c = search rules
 
-part-l-end : tie.Need-slice-bounds-l-end
-part-l-end c = search rules
+slice_bounds-l-end : tie.Need-slice_bounds-l-end
+slice_bounds-l-end c = search rules
 
-sound-lsa-requires : tie.Need-sound-lsa-requires
-sound-lsa-requires c κs = (
-  omega (arith, cut_long _ _ _ c.before.before.before.before.before.before.requires.2 _ c.before.before.before.be16-at.ensures c.before.before.if2.false (omega (arith, c.before.if3.false, c.before.before.before.before.before.before.requires.3)), c.before.before.if2.false),
-  part_uncut _ _ _ c.before.before.before.before.before.before.requires.2 _ c.before.before.before.be16-at.ensures c.before.before.if2.false (omega (arith, c.before.if3.false, c.before.before.before.before.before.before.requires.3)),
+sound_lsa-requires : tie.Need-sound_lsa-requires
+sound_lsa-requires c κs = (
+  omega (arith, cut_long _ _ _ c.requires.2 _ c.be16_at-size.ensures c.if-size-lt24.false (omega (arith, c.if-run-at.false, c.requires.3)), c.if-size-lt24.false),
+  part_uncut _ _ _ c.requires.2 _ c.be16_at-size.ensures c.if-size-lt24.false (omega (arith, c.if-run-at.false, c.requires.3)),
 )
 
-returns-4 : tie.Need-returns-4
-returns-4 c = next_unsound _ _ _ c.before.before.before.before.before.before.before.before.requires.2 _ c.before.before.before.before.before.be16-at.ensures c.before.before.before.before.if2.false (omega (arith, c.before.before.before.if3.false, c.before.before.before.before.before.before.before.before.requires.3)) _ c.before.sound-lsa.ensures (c.if4.true)
+returns-then-not-sound_lsa : tie.Need-returns-then-not-sound_lsa
+returns-then-not-sound_lsa c = next_unsound _ _ _ c.requires.2 _ c.be16_at-size.ensures c.if-size-lt24.false (omega (arith, c.if-run-at.false, c.requires.3)) _ c.sound_lsa.ensures (c.if-not-sound_lsa.true)
 
-be32-at-requires : tie.Need-be32-at-requires
-be32-at-requires c κs = search rules
+be32_at-requires : tie.Need-be32_at-requires
+be32_at-requires c κs = search rules
 
-router-new-requires : tie.Need-router-new-requires
-router-new-requires c κs = search rules
+router_new-requires : tie.Need-router_new-requires
+router_new-requires c κs = search rules
 
-returns-5 : tie.Need-returns-5
-returns-5 c = next_named _ _ _ c.before.before.before.before.before.before.before.before.before.before.before.requires.2 _ c.before.before.before.before.before.before.before.before.be16-at.ensures c.before.before.before.before.before.before.before.if2.false (omega (arith, c.before.before.before.before.before.before.if3.false, c.before.before.before.before.before.before.before.before.before.before.before.requires.3)) _ _ c.before.before.be32-at.ensures c.before.router-new.ensures (c.if5.true)
+returns-then-not-router_new : tie.Need-returns-then-not-router_new
+returns-then-not-router_new c = next_named _ _ _ c.requires.2 _ c.be16_at-size.ensures c.if-size-lt24.false (omega (arith, c.if-run-at.false, c.requires.3)) _ _ c.be32_at.ensures c.router_new.ensures (c.if-not-router_new.true)
 
-returns-6 : tie.Need-returns-6
-returns-6 c = next_good _ _ _ c.before.before.before.before.before.before.before.before.before.before.before.requires.2 _ c.before.before.before.before.before.before.before.before.be16-at.ensures c.before.before.before.before.before.before.before.if2.false (omega (arith, c.before.before.before.before.before.before.if3.false, c.before.before.before.before.before.before.before.before.before.before.before.requires.3)) _ _ _ c.before.before.before.before.sound-lsa.ensures (c.before.before.before.if4.false) c.before.before.be32-at.ensures c.before.router-new.ensures (c.if5.false)
+returns : tie.Need-returns
+returns c = next_good _ _ _ c.requires.2 _ c.be16_at-size.ensures c.if-size-lt24.false (omega (arith, c.if-run-at.false, c.requires.3)) _ _ _ c.sound_lsa.ensures (c.if-not-sound_lsa.false) c.be32_at.ensures c.router_new.ensures (c.if-not-router_new.false)
 
 pub lsa_good_spec : {M : Type 1} → statement M
 lsa_good_spec =
     tie.close
     (tie.spec
-    sub-if1
-    returns
-    add-be16-at
-    be16-at-requires
-    cast-size
-    returns-2
-    sub-if3
-    returns-3
-    add-end
-    sub-l
-    part-l-start
-    part-l-end
-    sound-lsa-requires
-    returns-4
-    be32-at-requires
-    router-new-requires
-    returns-5
-    returns-6)
+    overflow_sub-run
+    returns-then-run-at-lt24
+    overflow_add-at
+    be16_at-size-requires
+    overflow_cast-size
+    returns-then-size-lt24
+    overflow_sub-run-2
+    returns-then-run-at
+    overflow_add-end
+    slice_bounds-l-count
+    slice_bounds-l-start
+    slice_bounds-l-end
+    sound_lsa-requires
+    returns-then-not-sound_lsa
+    be32_at-requires
+    router_new-requires
+    returns-then-not-router_new
+    returns)

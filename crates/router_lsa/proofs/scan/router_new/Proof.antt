@@ -6,26 +6,26 @@ use borrow.Author.Rules.{rules}
 use Rattle.router_lsa.proofs.scan.router_new.Statement.{statement}
 use Rattle.router_lsa.proofs.scan.router_new.Tie as tie
 
-held-of-requires : tie.Need-held-of-requires
-held-of-requires c κs = search rules
+held_of-held-requires : tie.Need-held_of-held-requires
+held_of-held-requires c κs = search rules
 
-new-among-requires : tie.Need-new-among-requires
-new-among-requires c κs = search rules
+new_among-requires : tie.Need-new_among-requires
+new_among-requires c κs = search rules
 
-returns : tie.Need-returns
-returns c =
+returns-then-not-new_among : tie.Need-returns-then-not-new_among
+returns-then-not-new_among c =
     let start = c.before.before.before.before in
-    named_first _ _ _ _ _ start.requires.1 _ c.before.before.held_of.ensures _ c.before.new-among.ensures (c.if1.true)
+    named_first _ _ _ _ _ start.requires.1 _ c.held_of-held.ensures _ c.new_among.ensures (c.if-not-new_among.true)
 
-new-later-requires : tie.Need-new-later-requires
-new-later-requires c κs =
+new_later-requires : tie.Need-new_later-requires
+new_later-requires c κs =
     let start = c.before.before.before.before in
-    let r = later_ready _ _ _ _ _ start.requires.1 _ c.before.before.held_of.ensures _ c.before.new-among.ensures (c.if1.false) in
+    let r = later_ready _ _ _ _ _ start.requires.1 _ c.held_of-held.ensures _ c.new_among.ensures (c.if-not-new_among.false) in
     (start.requires.0, r.0, r.1, r.2)
 
-returns-2 : tie.Need-returns-2
-returns-2 c = search rules
+returns : tie.Need-returns
+returns c = search rules
 
 pub router_new_spec : {M : Type 1} → statement M
 router_new_spec =
-    tie.close (tie.spec held-of-requires new-among-requires returns new-later-requires returns-2)
+    tie.close (tie.spec held_of-held-requires new_among-requires returns-then-not-new_among new_later-requires returns)

@@ -40,8 +40,8 @@ loop-class-preserved c =
     let l = at-loop.loop-class in
     let ranks = at-loop.args.ranks.now in
     ⊎_elim
-    (λ w. (omega arith, omega (arith, w.1), w.1 ∙ ap (λ k. k + 1) l.invariant.2 ∙ given_also ranks _ l.class w.0.taken))
-    (λ w. (omega arith, omega (arith, w.1), w.1 ∙ l.invariant.2 ∙ given_not ranks _ l.class w.0.left))
+    (λ w. (omega arith, omega (arith, w.given-is), w.given-is ∙ ap (λ k. k + 1) l.invariant.2 ∙ given_also ranks _ l.class w.if-ranks-class.true))
+    (λ w. (omega arith, omega (arith, w.given-is), w.given-is ∙ l.invariant.2 ∙ given_not ranks _ l.class w.if-ranks-class.false))
     c.if-ranks-class.branch-raw
 
 returns : tie.Need-returns invariant-loop-class decreases-loop-class

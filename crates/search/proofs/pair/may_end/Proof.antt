@@ -2,7 +2,7 @@
 -- Assumes nothing.
 use borrow.Author.Tests.{eq-eqb, ne_eqb}
 use borrow.Author.Rules.{rules}
-use Rattle.metric.specs.Laws.Set.{has_bit, has_no_bit}
+use Rattle.metric.proofs.Laws.Set.{has_bit, has_no_bit}
 use Rattle.search.proofs.pair.may_end.Statement.{statement}
 use Rattle.search.proofs.pair.may_end.Tie as tie
 

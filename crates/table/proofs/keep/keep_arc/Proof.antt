@@ -8,61 +8,61 @@ use Rattle.table.proofs.KeepLaws.{arc_under, arc_over, arc_equal}
 use Rattle.table.proofs.keep.keep_arc.Statement.{statement}
 use Rattle.table.proofs.keep.keep_arc.Tie as tie
 
-cost-of-requires : tie.Need-cost-of-requires
-cost-of-requires c κs = search rules
+cost_of-hop-requires : tie.Need-cost_of-hop-requires
+cost_of-hop-requires c κs = search rules
 
-mul-cell : tie.Need-overflow-mul-cell
-mul-cell c = omega (arith, row_few c.before.before.requires.0 c.before.before.requires.1)
+overflow_mul-cell : tie.Need-overflow_mul-cell
+overflow_mul-cell c = omega (arith, row_few c.requires.0 c.requires.1)
 
-add-cell : tie.Need-overflow-add-cell
-add-cell c = omega (arith, cell_few c.before.before.requires.0 c.before.before.requires.1 c.before.before.requires.2)
+overflow_add-cell : tie.Need-overflow_add-cell
+overflow_add-cell c = omega (arith, cell_few c.requires.0 c.requires.1 c.requires.2)
 
-mul-cell-2 : tie.Need-overflow-mul-cell-2
-mul-cell-2 c = omega (arith, cell_few c.before.before.requires.0 c.before.before.requires.1 c.before.before.requires.2)
+offset_bounds-table-a : tie.Need-offset_bounds-table-a
+offset_bounds-table-a c = omega (arith, cell_few c.requires.0 c.requires.1 c.requires.2)
 
-shared-slice-read-cell : tie.Need-shared-slice-read-cell
-shared-slice-read-cell c = let start = c.before.before.before in omega (arith, start.requires.3, digits_lt start.requires.1 start.requires.2)
+bounds-table-a : tie.Need-bounds-table-a
+bounds-table-a c = let start = c.before.before.before in omega (arith, start.requires.3, digits_lt start.requires.1 start.requires.2)
+
+returns-then-hop-cell : tie.Need-returns-then-hop-cell
+returns-then-hop-cell c = arc_under (omega (arith, c.if-hop-cell.true, c.cost_of-hop.ensures))
+
+returns-then-cell-hop : tie.Need-returns-then-cell-hop
+returns-then-cell-hop c = arc_over (omega (arith, c.if-cell-hop.true, c.cost_of-hop.ensures))
+
+offset_bounds-heads-a : tie.Need-offset_bounds-heads-a
+offset_bounds-heads-a c = search rules
+
+bounds-heads-a : tie.Need-bounds-heads-a
+bounds-heads-a c = search rules
+
+overflow_shl-heads : tie.Need-overflow_shl-heads
+overflow_shl-heads c = search rules
+
+offset_bounds-heads-a-2 : tie.Need-offset_bounds-heads-a-2
+offset_bounds-heads-a-2 c = search rules
+
+bounds-heads-a-2 : tie.Need-bounds-heads-a-2
+bounds-heads-a-2 c = search rules
 
 returns : tie.Need-returns
-returns c = arc_under (omega (arith, c.if1.true, c.before.before.cost-of.ensures))
-
-returns-2 : tie.Need-returns-2
-returns-2 c = arc_over (omega (arith, c.if2.true, c.before.before.before.cost-of.ensures))
-
-mul-heads : tie.Need-overflow-mul-heads
-mul-heads c = search rules
-
-element-copy-out-heads : tie.Need-element-copy-out-heads
-element-copy-out-heads c = search rules
-
-shl-heads : tie.Need-overflow-shl-heads
-shl-heads c = search rules
-
-mul-heads-2 : tie.Need-overflow-mul-heads-2
-mul-heads-2 c = search rules
-
-element-write-heads : tie.Need-element-write-heads
-element-write-heads c = search rules
-
-returns-3 : tie.Need-returns-3
-returns-3 c =
+returns c =
     let start = c.before.before.before.before.before.before in
-    arc_equal (omega (arith, c.before.if2.false, c.before.before.if1.false, c.before.before.before.before.cost-of.ensures)) (omega (arith, start.requires.0, start.requires.1, start.requires.4)) (omega (arith, start.requires.0, start.requires.2))
+    arc_equal (omega (arith, c.if-cell-hop.false, c.if-hop-cell.false, c.cost_of-hop.ensures)) (omega (arith, start.requires.0, start.requires.1, start.requires.4)) (omega (arith, start.requires.0, start.requires.2))
 
 pub keep_arc_spec : {M : Type 1} → statement M
 keep_arc_spec =
     tie.close
     (tie.spec
-    cost-of-requires
-    mul-cell
-    add-cell
-    mul-cell-2
-    shared-slice-read-cell
-    returns
-    returns-2
-    mul-heads
-    element-copy-out-heads
-    shl-heads
-    mul-heads-2
-    element-write-heads
-    returns-3)
+    cost_of-hop-requires
+    overflow_mul-cell
+    overflow_add-cell
+    offset_bounds-table-a
+    bounds-table-a
+    returns-then-hop-cell
+    returns-then-cell-hop
+    offset_bounds-heads-a
+    bounds-heads-a
+    overflow_shl-heads
+    offset_bounds-heads-a-2
+    bounds-heads-a-2
+    returns)

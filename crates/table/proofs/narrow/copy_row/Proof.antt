@@ -9,70 +9,70 @@ use Rattle.table.proofs.NarrowLaws.{copied_none, copied_more}
 use Rattle.table.proofs.narrow.copy_row.Statement.{statement}
 use Rattle.table.proofs.narrow.copy_row.Tie as tie
 
-abbrev invariant-loop : tie.invariant-loop
-invariant-loop n by at table cells₀ t₀ cells t = (t ≤ n) × RowCopied t by at table cells₀ cells
+abbrev invariant-loop-t : tie.invariant-loop-t
+invariant-loop-t n by at table cells₀ t₀ cells t = (t ≤ n) × RowCopied t by at table cells₀ cells
 
-abbrev decreases-loop : tie.decreases-loop
-decreases-loop n by at table cells₀ t₀ cells t = n - t
+abbrev decreases-loop-t : tie.decreases-loop-t
+decreases-loop-t n by at table cells₀ t₀ cells t = n - t
 
-loop-holds : tie.Need-loop-init invariant-loop decreases-loop
-loop-holds c = (omega arith, copied_none)
+loop-t-init : tie.Need-loop-t-init invariant-loop-t decreases-loop-t
+loop-t-init c = (omega arith, copied_none)
 
-add-narrow-cell : tie.Need-overflow-add-narrow-cell invariant-loop decreases-loop
-add-narrow-cell c = search rules
+overflow_add-by : tie.Need-overflow_add-by invariant-loop-t decreases-loop-t
+overflow_add-by c = search rules
 
-mul-narrow-cell : tie.Need-overflow-mul-narrow-cell invariant-loop decreases-loop
-mul-narrow-cell c = search rules
+offset_bounds-table-by : tie.Need-offset_bounds-table-by invariant-loop-t decreases-loop-t
+offset_bounds-table-by c = search rules
 
-shared-slice-read-narrow-cell : tie.Need-shared-slice-read-narrow-cell invariant-loop decreases-loop
-shared-slice-read-narrow-cell c = search rules
+bounds-table-by : tie.Need-bounds-table-by invariant-loop-t decreases-loop-t
+bounds-table-by c = search rules
 
-narrow-cell-requires : tie.Need-narrow-cell-requires invariant-loop decreases-loop
-narrow-cell-requires c κs =
+narrow_cell-requires : tie.Need-narrow_cell-requires invariant-loop-t decreases-loop-t
+narrow_cell-requires c κs =
     let turn = c.before in
-    omega (arith, turn.before.before.before.requires.3 turn.before.loop.t turn.loop-test.true)
+    omega (arith, turn.requires.3 turn.loop-t.t turn.loop-t-test.true)
 
-add-cells : tie.Need-overflow-add-cells invariant-loop decreases-loop
-add-cells c = search rules
+overflow_add-cells : tie.Need-overflow_add-cells invariant-loop-t decreases-loop-t
+overflow_add-cells c = search rules
 
-mul-cells : tie.Need-overflow-mul-cells invariant-loop decreases-loop
-mul-cells c = search rules
+offset_bounds-cells-at : tie.Need-offset_bounds-cells-at invariant-loop-t decreases-loop-t
+offset_bounds-cells-at c = search rules
 
-element-write-cells : tie.Need-element-write-cells invariant-loop decreases-loop
-element-write-cells c = search rules
+bounds-cells-at : tie.Need-bounds-cells-at invariant-loop-t decreases-loop-t
+bounds-cells-at c = search rules
 
-add-t : tie.Need-overflow-add-t invariant-loop decreases-loop
-add-t c = search rules
+overflow_add-t : tie.Need-overflow_add-t invariant-loop-t decreases-loop-t
+overflow_add-t c = search rules
 
-loop-less : tie.Need-loop-smaller invariant-loop decreases-loop
-loop-less c = search rules
+loop-t-smaller : tie.Need-loop-t-smaller invariant-loop-t decreases-loop-t
+loop-t-smaller c = search rules
 
-loop-again : tie.Need-loop-preserved invariant-loop decreases-loop
-loop-again c =
+loop-t-preserved : tie.Need-loop-t-preserved invariant-loop-t decreases-loop-t
+loop-t-preserved c =
     let at-loop = c.before.before.before in
-    (omega arith, copied_more (omega arith) at-loop.loop.invariant.1 c.narrow-cell.ensures)
+    (omega arith, copied_more (omega arith) at-loop.loop-t.invariant.1 c.narrow_cell.ensures)
 
-returns : tie.Need-returns invariant-loop decreases-loop
+returns : tie.Need-returns invariant-loop-t decreases-loop-t
 returns c =
-    let a = c.before.before.before.args in
-    let e : c.before.loop.t ≡ a.n = omega arith in
-    subst (λ (t : ℕ). RowCopied t a.by a.at a.table.now a.cells.now c.before.loop.cells) e c.before.loop.invariant.1
+    let a = c.args in
+    let e : c.loop-t.t ≡ a.n = omega arith in
+    subst (λ (t : ℕ). RowCopied t a.by a.at a.table.now a.cells.now c.loop-t.cells) e c.loop-t.invariant.1
 
 pub copy_row_spec : {M : Type 1} → statement M
 copy_row_spec =
     tie.close
     (tie.spec
-    invariant-loop
-    decreases-loop
-    loop-holds
-    add-narrow-cell
-    mul-narrow-cell
-    shared-slice-read-narrow-cell
-    narrow-cell-requires
-    add-cells
-    mul-cells
-    element-write-cells
-    add-t
-    loop-less
-    loop-again
+    invariant-loop-t
+    decreases-loop-t
+    loop-t-init
+    overflow_add-by
+    offset_bounds-table-by
+    bounds-table-by
+    narrow_cell-requires
+    overflow_add-cells
+    offset_bounds-cells-at
+    bounds-cells-at
+    overflow_add-t
+    loop-t-smaller
+    loop-t-preserved
     returns)

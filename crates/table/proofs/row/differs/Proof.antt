@@ -4,11 +4,11 @@ use Rattle.table.proofs.CellLaws.{differs_none, differs_one}
 use Rattle.table.proofs.row.differs.Statement.{statement}
 use Rattle.table.proofs.row.differs.Tie as tie
 
-returns : tie.Need-returns
-returns c = differs_none c.if1.true
+returns-then-a-b : tie.Need-returns-then-a-b
+returns-then-a-b c = differs_none c.if-a-b.true
 
-returns-2 : tie.Need-returns-2
-returns-2 c = differs_one c.if1.false
+returns-else-a-b : tie.Need-returns-else-a-b
+returns-else-a-b c = differs_one c.if-a-b.false
 
 pub differs_spec : {M : Type 1} → statement M
-differs_spec = tie.close (tie.spec returns returns-2)
+differs_spec = tie.close (tie.spec returns-then-a-b returns-else-a-b)

@@ -9,90 +9,90 @@ use Rattle.table.proofs.RowLaws.{low_none, low_more}
 use Rattle.table.proofs.row.lower.Statement.{statement}
 use Rattle.table.proofs.row.lower.Tie as tie
 
-abbrev invariant-loop : tie.invariant-loop
-invariant-loop cost head cells sums₀ by t₀ sums t = (t ≤ 64) × SumsLowered cost head t cells sums₀ sums
+abbrev invariant-loop-t : tie.invariant-loop-t
+invariant-loop-t cost head cells sums₀ by t₀ sums t = (t ≤ 64) × SumsLowered cost head t cells sums₀ sums
 
-abbrev decreases-loop : tie.decreases-loop
-decreases-loop cost head cells sums₀ by t₀ sums t = 64 - t
+abbrev decreases-loop-t : tie.decreases-loop-t
+decreases-loop-t cost head cells sums₀ by t₀ sums t = 64 - t
 
-mul-by : tie.Need-overflow-mul-by invariant-loop decreases-loop
-mul-by c = search rules
+overflow_mul-by : tie.Need-overflow_mul-by invariant-loop-t decreases-loop-t
+overflow_mul-by c = search rules
 
-loop-holds : tie.Need-loop-init invariant-loop decreases-loop
-loop-holds c = (omega arith, low_none)
+loop-t-init : tie.Need-loop-t-init invariant-loop-t decreases-loop-t
+loop-t-init c = (omega arith, low_none)
 
-mul-least : tie.Need-overflow-mul-least invariant-loop decreases-loop
-mul-least c = search rules
+offset_bounds-sums-t : tie.Need-offset_bounds-sums-t invariant-loop-t decreases-loop-t
+offset_bounds-sums-t c = search rules
 
-element-copy-out-least : tie.Need-element-copy-out-least invariant-loop decreases-loop
-element-copy-out-least c = search rules
+bounds-sums-t : tie.Need-bounds-sums-t invariant-loop-t decreases-loop-t
+bounds-sums-t c = search rules
 
-add-least : tie.Need-overflow-add-least invariant-loop decreases-loop
-add-least c = search rules
+overflow_add-by : tie.Need-overflow_add-by invariant-loop-t decreases-loop-t
+overflow_add-by c = search rules
 
-mul-least-2 : tie.Need-overflow-mul-least-2 invariant-loop decreases-loop
-mul-least-2 c = search rules
+offset_bounds-cells-by : tie.Need-offset_bounds-cells-by invariant-loop-t decreases-loop-t
+offset_bounds-cells-by c = search rules
 
-element-copy-out-least-2 : tie.Need-element-copy-out-least-2 invariant-loop decreases-loop
-element-copy-out-least-2 c = search rules
+bounds-cells-by : tie.Need-bounds-cells-by invariant-loop-t decreases-loop-t
+bounds-cells-by c = search rules
 
-add-least-2 : tie.Need-overflow-add-least-2 invariant-loop decreases-loop
-add-least-2 c =
+overflow_add-cost : tie.Need-overflow_add-cost invariant-loop-t decreases-loop-t
+overflow_add-cost c =
     let turn = c.before.before in
     let start = turn.before.before in
-    omega (arith, start.requires.0, start.requires.2 start.args.head turn.before.loop.t start.requires.1 turn.loop-test.true)
+    omega (arith, start.requires.0, start.requires.2 start.args.head turn.loop-t.t start.requires.1 turn.loop-t-test.true)
 
-least-requires : tie.Need-least-requires invariant-loop decreases-loop
+least-requires : tie.Need-least-requires invariant-loop-t decreases-loop-t
 least-requires c κs =
     let turn = c.before.before in
     let start = turn.before.before in
-    let t = turn.before.loop.t in
-    let t-in = turn.loop-test.true in (
-      omega (arith, turn.before.loop.invariant.1.rest t (omega arith), start.requires.3.most t t-in),
+    let t = turn.loop-t.t in
+    let t-in = turn.loop-t-test.true in (
+      omega (arith, turn.loop-t.invariant.1.rest t (omega arith), start.requires.3.most t t-in),
       omega (arith, start.requires.0, start.requires.2 start.args.head t start.requires.1 t-in),
     )
 
-mul-sums : tie.Need-overflow-mul-sums invariant-loop decreases-loop
-mul-sums c = search rules
+offset_bounds-sums-t-in-loop-t : tie.Need-offset_bounds-sums-t-in-loop-t invariant-loop-t decreases-loop-t
+offset_bounds-sums-t-in-loop-t c = search rules
 
-element-write-sums : tie.Need-element-write-sums invariant-loop decreases-loop
-element-write-sums c = search rules
+bounds-sums-t-in-loop-t : tie.Need-bounds-sums-t-in-loop-t invariant-loop-t decreases-loop-t
+bounds-sums-t-in-loop-t c = search rules
 
-add-t : tie.Need-overflow-add-t invariant-loop decreases-loop
-add-t c = search rules
+overflow_add-t : tie.Need-overflow_add-t invariant-loop-t decreases-loop-t
+overflow_add-t c = search rules
 
-loop-less : tie.Need-loop-smaller invariant-loop decreases-loop
-loop-less c = search rules
+loop-t-smaller : tie.Need-loop-t-smaller invariant-loop-t decreases-loop-t
+loop-t-smaller c = search rules
 
-loop-again : tie.Need-loop-preserved invariant-loop decreases-loop
-loop-again c =
+loop-t-preserved : tie.Need-loop-t-preserved invariant-loop-t decreases-loop-t
+loop-t-preserved c =
     let turn = c.before.before.before in
-    (omega arith, low_more (omega (arith, turn.before.before.requires.3.long)) turn.before.loop.invariant.1 c.least.ensures)
+    (omega arith, low_more (omega (arith, turn.requires.3.long)) turn.loop-t.invariant.1 c.least.ensures)
 
-returns : tie.Need-returns invariant-loop decreases-loop
+returns : tie.Need-returns invariant-loop-t decreases-loop-t
 returns c =
-    let a = c.before.before.args in
-    let e : c.before.loop.t ≡ 64 = omega arith in
-    subst (λ (t : ℕ). SumsLowered a.cost a.head t a.cells.now a.sums.now c.before.loop.sums) e c.before.loop.invariant.1
+    let a = c.args in
+    let e : c.loop-t.t ≡ 64 = omega arith in
+    subst (λ (t : ℕ). SumsLowered a.cost a.head t a.cells.now a.sums.now c.loop-t.sums) e c.loop-t.invariant.1
 
 pub lower_spec : {M : Type 1} → statement M
 lower_spec =
     tie.close
     (tie.spec
-    invariant-loop
-    decreases-loop
-    mul-by
-    loop-holds
-    mul-least
-    element-copy-out-least
-    add-least
-    mul-least-2
-    element-copy-out-least-2
-    add-least-2
+    invariant-loop-t
+    decreases-loop-t
+    overflow_mul-by
+    loop-t-init
+    offset_bounds-sums-t
+    bounds-sums-t
+    overflow_add-by
+    offset_bounds-cells-by
+    bounds-cells-by
+    overflow_add-cost
     least-requires
-    mul-sums
-    element-write-sums
-    add-t
-    loop-less
-    loop-again
+    offset_bounds-sums-t-in-loop-t
+    bounds-sums-t-in-loop-t
+    overflow_add-t
+    loop-t-smaller
+    loop-t-preserved
     returns)

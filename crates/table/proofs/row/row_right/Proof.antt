@@ -11,84 +11,85 @@ use Rattle.table.proofs.BitLaws.{Taken, taken}
 use Rattle.table.proofs.row.row_right.Statement.{statement}
 use Rattle.table.proofs.row.row_right.Tie as tie
 
-abbrev invariant-loop : tie.invariant-loop
-invariant-loop x heads starts cells sums₀ rest₀ sums rest = (rest < 2 ^ 64) × RowSums x heads rest cells sums
+abbrev invariant-loop-rest : tie.invariant-loop-rest
+invariant-loop-rest x heads starts cells sums₀ rest₀ sums rest = (rest < 2 ^ 64) × RowSums x heads rest cells sums
 
-abbrev decreases-loop : tie.decreases-loop
-decreases-loop x heads starts cells sums₀ rest₀ sums rest = rest
+abbrev decreases-loop-rest : tie.decreases-loop-rest
+decreases-loop-rest x heads starts cells sums₀ rest₀ sums rest = rest
 
--- a turn takes the lowest bit
-head : (c : tie.In-loop invariant-loop decreases-loop) → Taken c.before.loop.rest (bit_and c.before.loop.rest (c.before.loop.rest - 1)) (count_trailing_zeros 64 c.before.loop.rest)
-head c = taken c.before.loop.rest (λ e. omega arith) c.before.loop.invariant.0
+first_sums-sums-requires : tie.Need-first_sums-sums-requires invariant-loop-rest decreases-loop-rest
+first_sums-sums-requires c κs = search rules
 
-first-sums-requires : tie.Need-first-sums-requires invariant-loop decreases-loop
-first-sums-requires c κs = search rules
+loop-rest-init : tie.Need-loop-rest-init invariant-loop-rest decreases-loop-rest
+loop-rest-init c =
+    (omega arith, rw c.first_sums-sums.ensures (sums_first c.args.cells.now c.requires.0))
 
-loop-holds : tie.Need-loop-init invariant-loop decreases-loop
-loop-holds c =
-    let start = c.before in
-    (omega arith, rw c.first-sums.ensures (sums_first start.args.cells.now start.requires.0))
+overflow_cast-head : tie.Need-overflow_cast-head invariant-loop-rest decreases-loop-rest
+overflow_cast-head c =
+    let head : Taken c.loop-rest.rest (bit_and c.loop-rest.rest (c.loop-rest.rest - 1)) (count_trailing_zeros 64 c.loop-rest.rest) = taken c.loop-rest.rest (λ e. omega arith) c.loop-rest.invariant.0 in
+    omega (arith, head.in_row)
 
-cast-head : tie.Need-overflow-cast-head invariant-loop decreases-loop
-cast-head c = omega (arith, (head c).in_row)
+overflow_sub-rest : tie.Need-overflow_sub-rest invariant-loop-rest decreases-loop-rest
+overflow_sub-rest c = omega arith
 
-sub-rest : tie.Need-overflow-sub-rest invariant-loop decreases-loop
-sub-rest c = omega arith
+overflow_mul-x : tie.Need-overflow_mul-x invariant-loop-rest decreases-loop-rest
+overflow_mul-x c = search rules
 
-mul-lower : tie.Need-overflow-mul-lower invariant-loop decreases-loop
-mul-lower c = search rules
+overflow_add-x : tie.Need-overflow_add-x invariant-loop-rest decreases-loop-rest
+overflow_add-x c =
+    let head : Taken c.loop-rest.rest (bit_and c.loop-rest.rest (c.loop-rest.rest - 1)) (count_trailing_zeros 64 c.loop-rest.rest) = taken c.loop-rest.rest (λ e. omega arith) c.loop-rest.invariant.0 in
+    omega (arith, head.in_row)
 
-add-lower : tie.Need-overflow-add-lower invariant-loop decreases-loop
-add-lower c = omega (arith, (head c).in_row)
+offset_bounds-cells-x : tie.Need-offset_bounds-cells-x invariant-loop-rest decreases-loop-rest
+offset_bounds-cells-x c =
+    let head : Taken c.loop-rest.rest (bit_and c.loop-rest.rest (c.loop-rest.rest - 1)) (count_trailing_zeros 64 c.loop-rest.rest) = taken c.loop-rest.rest (λ e. omega arith) c.loop-rest.invariant.0 in
+    omega (arith, head.in_row)
 
-mul-lower-2 : tie.Need-overflow-mul-lower-2 invariant-loop decreases-loop
-mul-lower-2 c = omega (arith, (head c).in_row)
+bounds-cells-x : tie.Need-bounds-cells-x invariant-loop-rest decreases-loop-rest
+bounds-cells-x c =
+    let head : Taken c.loop-rest.rest (bit_and c.loop-rest.rest (c.loop-rest.rest - 1)) (count_trailing_zeros 64 c.loop-rest.rest) = taken c.loop-rest.rest (λ e. omega arith) c.loop-rest.invariant.0 in
+    omega (arith, c.requires.0, head.in_row)
 
-element-copy-out-lower : tie.Need-element-copy-out-lower invariant-loop decreases-loop
-element-copy-out-lower c = omega (arith, c.before.before.before.requires.0, (head c).in_row)
-
-lower-requires : tie.Need-lower-requires invariant-loop decreases-loop
+lower-requires : tie.Need-lower-requires invariant-loop-rest decreases-loop-rest
 lower-requires c κs =
-    let turn = c.before.before in
-    let start = turn.before.before.before in
-    (start.requires.1 start.args.x _ start.requires.0 (head turn).in_row, (head turn).in_row, start.requires.1, turn.before.loop.invariant.1.little)
+    let head : Taken c.loop-rest.rest (bit_and c.loop-rest.rest (c.loop-rest.rest - 1)) (count_trailing_zeros 64 c.loop-rest.rest) = taken c.loop-rest.rest (λ e. omega arith) c.loop-rest.invariant.0 in
+    (c.requires.1 c.args.x _ c.requires.0 head.in_row, head.in_row, c.requires.1, c.loop-rest.invariant.1.little)
 
-loop-less : tie.Need-loop-smaller invariant-loop decreases-loop
-loop-less c = (head c.before.before.before).fewer
+loop-rest-smaller : tie.Need-loop-rest-smaller invariant-loop-rest decreases-loop-rest
+loop-rest-smaller c =
+    let head : Taken c.loop-rest.rest (bit_and c.loop-rest.rest (c.loop-rest.rest - 1)) (count_trailing_zeros 64 c.loop-rest.rest) = taken c.loop-rest.rest (λ e. omega arith) c.loop-rest.invariant.0 in
+    head.fewer
 
-loop-again : tie.Need-loop-preserved invariant-loop decreases-loop
-loop-again c =
-    let turn = c.before.before.before in
-    let start = turn.before.before.before in
-    (omega (arith, (head turn).fewer), sums_next start.args.cells.now start.requires.0 turn.before.loop.invariant.1 (head turn) refl c.lower.ensures)
+loop-rest-preserved : tie.Need-loop-rest-preserved invariant-loop-rest decreases-loop-rest
+loop-rest-preserved c =
+    let head : Taken c.loop-rest.rest (bit_and c.loop-rest.rest (c.loop-rest.rest - 1)) (count_trailing_zeros 64 c.loop-rest.rest) = taken c.loop-rest.rest (λ e. omega arith) c.loop-rest.invariant.0 in
+    (omega (arith, head.fewer), sums_next c.args.cells.now c.requires.0 c.loop-rest.invariant.1 head refl c.lower.ensures)
 
-same-row-requires : tie.Need-same-row-requires invariant-loop decreases-loop
-same-row-requires c κs = search rules
+same_row-requires : tie.Need-same_row-requires invariant-loop-rest decreases-loop-rest
+same_row-requires c κs = search rules
 
-returns : tie.Need-returns invariant-loop decreases-loop
+returns : tie.Need-returns invariant-loop-rest decreases-loop-rest
 returns c =
-    let at-loop = c.before.before.before in
-    let start = at-loop.before.before in
-    let e : at-loop.loop.rest ≡ 0 = omega arith in
-    sums_told start.args.cells.now start.requires.0 start.requires.1
-    (subst (λ (rest : ℕ). RowSums start.args.x start.args.heads rest start.args.cells.now at-loop.loop.sums) e at-loop.loop.invariant.1) c.same_row.ensures
+    let e : c.loop-rest.rest ≡ 0 = omega arith in
+    sums_told c.args.cells.now c.requires.0 c.requires.1
+    (subst (λ (rest : ℕ). RowSums c.args.x c.args.heads rest c.args.cells.now c.loop-rest.sums) e c.loop-rest.invariant.1) c.same_row.ensures
 
 pub row_right_spec : {M : Type 1} → statement M
 row_right_spec =
     tie.close
     (tie.spec
-    invariant-loop
-    decreases-loop
-    first-sums-requires
-    loop-holds
-    cast-head
-    sub-rest
-    mul-lower
-    add-lower
-    mul-lower-2
-    element-copy-out-lower
+    invariant-loop-rest
+    decreases-loop-rest
+    first_sums-sums-requires
+    loop-rest-init
+    overflow_cast-head
+    overflow_sub-rest
+    overflow_mul-x
+    overflow_add-x
+    offset_bounds-cells-x
+    bounds-cells-x
     lower-requires
-    loop-less
-    loop-again
-    same-row-requires
+    loop-rest-smaller
+    loop-rest-preserved
+    same_row-requires
     returns)

@@ -9,60 +9,60 @@ use Rattle.table.proofs.CellLaws.{summands_more}
 use Rattle.table.proofs.sums.copy_summands.Statement.{statement}
 use Rattle.table.proofs.sums.copy_summands.Tie as tie
 
-abbrev invariant-loop : tie.invariant-loop
-invariant-loop count table cells₀ i₀ cells i = (i ≤ count) × Summands i table cells
+abbrev invariant-loop-i : tie.invariant-loop-i
+invariant-loop-i count table cells₀ i₀ cells i = (i ≤ count) × Summands i table cells
 
-abbrev decreases-loop : tie.decreases-loop
-decreases-loop count table cells₀ i₀ cells i = count - i
+abbrev decreases-loop-i : tie.decreases-loop-i
+decreases-loop-i count table cells₀ i₀ cells i = count - i
 
-loop-holds : tie.Need-loop-init invariant-loop decreases-loop
-loop-holds c = (omega arith, record { long = c.before.requires.2; cell = λ j h. absurd (omega arith) })
+loop-i-init : tie.Need-loop-i-init invariant-loop-i decreases-loop-i
+loop-i-init c = (omega arith, record { long = c.requires.2; cell = λ j h. absurd (omega arith) })
 
-mul-summand-of : tie.Need-overflow-mul-summand-of invariant-loop decreases-loop
-mul-summand-of c = search rules
+offset_bounds-table-i : tie.Need-offset_bounds-table-i invariant-loop-i decreases-loop-i
+offset_bounds-table-i c = search rules
 
-shared-slice-read-summand-of : tie.Need-shared-slice-read-summand-of invariant-loop decreases-loop
-shared-slice-read-summand-of c = search rules
+bounds-table-i : tie.Need-bounds-table-i invariant-loop-i decreases-loop-i
+bounds-table-i c = search rules
 
-summand-of-requires : tie.Need-summand-of-requires invariant-loop decreases-loop
-summand-of-requires c κs = search rules
+summand_of-requires : tie.Need-summand_of-requires invariant-loop-i decreases-loop-i
+summand_of-requires c κs = search rules
 
-mul-cells : tie.Need-overflow-mul-cells invariant-loop decreases-loop
-mul-cells c = search rules
+offset_bounds-cells-i : tie.Need-offset_bounds-cells-i invariant-loop-i decreases-loop-i
+offset_bounds-cells-i c = search rules
 
-element-write-cells : tie.Need-element-write-cells invariant-loop decreases-loop
-element-write-cells c = search rules
+bounds-cells-i : tie.Need-bounds-cells-i invariant-loop-i decreases-loop-i
+bounds-cells-i c = search rules
 
-add-i : tie.Need-overflow-add-i invariant-loop decreases-loop
-add-i c = search rules
+overflow_add-i : tie.Need-overflow_add-i invariant-loop-i decreases-loop-i
+overflow_add-i c = search rules
 
-loop-less : tie.Need-loop-smaller invariant-loop decreases-loop
-loop-less c = search rules
+loop-i-smaller : tie.Need-loop-i-smaller invariant-loop-i decreases-loop-i
+loop-i-smaller c = search rules
 
-loop-again : tie.Need-loop-preserved invariant-loop decreases-loop
-loop-again c =
+loop-i-preserved : tie.Need-loop-i-preserved invariant-loop-i decreases-loop-i
+loop-i-preserved c =
     let at-loop = c.before.before.before in
-    (omega arith, summands_more c.summand-of.result (omega arith) at-loop.loop.invariant.1 c.summand-of.ensures)
+    (omega arith, summands_more c.summand_of.result (omega arith) at-loop.loop-i.invariant.1 c.summand_of.ensures)
 
-returns : tie.Need-returns invariant-loop decreases-loop
+returns : tie.Need-returns invariant-loop-i decreases-loop-i
 returns c =
-    let args = c.before.before.before.args in
-    let e : c.before.loop.i ≡ args.count = omega arith in
-    subst (λ (k : ℕ). Summands k args.table.now c.before.loop.cells) e c.before.loop.invariant.1
+    let args = c.args in
+    let e : c.loop-i.i ≡ args.count = omega arith in
+    subst (λ (k : ℕ). Summands k args.table.now c.loop-i.cells) e c.loop-i.invariant.1
 
 pub copy_summands_spec : {M : Type 1} → statement M
 copy_summands_spec =
     tie.close
     (tie.spec
-    invariant-loop
-    decreases-loop
-    loop-holds
-    mul-summand-of
-    shared-slice-read-summand-of
-    summand-of-requires
-    mul-cells
-    element-write-cells
-    add-i
-    loop-less
-    loop-again
+    invariant-loop-i
+    decreases-loop-i
+    loop-i-init
+    offset_bounds-table-i
+    bounds-table-i
+    summand_of-requires
+    offset_bounds-cells-i
+    bounds-cells-i
+    overflow_add-i
+    loop-i-smaller
+    loop-i-preserved
     returns)

@@ -6,17 +6,17 @@ use Rattle.table.proofs.CellLaws.{least_first, least_second}
 use Rattle.table.proofs.sums.least.Statement.{statement}
 use Rattle.table.proofs.sums.least.Tie as tie
 
-cast-if1 : tie.Need-overflow-cast-if1
-cast-if1 c = search rules
+overflow_cast-a : tie.Need-overflow_cast-a
+overflow_cast-a c = search rules
 
-cast-if1-2 : tie.Need-overflow-cast-if1-2
-cast-if1-2 c = search rules
+overflow_cast-b : tie.Need-overflow_cast-b
+overflow_cast-b c = search rules
 
-returns : tie.Need-returns
-returns c = least_first w32 _ _ c.before.requires.0 c.before.requires.1 c.if1.true
+returns-then-a-b : tie.Need-returns-then-a-b
+returns-then-a-b c = least_first w32 _ _ c.requires.0 c.requires.1 c.if-a-b.true
 
-returns-2 : tie.Need-returns-2
-returns-2 c = least_second w32 _ _ c.before.requires.0 c.before.requires.1 c.if1.false
+returns-else-a-b : tie.Need-returns-else-a-b
+returns-else-a-b c = least_second w32 _ _ c.requires.0 c.requires.1 c.if-a-b.false
 
 pub least_spec : {M : Type 1} → statement M
-least_spec = tie.close (tie.spec cast-if1 cast-if1-2 returns returns-2)
+least_spec = tie.close (tie.spec overflow_cast-a overflow_cast-b returns-then-a-b returns-else-a-b)

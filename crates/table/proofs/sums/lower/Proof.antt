@@ -11,116 +11,116 @@ use Rattle.table.proofs.SumLaws.{row_none, row_more}
 use Rattle.table.proofs.sums.lower.Statement.{statement}
 use Rattle.table.proofs.sums.lower.Tie as tie
 
-abbrev invariant-loop : tie.invariant-loop
-invariant-loop n a b cost cells sums₀ at by hop t₀ sums t = (t ≤ n) × (at + n ≤ 4096) × (by + n ≤ 4096) × RowLowered (form32 n) a b cost t cells sums₀ sums
+abbrev invariant-loop-t : tie.invariant-loop-t
+invariant-loop-t n a b cost cells sums₀ at by hop t₀ sums t = (t ≤ n) × (at + n ≤ 4096) × (by + n ≤ 4096) × RowLowered (form32 n) a b cost t cells sums₀ sums
 
-abbrev decreases-loop : tie.decreases-loop
-decreases-loop n a b cost cells sums₀ at by hop t₀ sums t = n - t
+abbrev decreases-loop-t : tie.decreases-loop-t
+decreases-loop-t n a b cost cells sums₀ at by hop t₀ sums t = n - t
 
-mul_at : tie.Need-overflow-mul-at invariant-loop decreases-loop
-mul_at c = omega (arith, row_few c.requires.2.few c.requires.0)
+overflow_mul-at : tie.Need-overflow_mul-at invariant-loop-t decreases-loop-t
+overflow_mul-at c = omega (arith, row_few c.requires.2.few c.requires.0)
 
-mul-by : tie.Need-overflow-mul-by invariant-loop decreases-loop
-mul-by c = omega (arith, row_few c.requires.2.few c.requires.1)
+overflow_mul-by : tie.Need-overflow_mul-by invariant-loop-t decreases-loop-t
+overflow_mul-by c = omega (arith, row_few c.requires.2.few c.requires.1)
 
-cost-of-requires : tie.Need-cost-of-requires invariant-loop decreases-loop
-cost-of-requires c κs = search rules
+cost_of-hop-requires : tie.Need-cost_of-hop-requires invariant-loop-t decreases-loop-t
+cost_of-hop-requires c κs = search rules
 
-loop-holds : tie.Need-loop-init invariant-loop decreases-loop
-loop-holds c =
-    let few = c.before.requires.2.few in
-    (omega arith, row_few few c.before.requires.0, row_few few c.before.requires.1, row_none)
+loop-t-init : tie.Need-loop-t-init invariant-loop-t decreases-loop-t
+loop-t-init c =
+    let few = c.requires.2.few in
+    (omega arith, row_few few c.requires.0, row_few few c.requires.1, row_none)
 
-add-least : tie.Need-overflow-add-least invariant-loop decreases-loop
-add-least c = search rules
+overflow_add-at : tie.Need-overflow_add-at invariant-loop-t decreases-loop-t
+overflow_add-at c = search rules
 
-mul-least : tie.Need-overflow-mul-least invariant-loop decreases-loop
-mul-least c = search rules
+offset_bounds-sums-at : tie.Need-offset_bounds-sums-at invariant-loop-t decreases-loop-t
+offset_bounds-sums-at c = search rules
 
-element-copy-out-least : tie.Need-element-copy-out-least invariant-loop decreases-loop
-element-copy-out-least c = search rules
+bounds-sums-at : tie.Need-bounds-sums-at invariant-loop-t decreases-loop-t
+bounds-sums-at c = search rules
 
-add-least-2 : tie.Need-overflow-add-least-2 invariant-loop decreases-loop
-add-least-2 c = search rules
+overflow_add-by : tie.Need-overflow_add-by invariant-loop-t decreases-loop-t
+overflow_add-by c = search rules
 
-mul-least-2 : tie.Need-overflow-mul-least-2 invariant-loop decreases-loop
-mul-least-2 c = search rules
+offset_bounds-cells-by : tie.Need-offset_bounds-cells-by invariant-loop-t decreases-loop-t
+offset_bounds-cells-by c = search rules
 
-element-copy-out-least-2 : tie.Need-element-copy-out-least-2 invariant-loop decreases-loop
-element-copy-out-least-2 c = search rules
+bounds-cells-by : tie.Need-bounds-cells-by invariant-loop-t decreases-loop-t
+bounds-cells-by c = search rules
 
-add-least-3 : tie.Need-overflow-add-least-3 invariant-loop decreases-loop
-add-least-3 c =
+overflow_add-hop : tie.Need-overflow_add-hop invariant-loop-t decreases-loop-t
+overflow_add-hop c =
     let turn = c.before.before in
     let start = turn.before.before.before in
-    let t-in = turn.loop-test.true in
-    omega (arith, turn.before.before.cost-of.ensures, start.requires.2.small start.args.b turn.before.loop.t start.requires.1 t-in)
+    let t-in = turn.loop-t-test.true in
+    omega (arith, turn.cost_of-hop.ensures, start.requires.2.small start.args.b turn.loop-t.t start.requires.1 t-in)
 
-least-requires : tie.Need-least-requires invariant-loop decreases-loop
+least-requires : tie.Need-least-requires invariant-loop-t decreases-loop-t
 least-requires c κs =
     let turn = c.before.before in
     let start = turn.before.before.before in
-    let t = turn.before.loop.t in
-    let t-in = turn.loop-test.true in
-    let kept = turn.before.loop.invariant.3.rest start.args.a t t-in (λ _. omega arith) in (
+    let t = turn.loop-t.t in
+    let t-in = turn.loop-t-test.true in
+    let kept = turn.loop-t.invariant.3.rest start.args.a t t-in (λ _. omega arith) in (
       omega (arith, kept, start.requires.3.small start.args.a t start.requires.0 t-in),
-      omega (arith, turn.before.before.cost-of.ensures, start.requires.2.small start.args.b t start.requires.1 t-in),
+      omega (arith, turn.cost_of-hop.ensures, start.requires.2.small start.args.b t start.requires.1 t-in),
     )
 
-add-sums : tie.Need-overflow-add-sums invariant-loop decreases-loop
-add-sums c = search rules
+overflow_add-sums : tie.Need-overflow_add-sums invariant-loop-t decreases-loop-t
+overflow_add-sums c = search rules
 
-mul-sums : tie.Need-overflow-mul-sums invariant-loop decreases-loop
-mul-sums c = search rules
+offset_bounds-sums-at-in-loop-t : tie.Need-offset_bounds-sums-at-in-loop-t invariant-loop-t decreases-loop-t
+offset_bounds-sums-at-in-loop-t c = search rules
 
-element-write-sums : tie.Need-element-write-sums invariant-loop decreases-loop
-element-write-sums c = search rules
+bounds-sums-at-in-loop-t : tie.Need-bounds-sums-at-in-loop-t invariant-loop-t decreases-loop-t
+bounds-sums-at-in-loop-t c = search rules
 
-add-t : tie.Need-overflow-add-t invariant-loop decreases-loop
-add-t c = search rules
+overflow_add-t : tie.Need-overflow_add-t invariant-loop-t decreases-loop-t
+overflow_add-t c = search rules
 
-loop-less : tie.Need-loop-smaller invariant-loop decreases-loop
-loop-less c = search rules
+loop-t-smaller : tie.Need-loop-t-smaller invariant-loop-t decreases-loop-t
+loop-t-smaller c = search rules
 
-loop-again : tie.Need-loop-preserved invariant-loop decreases-loop
-loop-again c =
+loop-t-preserved : tie.Need-loop-t-preserved invariant-loop-t decreases-loop-t
+loop-t-preserved c =
     let turn = c.before.before.before in
     let start = turn.before.before.before in
     let a = start.args in
-    let t = turn.before.loop.t in
-    let inv = turn.before.loop.invariant in
-    let v : c.least.result ≡ min (area_cell a.n turn.before.loop.sums a.a t) (min a.cost 65535 + area_cell a.n a.cells.now a.b t) =
-    omega (arith, c.least.ensures, turn.before.before.cost-of.ensures) in
-    (omega arith, inv.1, inv.2, row_more start.requires.3.few start.requires.3.long start.requires.0 turn.loop-test.true inv.3 v)
+    let t = turn.loop-t.t in
+    let inv = turn.loop-t.invariant in
+    let v : c.least.result ≡ min (area_cell a.n turn.loop-t.sums a.a t) (min a.cost 65535 + area_cell a.n a.cells.now a.b t) =
+    omega (arith, c.least.ensures, turn.cost_of-hop.ensures) in
+    (omega arith, inv.1, inv.2, row_more start.requires.3.few start.requires.3.long start.requires.0 turn.loop-t-test.true inv.3 v)
 
-returns : tie.Need-returns invariant-loop decreases-loop
+returns : tie.Need-returns invariant-loop-t decreases-loop-t
 returns c =
-    let a = c.before.before.before.args in
-    let e : c.before.loop.t ≡ a.n = omega arith in
-    (omega arith, subst (λ (t : ℕ). RowLowered (form32 a.n) a.a a.b a.cost t a.cells.now a.sums.now c.before.loop.sums) e c.before.loop.invariant.3)
+    let a = c.args in
+    let e : c.loop-t.t ≡ a.n = omega arith in
+    (omega arith, subst (λ (t : ℕ). RowLowered (form32 a.n) a.a a.b a.cost t a.cells.now a.sums.now c.loop-t.sums) e c.loop-t.invariant.3)
 
 pub lower_spec : {M : Type 1} → statement M
 lower_spec =
     tie.close
     (tie.spec
-    invariant-loop
-    decreases-loop
-    mul_at
-    mul-by
-    cost-of-requires
-    loop-holds
-    add-least
-    mul-least
-    element-copy-out-least
-    add-least-2
-    mul-least-2
-    element-copy-out-least-2
-    add-least-3
+    invariant-loop-t
+    decreases-loop-t
+    overflow_mul-at
+    overflow_mul-by
+    cost_of-hop-requires
+    loop-t-init
+    overflow_add-at
+    offset_bounds-sums-at
+    bounds-sums-at
+    overflow_add-by
+    offset_bounds-cells-by
+    bounds-cells-by
+    overflow_add-hop
     least-requires
-    add-sums
-    mul-sums
-    element-write-sums
-    add-t
-    loop-less
-    loop-again
+    overflow_add-sums
+    offset_bounds-sums-at-in-loop-t
+    bounds-sums-at-in-loop-t
+    overflow_add-t
+    loop-t-smaller
+    loop-t-preserved
     returns)

@@ -6,17 +6,17 @@ use Rattle.table.specs.Sums.{finite, infinite, real, wrong}
 use Rattle.table.proofs.sums.summand_of.Statement.{statement}
 use Rattle.table.proofs.sums.summand_of.Tie as tie
 
-add-result : tie.Need-overflow-add-result
-add-result c = search rules
+overflow_add-result : tie.Need-overflow_add-result
+overflow_add-result c = search rules
 
-returns : tie.Need-returns
-returns c = real (finite c.if1.true refl)
+returns-then-cell-le-LONGEST : tie.Need-returns-then-cell-le-LONGEST
+returns-then-cell-le-LONGEST c = real (finite c.if-cell-le-LONGEST.true refl)
 
-returns-2 : tie.Need-returns-2
-returns-2 c = real (infinite c.if2.true refl)
+returns-then-cell-eq-UNREACHABLE : tie.Need-returns-then-cell-eq-UNREACHABLE
+returns-then-cell-eq-UNREACHABLE c = real (infinite c.if-cell-eq-UNREACHABLE.true refl)
 
-returns-3 : tie.Need-returns-3
-returns-3 c = wrong c.before.if1.false c.if2.false refl
+returns-else-cell-eq-UNREACHABLE : tie.Need-returns-else-cell-eq-UNREACHABLE
+returns-else-cell-eq-UNREACHABLE c = wrong c.if-cell-le-LONGEST.false c.if-cell-eq-UNREACHABLE.false refl
 
 pub summand_of_spec : {M : Type 1} → statement M
-summand_of_spec = tie.close (tie.spec add-result returns returns-2 returns-3)
+summand_of_spec = tie.close (tie.spec overflow_add-result returns-then-cell-le-LONGEST returns-then-cell-eq-UNREACHABLE returns-else-cell-eq-UNREACHABLE)

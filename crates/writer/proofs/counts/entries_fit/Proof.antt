@@ -9,7 +9,7 @@ use lib.ListN.{get_or}
 use borrow.Author.Tests.{le-leb, lt-leb}
 use borrow.Author.Rules.{rules}
 use Rattle.lfa.proofs.Laws.List.{every_make}
-use Rattle.metric.specs.Laws.List.{every_fails, every_more}
+use Rattle.metric.proofs.Laws.List.{every_fails, every_more}
 use Rattle.writer.proofs.counts.entries_fit.Statement.{statement}
 use Rattle.writer.proofs.counts.entries_fit.Tie as tie
 

@@ -16,7 +16,7 @@ use Rattle.lfa.proofs.Laws.Test.{decide}
 use Rattle.lfa.proofs.Laws.File.Parts.{part_none, parts_join, part_whole}
 use Rattle.ospf.specs.Lsa.{be16, length_field}
 use Rattle.ospf.specs.Run.{begin_of, lsa_bytes, lsa_good, GoodLsa, FirstBad, WholeRun, Scanned, bad_at, whole, scan_from, scan}
-use Rattle.ospf.specs.Laws.Lsa.{good_gives, good_make}
+use Rattle.ospf.proofs.Laws.Lsa.{good_gives, good_make}
 
 -- ---- where the next LSA begins
 
