@@ -4,7 +4,7 @@ use mathlib.Core.Path.{refl, sym, ap, ◌∙◌}
 use Rattle.order.specs.Order.{earliest_in, earlier_of}
 use Rattle.arcs.specs.Arcs.{hop_in}
 use Rattle.search.specs.Choice.{FirstEnd, ordered_at, hop_pairs}
-use Rattle.search.specs.Laws.First.{first_nothing, first_one}
+use Rattle.search.proofs.Laws.First.{first_nothing, first_one}
 use Rattle.search.proofs.EndLaws.{keys_fit}
 use borrow.Author.Rules.{rules}
 use Rattle.search.proofs.pair.over_hop.Statement.{statement}
