@@ -24,23 +24,20 @@ route_asked-asked-requires c κs = search rules
 pose-judged-requires : tie.Need-pose-judged-requires
 pose-judged-requires c κs = search rules
 
-abbrev start : tie.After-pose-judged → tie.Start
-start l = l.before.before.before.before.before.before.before.before.before
-
 -- the rest of the question, and what `pose` tells of it
 abbrev rest : tie.After-pose-judged → Rest
-rest l = let a = (start l).args in record { from = own_fill; file = a.file.now; cells = length a.work-1.now; table = []; before = a.work-1.now }
+rest l = let a = l.args in record { from = own_fill; file = a.file.now; cells = length a.work.now; table = []; before = a.work.now }
 
-put : (l : tie.After-pose-judged) → let a = (start l).args in IsPut (rest l) l.pose-judged.result.turned l.pose-judged.result.network l.pose-judged.new.1.1.0 (length a.buffer-1.now) a.ranks.now a.link a.end a.prefix a.choices.now
+put : (l : tie.After-pose-judged) → let a = l.args in IsPut (rest l) l.pose-judged.result.turned l.pose-judged.result.network l.pose-judged.new.work (length a.buffer.now) a.ranks.now a.link a.end a.prefix a.choices.now
 unfolding route_question question_about call_of source_of work_cells route_numbers byte_at
-put l = let a = (start l).args in record {
+put l = let a = l.args in record {
   bytes = λ i. omega (arith, l.shared_slice_known-1.given i);
-  poses = poses_numbers a.file.now (work_cells (length a.work-1.now)) [] a.choices.now a.ranks.now l.route_asked-asked.ensures (sym l.arranged.ensures) l.pose-judged.ensures.1;
+  poses = poses_numbers a.file.now (work_cells (length a.work.now)) [] a.choices.now a.ranks.now l.route_asked-asked.ensures (sym l.arranged.ensures) l.pose-judged.ensures.1;
   whole = l.pose-judged.ensures.0;
 }
 
 route_over-requires : tie.Need-route_over-requires
-route_over-requires c κs = let l = c.before.before.before.before in (rest l, put l)
+route_over-requires c κs = let l = c.before.before.before in (rest l, put l)
 
 shape_of-work : tie.Need-shape_of-work
 shape_of-work c = search rules
@@ -51,7 +48,7 @@ shape_of-buffer c = search rules
 returns : tie.Need-returns
 unfolding ask_route route_question
 returns c =
-    let l = c.before.before.before.before.before.before.before in
+    let l = c.before.before.before.before.before.before in
     let i = put l in
     let over = c.route_over.ensures (rest l) i in
     record { answered = record { answer_is = over.answer_is; area_is = area_left i.poses i.bytes }; buffer_is = over.buffer_is }

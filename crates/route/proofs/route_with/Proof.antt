@@ -28,24 +28,21 @@ route_asked-asked-requires c κs = search rules
 pose_with-judged-requires : tie.Need-pose_with-judged-requires
 pose_with-judged-requires c κs = search rules
 
-abbrev start : tie.After-pose_with-judged → tie.Start
-start l = l.before.before.before.before.before.before.before.before
-
 -- the rest of the question, and what `pose_with` tells of it
 abbrev rest : tie.After-pose_with-judged → Rest
-rest l = let a = (start l).args in record { from = lent_table; file = a.file.now; cells = length a.table.now; table = a.table.now; before = a.table.now }
+rest l = let a = l.args in record { from = lent_table; file = a.file.now; cells = length a.table.now; table = a.table.now; before = a.table.now }
 
 bytes : (l : tie.After-pose_with-judged) (i : ℕ) → byte_at (rest l).file i < 256
 unfolding byte_at
 bytes l i = omega (arith, l.shared_slice_known-1.given i)
 
-judged : (l : tie.After-pose_with-judged) → let a = (start l).args in
-    Judges (route_question (rest l) (length a.buffer-1.now) a.ranks.now a.link a.end a.prefix a.choices.now) l.pose_with-judged.result.turned (link_part l.pose_with-judged.result.network)
+judged : (l : tie.After-pose_with-judged) → let a = l.args in
+    Judges (route_question (rest l) (length a.buffer.now) a.ranks.now a.link a.end a.prefix a.choices.now) l.pose_with-judged.result.turned (link_part l.pose_with-judged.result.network)
 unfolding route_question question_about call_of source_of table_cells route_numbers
-judged l = let a = (start l).args in
+judged l = let a = l.args in
     judges_numbers a.file.now (table_cells (network_loaded a.file.now) a.table.now) a.table.now a.choices.now a.ranks.now l.route_asked-asked.ensures (sym l.arranged.ensures) l.pose_with-judged.ensures.1
 
-put : (l : tie.After-pose_with-judged) → let a = (start l).args in IsPut (rest l) l.pose_with-judged.result.turned l.pose_with-judged.result.network a.table.now (length a.buffer-1.now) a.ranks.now a.link a.end a.prefix a.choices.now
+put : (l : tie.After-pose_with-judged) → let a = l.args in IsPut (rest l) l.pose_with-judged.result.turned l.pose_with-judged.result.network a.table.now (length a.buffer.now) a.ranks.now a.link a.end a.prefix a.choices.now
 unfolding route_question has_input inputs_of cells_from input_number member_of any_of
 put l = record { bytes = bytes l; poses = poses_table (judged l) refl (bytes l) refl; whole = l.pose_with-judged.ensures.0 }
 

@@ -18,7 +18,7 @@ use Rattle.steps.specs.Laws.Next.{RightEnds}
 use Rattle.steps.specs.Laws.Calls.{nexts_known}
 use Rattle.options.specs.Options.{move_in}
 use Rattle.options.proofs.Laws.Options.{move_known}
-use Rattle.route.proofs.LegLaws.{step_nearer, leg_stops, leg_delivers}
+use Rattle.route.proofs.LegLaws.{step_nearer, leg_stops, leg_delivers, not_going}
 use Rattle.route.proofs.ProgressLaws.{Playing, playing_starts, playing_uses, playing_on, playing_ends}
 use Rattle.route.proofs.play.leg.Statement.{statement}
 use Rattle.route.proofs.play.leg.Tie as tie
@@ -48,18 +48,15 @@ choice-byte-requires c κs = search rules
 
 overflow_add-next : tie.Need-overflow_add-next invariant-loop-x decreases-loop-x
 overflow_add-next c =
-    let l = c.before.before in
-    record { fits = omega (arith, playing_uses l.loop-x.invariant c.if-x-stop.false, l.requires.0.within.few_routers) }
+    record { fits = omega (arith, playing_uses c.loop-x.invariant c.if-x-stop.false, c.requires.0.within.few_routers) }
 
 offset_bounds-nexts-x : tie.Need-offset_bounds-nexts-x invariant-loop-x decreases-loop-x
 offset_bounds-nexts-x c =
-    let l = c.before.before in
-    record { fits = omega (arith, l.loop-x.invariant.inside, l.requires.0.within.few_routers) }
+    record { fits = omega (arith, c.loop-x.invariant.inside, c.requires.0.within.few_routers) }
 
 bounds-nexts-x : tie.Need-bounds-nexts-x invariant-loop-x decreases-loop-x
 bounds-nexts-x c =
-    let l = c.before.before in
-    omega (arith, l.loop-x.invariant.inside, l.requires.0.within.few_routers)
+    omega (arith, c.loop-x.invariant.inside, c.requires.0.within.few_routers)
 
 move_at-taken-requires : tie.Need-move_at-taken-requires invariant-loop-x decreases-loop-x
 move_at-taken-requires c κs = search rules
@@ -72,58 +69,50 @@ enum_told-1 c = search rules
 
 -- the move at router x is the option that the next choice byte takes
 moved : (c : tie.After-move_at-taken invariant-loop-x decreases-loop-x) →
-    let l = c.before.before.before.before in
-    let a = l.args in
-    option_taken (options a.n (arcs_in a.from.now a.to.now a.out.now a.back.now a.links) (held a.n a.dist.now) (slots_in a.at.now a.own.now a.slot a.count) l.loop-x.x)
-    (choice_at a.choices.now l.loop-x.next) ≡ move_in c.move_at-taken.result
+    let a = c.args in
+    option_taken (options a.n (arcs_in a.from.now a.to.now a.out.now a.back.now a.links) (held a.n a.dist.now) (slots_in a.at.now a.own.now a.slot a.count) c.loop-x.x)
+    (choice_at a.choices.now c.loop-x.next) ≡ move_in c.move_at-taken.result
 moved c =
-    let l = c.before.before.before.before in
-    let s = l.before.before.before.before.before.before.before.before in
-    let a = s.args in
-    let net = s.requires.0 in
+    let a = c.args in
+    let net = c.requires.0 in
     let d = held a.n a.dist.now in
     let slots = slots_in a.at.now a.own.now a.slot a.count in
-    let target_is = prefix_known a.n a.dist.now net.within.few_routers net.long a.at.now a.own.now a.slot a.count net.slots l.towards_prefix-target.ensures in
-    let ended : RightEnds a.n slots l.attached_routers-ends.result =
-    record { at = λ y h. ap (λ (set : ℕ). has set y) l.attached_routers-ends.ensures ∙ attached_known a.own.now net.within.few_routers net.slots h } in
-    let right = nexts_known net.within a.out.now a.back.now d slots _ _ _ ended target_is l.next_routers-nexts.ensures in
+    let target_is = prefix_known a.n a.dist.now net.within.few_routers net.long a.at.now a.own.now a.slot a.count net.slots c.towards_prefix-target.ensures in
+    let ended : RightEnds a.n slots c.attached_routers-ends.result =
+    record { at = λ y h. ap (λ (set : ℕ). has set y) c.attached_routers-ends.ensures ∙ attached_known a.own.now net.within.few_routers net.slots h } in
+    let right = nexts_known net.within a.out.now a.back.now d slots _ _ _ ended target_is c.next_routers-nexts.ensures in
     let hops = arcs_in a.from.now a.to.now a.out.now a.back.now a.links in
     ap (option_taken _) (sym c.choice-byte.ensures)
-    ∙ sym (c.move_at-taken.ensures ∙ move_known net.within.few_routers hops (columns_within _ _ _ _ _ a.n net.within) d slots _ target_is _ right _ ended _ _ l.loop-x.invariant.inside)
+    ∙ sym (c.move_at-taken.ensures ∙ move_known net.within.few_routers hops (columns_within _ _ _ _ _ a.n net.within) d slots _ target_is _ right _ ended _ _ c.loop-x.invariant.inside)
 
 -- a step leads to a router that is nearer to the target
 went : (c : tie.In-Go invariant-loop-x decreases-loop-x) →
-    let l = c.before.before.before.before.before.before.before in
-    let a = l.args in
-    let z = c.taken-1.given.0.0 in
+    let a = c.args in
+    let z = c.in-Go.z in
     let d = held a.n a.dist.now in
     let target = slots_in a.at.now a.own.now a.slot a.count in
-    Takes (options a.n (arcs_in a.from.now a.to.now a.out.now a.back.now a.links) d target) a.choices.now l.loop-x.next l.loop-x.x (go z)
-    × (z < a.n) × (measure level d target z < measure level d target l.loop-x.x)
+    Takes (options a.n (arcs_in a.from.now a.to.now a.out.now a.back.now a.links) d target) a.choices.now c.loop-x.next c.loop-x.x (go z)
+    × (z < a.n) × (measure level d target z < measure level d target c.loop-x.x)
 unfolding move_in
 went c =
-    let l = c.before.before.before.before.before.before.before in
-    let s = l.before.before.before.before.before.before.before.before in
-    let net = s.requires.0 in
-    let t = moved c.before.before.before ∙ ap move_in c.taken-1.given.1 in
-    let step = step_nearer s.args.n _ (held s.args.n s.args.dist.now) _ (columns_within _ _ _ _ _ s.args.n net.within) net.descends l.loop-x.x _ t in
+    let a = c.args in
+    let net = c.requires.0 in
+    let t = moved c.before ∙ ap move_in c.in-Go.is in
+    let step = step_nearer a.n _ (held a.n a.dist.now) _ (columns_within _ _ _ _ _ a.n net.within) net.descends c.loop-x.x _ t in
     (t, step.0, step.1)
 
 overflow_cast-buffer : tie.Need-overflow_cast-buffer invariant-loop-x decreases-loop-x
 overflow_cast-buffer c =
-    let l = c.before.before.before.before.before.before.before in
-    record { fits = omega (arith, (went c).1, l.requires.0.within.few_routers) }
+    record { fits = omega (arith, (went c).1, c.requires.0.within.few_routers) }
 
 bounds-buffer-k : tie.Need-bounds-buffer-k invariant-loop-x decreases-loop-x
 bounds-buffer-k c =
-    let l = c.before.before.before.before.before.before.before in
-    omega (arith, l.loop-x.invariant.wrote.same, (playing_on l.loop-x.invariant c.if-x-stop.false (went c).0 (went c).1).0)
+    omega (arith, c.loop-x.invariant.wrote.same, (playing_on c.loop-x.invariant c.if-x-stop.false (went c).0 (went c).1).0)
 
 overflow_add-k : tie.Need-overflow_add-k invariant-loop-x decreases-loop-x
 overflow_add-k c =
-    let l = c.before.before.before.before.before.before.before in
-    let on = playing_on l.loop-x.invariant c.if-x-stop.false (went c).0 (went c).1 in
-    record { fits = omega (arith, on.1, l.requires.0.within.few_routers) }
+    let on = playing_on c.loop-x.invariant c.if-x-stop.false (went c).0 (went c).1 in
+    record { fits = omega (arith, on.1, c.requires.0.within.few_routers) }
 
 loop-x-smaller : tie.Need-loop-x-smaller invariant-loop-x decreases-loop-x
 loop-x-smaller c = (went c).2
@@ -144,9 +133,8 @@ shape_of-buffer-in_default c = c.loop-x.invariant.wrote.same
 returns-in_default : tie.Need-returns-in_default invariant-loop-x decreases-loop-x
 unfolding move_in
 returns-in_default c = λ rs next leg.
-    let l = c.before.before.before.before.before.before in
-    let over = leg_delivers c.if-x-stop.false (moved c.before.before ∙ ap move_in c.enum_told-1.given.1) l.loop-x.invariant.ahead in
-    playing_ends l.loop-x.invariant (over.0, over.1 ∙ sym (add-one _)) leg (omega (arith, l.requires.2.4))
+    let over = leg_delivers c.if-x-stop.false (moved c.before ∙ ap move_in (not_going _ c.in_default.not-Go)) c.loop-x.invariant.ahead in
+    playing_ends c.loop-x.invariant (over.0, over.1 ∙ sym (add-one _)) leg (omega (arith, c.requires.2.4))
 
 pub leg_spec : {M : Type 1} → statement M
 leg_spec =

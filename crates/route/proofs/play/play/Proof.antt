@@ -48,7 +48,7 @@ leg-arrived-requires c κs =
 
 -- the buffer after the first leg
 abbrev then : tie.After-leg-arrived → List ℕ
-then c = c.leg-arrived.new.1.1.1.1.1.1.1.1.1.1.1.1.1.1.1.1.0
+then c = c.leg-arrived.new.buffer
 
 -- the first leg of the route
 gone : (c : tie.After-leg-arrived) →
@@ -56,11 +56,11 @@ gone : (c : tie.After-leg-arrived) →
     let a = s.args in
     let b = set (set a.buffer-1.now 0 a.near) 1 a.hop in
     (route : List ℕ) (r : NamedRoute a.n (arcs_in a.from.now a.to.now a.out.now a.back.now a.links) (held a.n a.dist.now) (slots_in a.at.now a.own.now a.slot a.count) a.choices.now a.near a.hop a.endpoint route) →
-    (c.leg-arrived.result.used ≡ r.used) × (c.leg-arrived.result.written ≡ 2 + length r.tunnel-1) × (then c ≡ (take 2 b ++ r.tunnel-1) ++ drop c.leg-arrived.result.written b)
-gone c route r = let p = c.requires in c.leg-arrived.ensures r.tunnel-1 r.used (tunnel_leg p.0 _ _ _ _ _ _ p.3 r)
+    (c.leg-arrived.result.used ≡ r.used) × (c.leg-arrived.result.written ≡ 2 + length r.tunnel) × (then c ≡ (take 2 b ++ r.tunnel) ++ drop c.leg-arrived.result.written b)
+gone c route r = let p = c.requires in c.leg-arrived.ensures r.tunnel r.used (tunnel_leg p.0 _ _ _ _ _ _ p.3 r)
 
 -- it leaves the buffer's length
-kept : (c : tie.After-leg-arrived) → length (then c) ≡ length c.args.buffer-1.now
+kept : (c : tie.After-leg-arrived) → length (then c) ≡ length c.args.buffer.now
 kept c =
     let s = c.before.before.before.before.before.before.before in
     let p = s.requires in
@@ -102,7 +102,7 @@ returns c = λ route r.
     let rest = rest_leg p.0 _ _ _ _ _ _ p.3 r went.0 in
     let second = c.leg-delivered.ensures r.rest rest.0 rest.2 in (
       second.1 ∙ omega (arith, went.1, route_length p.0 _ _ _ _ _ _ p.3 r),
-      written_all a.buffer-1.now a.near a.hop r.tunnel-1 r.rest (two s) went.1 second.1 went.2 second.2 ∙ ap (λ (l : List ℕ). l ++ drop c.leg-delivered.result.written a.buffer-1.now) (sym r.whole),
+      written_all a.buffer.now a.near a.hop r.tunnel r.rest (two s) went.1 second.1 went.2 second.2 ∙ ap (λ (l : List ℕ). l ++ drop c.leg-delivered.result.written a.buffer.now) (sym r.whole),
     )
 
 pub play_spec : {M : Type 1} → statement M
