@@ -13,7 +13,7 @@ use Rattle.lfa.specs.Space.{under_maintenance, Protected, set_of}
 use Rattle.lfa.proofs.Laws.Test.{and_left, and_right, fails_left, fails_right}
 use Rattle.lfa.proofs.Laws.Set.{set_of_same}
 use Rattle.metric.specs.Fit.{cells_fit}
-use Rattle.metric.specs.Laws.Fit.{cells_give}
+use Rattle.metric.proofs.Laws.Fit.{cells_give}
 use Rattle.metric.specs.Area.{held}
 use Rattle.avoid.specs.Avoiding.{clears, clears_to, misses_to}
 use Rattle.avoid.specs.Calls.{Readable, readable, avoiding_to, avoiding_from, missing_from}

@@ -8,7 +8,7 @@ use lib.Dec.{ltb}
 use borrow.Author.Tests.{lt-ltb, le-ltb}
 use Rattle.lfa.specs.Space.{Protected}
 use Rattle.metric.specs.Area.{held, cell_in}
-use Rattle.metric.specs.Laws.Area.{cell_known}
+use Rattle.metric.proofs.Laws.Area.{cell_known}
 use Rattle.avoid.specs.Avoiding.{below_both, clears, clears_to}
 use Rattle.avoid.specs.Calls.{Readable}
 

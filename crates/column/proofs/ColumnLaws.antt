@@ -13,7 +13,7 @@ use Rattle.lfa.specs.Distance.{unreachable, least, cost_over, towards}
 use Rattle.lfa.proofs.Laws.Target.{towards_most}
 use Rattle.lfa.proofs.Laws.Counting.{length_map_below}
 use Rattle.metric.specs.Column.{column, slots_in}
-use Rattle.metric.specs.Laws.List.{map_below_more}
+use Rattle.metric.proofs.Laws.List.{map_below_more}
 
 -- ---- columns
 

@@ -11,8 +11,8 @@ use lib.Pow.{shl_exact}
 use Rattle.lfa.specs.Lists.{count_up, below, any_of}
 use Rattle.lfa.specs.Space.{set_of}
 use Rattle.lfa.proofs.Laws.Set.{set_of_same}
-use Rattle.metric.specs.Laws.List.{below_more, any_more}
-use Rattle.metric.specs.Laws.Set.{or_set_of, one_router_lem, set_of_none}
+use Rattle.metric.proofs.Laws.List.{below_more, any_more}
+use Rattle.metric.proofs.Laws.Set.{or_set_of, one_router_lem, set_of_none}
 use Rattle.column.specs.Calls.{in_slots}
 
 module _ (routers : List ℕ) (slot : ℕ) where

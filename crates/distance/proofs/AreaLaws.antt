@@ -15,7 +15,7 @@ use Rattle.lfa.specs.Distance.{stage, distances, distance_in, filled}
 use Rattle.lfa.proofs.Laws.Test.{and_make, fails_left, fails_right}
 use Rattle.metric.specs.Fit.{cells_fit, links_fit}
 use Rattle.metric.specs.Columns.{arcs_in, network_in}
-use Rattle.metric.specs.Laws.Area.{area_filled_lem}
+use Rattle.metric.proofs.Laws.Area.{area_filled_lem}
 use Rattle.distance.specs.Calls.{area_filled}
 use Rattle.distance.specs.Cells.{Cells}
 

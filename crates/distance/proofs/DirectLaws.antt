@@ -19,8 +19,8 @@ use Rattle.lfa.proofs.Laws.Test.{and_left, and_right, and_make}
 use Rattle.lfa.proofs.Laws.Hop.{least_most}
 use Rattle.metric.specs.Area.{area_cell}
 use Rattle.metric.specs.Columns.{links_in, arcs_in}
-use Rattle.metric.specs.Laws.List.{map_below_more}
-use Rattle.metric.specs.Laws.Columns.{arcs_in_more}
+use Rattle.metric.proofs.Laws.List.{map_below_more}
+use Rattle.metric.proofs.Laws.Columns.{arcs_in_more}
 use Rattle.distance.specs.Cells.{limit, Cells, Limited, Stored, cheapest, self_loops, Lowered, CostsCapped}
 use Rattle.distance.proofs.StoreLaws.{square_few, one_place}
 

@@ -12,7 +12,7 @@ use Rattle.lfa.specs.Lists.{every_below}
 use Rattle.lfa.proofs.Laws.Test.{and_left, and_right, and_make, fails_left, fails_right, same_test}
 use Rattle.lfa.proofs.Laws.List.{every_gives, every_make}
 use Rattle.metric.specs.Fit.{joins, links_fit, attaches, slots_fit}
-use Rattle.metric.specs.Laws.List.{every_fails, every_more}
+use Rattle.metric.proofs.Laws.List.{every_fails, every_more}
 
 -- ---- the links
 

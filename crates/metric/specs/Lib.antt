@@ -3,4 +3,3 @@ pub mod Columns
 pub mod Column
 pub mod Area
 pub mod RightTable
-pub mod Laws

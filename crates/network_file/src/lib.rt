@@ -45,14 +45,14 @@ pub enum Verdict {
 }
 
 // The verdict on a file, and beside it the network that the file holds; of a refused file the network with nothing in it.
-#[derive(Drop)]
+#[derive(Clone, Copy)]
 pub struct Loaded {
     pub verdict: Verdict,
     pub network: Network,
 }
 
 // The same without the attachments of the prefixes, for the questions that need the links only.
-#[derive(Drop)]
+#[derive(Clone, Copy)]
 pub struct LoadedLinks {
     pub verdict: Verdict,
     pub links: Links,

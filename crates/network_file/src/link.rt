@@ -10,7 +10,7 @@ ghost use Rattle.network_file.specs.Entry.{link_place, ends_good, costs_good, En
 use field::{word_at, word_of};
 
 // One column for each number of a link, a cell for each link.
-#[derive(Drop)]
+#[derive(Clone, Copy)]
 pub(crate) struct LinkColumns {
     pub from: [u8; 128],
     pub to: [u8; 128],

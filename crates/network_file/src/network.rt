@@ -4,7 +4,7 @@ ghost use Rattle.network_file.specs.Struct.{struct_of, links_struct_of};
 
 // Routers, links and prefixes as document 01 counts them. Link k joins from[k] and to[k], at cost out[k] one way and back[k] the
 // other. Slot s of prefix p is cell p * 8 + s of `at` (the router) and `own` (its cost); the first attached[p] of its eight are used.
-#[derive(Drop)]
+#[derive(Clone, Copy)]
 pub struct Network {
     pub routers: usize,
     pub links: usize,
@@ -19,7 +19,7 @@ pub struct Network {
 }
 
 // A network without the attachments of its prefixes: its counts and its links, for the questions that need no more.
-#[derive(Drop)]
+#[derive(Clone, Copy)]
 pub struct Links {
     pub routers: usize,
     pub links: usize,

@@ -10,7 +10,7 @@ use super::mask::UNUSED;
 use metric::read::wide;
 
 // One column for the numbers of attachments, a cell for each prefix, and one for each number of a slot, eight cells to a prefix.
-#[derive(Drop)]
+#[derive(Clone, Copy)]
 pub(crate) struct PrefixColumns {
     pub attached: [u8; 128],
     pub at: [u8; 1024],

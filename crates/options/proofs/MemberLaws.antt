@@ -12,8 +12,8 @@ use lib.Count.{ones}
 use Rattle.lfa.specs.Lists.{count_up, below, keepIf, select, count, one}
 use Rattle.lfa.specs.Space.{has, size_of}
 use Rattle.lfa.proofs.Laws.Set.{size_ones}
-use Rattle.metric.specs.Laws.List.{below_more, select_append}
-use Rattle.metric.specs.Laws.Set.{has_bit, has_no_bit}
+use Rattle.metric.proofs.Laws.List.{below_more, select_append}
+use Rattle.metric.proofs.Laws.Set.{has_bit, has_no_bit}
 use Rattle.options.specs.Options.{members_of}
 
 -- ---- the search for a member

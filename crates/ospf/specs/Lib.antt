@@ -5,4 +5,3 @@ pub mod Means
 pub mod Network
 pub mod Import
 pub mod Promises
-pub mod Laws

@@ -1,6 +1,6 @@
 -- "a run of whole LSAs": where each LSA stands, the first bad one (number 16), and what the LSAs of a run without bad ones say.
 -- Assumes nothing.
-use Rattle.std.specs.Prelude.{ℕ, zero, suc, ◌+◌, ◌<◌, ◌≡◌, Bool, true, false, not, ◌&&◌, eqb, leb, length, drop}
+use Rattle.std.specs.Prelude.{ℕ, zero, suc, ◌+◌, ◌<◌, ◌≤◌, ◌≡◌, Bool, true, false, not, ◌&&◌, eqb, leb, length, drop}
 use mathlib.Core.List.{List, map, Memᴰ}
 use Rattle.lfa.specs.Lists.{below, every_below}
 use Rattle.lfa.specs.File.{Bytes, part_of}
@@ -39,6 +39,12 @@ pub record FirstBad (b : Bytes) (k : ℕ) : Type 0 where
 pub record WholeRun (b : Bytes) (n : ℕ) : Type 0 where
   pub good : (i : ℕ) → i < n → GoodLsa b i
   pub ends : begin_of b n ≡ length b
+
+-- after i good LSAs
+pub record Passed (b : Bytes) (i : ℕ) : Type 0 where
+  pub good : (j : ℕ) → j < i → GoodLsa b j
+  pub far : i ≤ begin_of b i
+  pub inside : begin_of b i ≤ length b
 
 -- ---- the same, computed
 

@@ -1,5 +1,5 @@
-// The planner for programs in other languages: each public call as a C function, its answer as numbers, its buffers as pointer and
-// length. `include/planner.h` tells C programs the same.
+// The planner for programs in other languages: each public call with its answer as numbers. `planner_c` exports each as a C function, its
+// buffers as pointer and length; `include/planner.h` tells C programs the same.
 #![tactic(auto)]
 
 ghost use Rattle.std.specs.Prelude.{◌≡◌, length};
@@ -52,8 +52,7 @@ pub struct LoadedNetwork {
 }
 
 // Judges a file and hands over its network.
-#[unsafe(no_mangle)]
-pub extern "C" fn planner_load(file: &[u8]) -> LoadedNetwork
+pub fn planner_load(file: &[u8]) -> LoadedNetwork
     ensures { result ≡ loaded_as (numbers_of (answer_to (loading file.now))) (struct_of (network_loaded file.now)) }
 {
     let loaded = load(file);
@@ -86,8 +85,7 @@ pub extern "C" fn planner_load(file: &[u8]) -> LoadedNetwork
 
 // Writes the network file of a network into the buffer, and tells how many bytes it has; 0 where nothing is written. The verdict beside the
 // network is not looked at.
-#[unsafe(no_mangle)]
-pub extern "C" fn planner_write(given: LoadedNetwork, buffer: &mut [u8]) -> usize
+pub fn planner_write(given: LoadedNetwork, buffer: &mut [u8]) -> usize
     ensures { Wrote (network_held (network_in given)) result buffer.old buffer.new }
 {
     let from = given.from;
@@ -113,16 +111,14 @@ pub extern "C" fn planner_write(given: LoadedNetwork, buffer: &mut [u8]) -> usiz
 }
 
 // Writes the network file of a drill into the buffer, and tells how many bytes it has; 0 where nothing is written.
-#[unsafe(no_mangle)]
-pub extern "C" fn planner_drill(seed: u32, routers: usize, buffer: &mut [u8]) -> usize
+pub fn planner_drill(seed: u32, routers: usize, buffer: &mut [u8]) -> usize
     ensures { Drilled seed routers result buffer.old buffer.new }
 {
     drill(seed, routers, buffer)
 }
 
 // Copies the bytes of a link's entry into the buffer, and tells how many they are.
-#[unsafe(no_mangle)]
-pub extern "C" fn planner_link_entry(file: &[u8], link: usize, entry: &mut [u8; 34]) -> usize
+pub fn planner_link_entry(file: &[u8], link: usize, entry: &mut [u8; 34]) -> usize
     ensures { (result ≡ length (link_part file.now link))
         × (entry.new ≡ copied_to entry.old (link_part file.now link)) }
 {
@@ -131,8 +127,7 @@ pub extern "C" fn planner_link_entry(file: &[u8], link: usize, entry: &mut [u8; 
 }
 
 // Copies the bytes of a prefix's entry into the buffer, and tells how many they are.
-#[unsafe(no_mangle)]
-pub extern "C" fn planner_prefix_entry(file: &[u8], prefix: usize, entry: &mut [u8; 34]) -> usize
+pub fn planner_prefix_entry(file: &[u8], prefix: usize, entry: &mut [u8; 34]) -> usize
     ensures { (result ≡ length (prefix_part file.now prefix))
         × (entry.new ≡ copied_to entry.old (prefix_part file.now prefix)) }
 {
@@ -141,24 +136,21 @@ pub extern "C" fn planner_prefix_entry(file: &[u8], prefix: usize, entry: &mut [
 }
 
 // Fills the work area with the distances between the routers of a file.
-#[unsafe(no_mangle)]
-pub extern "C" fn planner_distances(file: &[u8], work: &mut [u32]) -> Numbers
+pub fn planner_distances(file: &[u8], work: &mut [u32]) -> Numbers
     ensures { Numbered (filling file.now (length work.old)) result work.old work.new }
 {
     filled_numbers(distances(file, work))
 }
 
 // P space, as a set.
-#[unsafe(no_mangle)]
-pub extern "C" fn planner_p_space(file: &[u8], work: &mut [u32], link: usize, end: usize) -> Numbers
+pub fn planner_p_space(file: &[u8], work: &mut [u32], link: usize, end: usize) -> Numbers
     ensures { Numbered (ask_space p_space file.now (length work.old) link end) result work.old work.new }
 {
     space_numbers(p_space(file, work, link, end))
 }
 
 // Extended P space, as a set.
-#[unsafe(no_mangle)]
-pub extern "C" fn planner_extended_p_space(
+pub fn planner_extended_p_space(
     file: &[u8],
     work: &mut [u32],
     link: usize,
@@ -170,24 +162,21 @@ pub extern "C" fn planner_extended_p_space(
 }
 
 // Q space, as a set.
-#[unsafe(no_mangle)]
-pub extern "C" fn planner_q_space(file: &[u8], work: &mut [u32], link: usize, end: usize) -> Numbers
+pub fn planner_q_space(file: &[u8], work: &mut [u32], link: usize, end: usize) -> Numbers
     ensures { Numbered (ask_space q_space file.now (length work.old) link end) result work.old work.new }
 {
     space_numbers(q_space(file, work, link, end))
 }
 
 // The number of routers in a set.
-#[unsafe(no_mangle)]
-pub extern "C" fn planner_size(set: u64) -> u32
+pub fn planner_size(set: u64) -> u32
     ensures { result ≡ size_of set }
 {
     size(set)
 }
 
 // The pair that repairs a link. The table gives each of the eight classes its rank: 0 to 7, once each. The class is 4 to 7.
-#[unsafe(no_mangle)]
-pub extern "C" fn planner_link_repair(
+pub fn planner_link_repair(
     file: &[u8],
     work: &mut [u32],
     ranks: &[u8],
@@ -200,8 +189,7 @@ pub extern "C" fn planner_link_repair(
 }
 
 // The same with a table of the file's distances, which is only read, in place of the work area.
-#[unsafe(no_mangle)]
-pub extern "C" fn planner_link_repair_with(
+pub fn planner_link_repair_with(
     file: &[u8],
     table: &[u32],
     ranks: &[u8],
@@ -214,8 +202,7 @@ pub extern "C" fn planner_link_repair_with(
 }
 
 // The pair that repairs the traffic to a prefix. A class below 4 tells that no walk of the pair visits the far router.
-#[unsafe(no_mangle)]
-pub extern "C" fn planner_prefix_repair(
+pub fn planner_prefix_repair(
     file: &[u8],
     work: &mut [u32],
     ranks: &[u8],
@@ -229,8 +216,7 @@ pub extern "C" fn planner_prefix_repair(
 }
 
 // The same with a table of the file's distances, which is only read, in place of the work area.
-#[unsafe(no_mangle)]
-pub extern "C" fn planner_prefix_repair_with(
+pub fn planner_prefix_repair_with(
     file: &[u8],
     table: &[u32],
     ranks: &[u8],
@@ -244,8 +230,7 @@ pub extern "C" fn planner_prefix_repair_with(
 }
 
 // Plays the route of the pair that repairs the traffic to a prefix, and writes its routers into the buffer.
-#[unsafe(no_mangle)]
-pub extern "C" fn planner_route(
+pub fn planner_route(
     file: &[u8],
     work: &mut [u32],
     ranks: &[u8],
@@ -262,8 +247,7 @@ pub extern "C" fn planner_route(
 }
 
 // The same with a table of the file's distances, which is only read, in place of the work area.
-#[unsafe(no_mangle)]
-pub extern "C" fn planner_route_with(
+pub fn planner_route_with(
     file: &[u8],
     table: &[u32],
     ranks: &[u8],

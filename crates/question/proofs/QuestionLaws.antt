@@ -86,6 +86,11 @@ checked {b} {links} table {r} e counts columns tested a = held ∙ holds_is (lim
 
 -- ---- the rows
 
+-- a verdict that refuses nothing accepts
+pub not_refused : (v : Verdict) → ((x : Fault) → v ≡ verdict.Refused x → ⊥) → v ≡ verdict.Accepted
+not_refused (verdict.Refused x) f = absurd (f x refl)
+not_refused verdict.Accepted f = refl
+
 module _ (q : Question) (told : Verdict) (links : Links) (is : IsLoaded q.file told links) where
   -- a refusal of the file
   pub fault_early : (f : Fault) → told ≡ verdict.Refused f → turned_answer (Refused (File f)) ≡ early_answer q
@@ -122,6 +127,11 @@ module _ (q : Question) (told : Verdict) (links : Links) (is : IsLoaded q.file t
 pub lent_posed : {turned : Turned} {x : Refusal} (net : lfa.Network) (area : List ℕ) → turned ≡ Refused x → area ≡ area_posed turned net area
 unfolding area_posed
 lent_posed net area e = sym (ap (λ (t : Turned). area_posed t net area) e)
+
+pub lent_not_ready : (turned : Turned) (net : lfa.Network) (area : List ℕ) → (turned ≡ Ready → ⊥) → area ≡ area_posed turned net area
+unfolding area_posed
+lent_not_ready (Refused x) net area f = refl
+lent_not_ready Ready net area f = absurd (f refl)
 
 -- and else it holds the distances of the network: no row applies, so that it is long enough
 pub filled_posed : {turned : Turned} {links : Links} {q : Question} (area : List ℕ) {after : List ℕ} → HasInput q some_cells → q.cells ≡ length area → turned ≡ Ready → Judges q turned links →

@@ -12,7 +12,7 @@ use Rattle.lfa.specs.Route.{options, NamedRoute}
 use Rattle.lfa.proofs.Laws.Legs.{bytes_used}
 use Rattle.metric.specs.Columns.{arcs_in}
 use Rattle.metric.specs.Column.{slots_in}
-use Rattle.metric.specs.Laws.Columns.{columns_within}
+use Rattle.metric.proofs.Laws.Columns.{columns_within}
 use Rattle.route.specs.Leg.{Leg, Playable}
 use Rattle.route.proofs.LegLaws.{first_leg, second_leg}
 

@@ -13,7 +13,7 @@ use Rattle.lfa.specs.Network.{Link, link}
 use Rattle.lfa.specs.File.{Bytes, part_of}
 use Rattle.lfa.proofs.Laws.Test.{or_right}
 use Rattle.ospf.specs.Lsa.{be16, length_field, links_field}
-use Rattle.ospf.specs.Laws.Reading.{half_at, part_long}
+use Rattle.ospf.proofs.Laws.Reading.{half_at, part_long}
 use Rattle.router_links.specs.Read.{metric_to, stub_least}
 use Rattle.router_links.specs.Gather.{lsa_from, StandsAt, link_if, LinksHeld}
 use Rattle.router_links.specs.declared.gather.Links.{Links}

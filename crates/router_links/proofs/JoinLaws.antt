@@ -13,14 +13,14 @@ use Rattle.lfa.proofs.Laws.List.{get_d_in}
 use Rattle.lfa.proofs.Laws.Chunks.{element_mapped}
 use Rattle.lfa.proofs.Laws.File.Passes.{AreBytes}
 use Rattle.lfa.proofs.Laws.File.Parts.{flat_append}
-use Rattle.metric.specs.Laws.List.{map_below_more}
-use Rattle.metric.specs.Laws.Column.{pad_at}
+use Rattle.metric.proofs.Laws.List.{map_below_more}
+use Rattle.metric.proofs.Laws.Column.{pad_at}
 use Rattle.ospf.specs.Lsa.{links_field}
 use Rattle.ospf.specs.Run.{begin_of, lsa_bytes, lsas_of, WholeRun}
 use Rattle.ospf.specs.Network.{towards, joining, links_up, ids_of, network_with, network_from}
-use Rattle.ospf.specs.Laws.Run.{good_long}
-use Rattle.ospf.specs.Laws.SoundRun.{run_sound}
-use Rattle.ospf.specs.Laws.Reading.{size_at}
+use Rattle.ospf.proofs.Laws.Run.{good_long}
+use Rattle.ospf.proofs.Laws.SoundRun.{run_sound}
+use Rattle.ospf.proofs.Laws.Reading.{size_at}
 use Rattle.router_links.specs.Read.{first_or0, metric_to, place_of, front, RoutersHeld}
 use Rattle.router_links.specs.Gather.{lsa_from, StandsAt, link_if, LinksHeld}
 use Rattle.router_links.specs.declared.gather.Links.{Links}

@@ -13,7 +13,7 @@ use Rattle.ospf.specs.Lsa.{entry, Lsa, SoundEntry, point_to_point}
 use Rattle.ospf.specs.Run.{SoundRun}
 use Rattle.ospf.specs.Means.{Describes}
 use Rattle.ospf.specs.Network.{towards, pair_up, joining, least_of, attachment}
-use Rattle.ospf.specs.Laws.Said.{AtMostOne, no_element, one_element, towards_most, towards_gives}
+use Rattle.ospf.proofs.Laws.Said.{AtMostOne, no_element, one_element, towards_most, towards_gives}
 use Rattle.router_links.specs.Read.{first_or0}
 use Rattle.router_links.specs.Gather.{link_if}
 

@@ -11,12 +11,12 @@ use Rattle.lfa.specs.File.{Bytes}
 use Rattle.lfa.proofs.Laws.Test.{and_left, and_right, and_make, same_test}
 use Rattle.lfa.proofs.Laws.List.{map_gives}
 use Rattle.lfa.proofs.Laws.File.Passes.{AreBytes}
-use Rattle.metric.specs.Laws.List.{select_same}
+use Rattle.metric.proofs.Laws.List.{select_same}
 use Rattle.ospf.specs.Lsa.{Entry, entry, entry_at, links_field}
 use Rattle.ospf.specs.Run.{lsa_bytes, lsas_of}
 use Rattle.ospf.specs.Means.{Name, name}
 use Rattle.ospf.specs.Network.{metric_of, name_of, is_stub, is_stub_of, stubs_of}
-use Rattle.ospf.specs.Laws.SoundRun.{be32_small}
+use Rattle.ospf.proofs.Laws.SoundRun.{be32_small}
 use Rattle.router_links.specs.Read.{links_from, key_of, is_stub_key, least_step, stub_least}
 use Rattle.router_links.proofs.KeyLaws.{SmallMask, key_same}
 use Rattle.router_links.proofs.MetricLaws.{least_below}

@@ -12,7 +12,7 @@ use super::router::Routers;
 use router_lsa::field::be16_at;
 
 // The links of a network in columns, and how many: 129 where there are more than 128.
-#[derive(Drop)]
+#[derive(Clone, Copy)]
 pub struct Links {
     pub count: usize,
     pub from: [u8; 128],

@@ -13,11 +13,11 @@ use borrow.Author.Tests.{eq-eqb, ne_eqb}
 use Rattle.lfa.specs.File.{Bytes}
 use Rattle.lfa.proofs.Laws.Test.{same_test, fails_make}
 use Rattle.lfa.proofs.Laws.List.{every_gives, every_make}
-use Rattle.metric.specs.Laws.List.{every_fails}
+use Rattle.metric.proofs.Laws.List.{every_fails}
 use Rattle.ospf.specs.Lsa.{be32, router_field}
 use Rattle.ospf.specs.Run.{begin_of, lsa_bytes}
-use Rattle.ospf.specs.Laws.Run.{Passed}
-use Rattle.ospf.specs.Laws.Reading.{router_read}
+use Rattle.ospf.specs.Run.{Passed}
+use Rattle.ospf.proofs.Laws.Reading.{router_read}
 use Rattle.router_lsa.specs.Scan.{new_router, new_among, AtHand}
 
 -- ---- an LSA that has been passed, against a router

@@ -11,9 +11,10 @@ use Rattle.lfa.specs.File.{Bytes}
 use Rattle.lfa.proofs.Laws.Test.{and_make, fails_left, fails_right, fails_make}
 use Rattle.ospf.specs.Lsa.{be16, be32, length_field, router_field, sound_lsa}
 use Rattle.ospf.specs.Run.{begin_of, lsa_bytes, router_new, lsa_good, GoodLsa, scan, bad_at, whole}
-use Rattle.ospf.specs.Laws.Lsa.{good_gives, good_make}
-use Rattle.ospf.specs.Laws.Run.{Passed, good_long, begin_more, passed_more, bad_scanned, whole_scanned}
-use Rattle.ospf.specs.Laws.Reading.{half_at, half_taken, size_is, part_is, part_long}
+use Rattle.ospf.proofs.Laws.Lsa.{good_gives, good_make}
+use Rattle.ospf.proofs.Laws.Run.{good_long, begin_more, passed_more, bad_scanned, whole_scanned}
+use Rattle.ospf.specs.Run.{Passed}
+use Rattle.ospf.proofs.Laws.Reading.{half_at, half_taken, size_is, part_is, part_long}
 use Rattle.router_lsa.specs.Scan.{new_router, next_after}
 
 -- ---- LSA i is bad, or good

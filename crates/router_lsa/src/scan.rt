@@ -2,7 +2,7 @@
 // gone over on only for a bad one.
 ghost use Rattle.std.specs.Prelude.{◌≡◌, true, ◌≤◌, ◌<◌, min, length};
 ghost use Rattle.ospf.specs.Run.{begin_of};
-ghost use Rattle.ospf.specs.Laws.Run.{Passed};
+ghost use Rattle.ospf.specs.Run.{Passed};
 ghost use Rattle.router_lsa.specs.Scan.{new_among, new_router, next_after, AtHand};
 
 use super::field::{be16_at, be32_at};

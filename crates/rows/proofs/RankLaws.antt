@@ -13,7 +13,7 @@ use Rattle.lfa.specs.Lists.{count}
 use Rattle.lfa.specs.Ranks.{classes, rank_of, times_given, is_arrangement}
 use Rattle.lfa.proofs.Laws.Test.{and_make, fails_left, fails_right}
 use Rattle.lfa.proofs.Laws.List.{every_make}
-use Rattle.metric.specs.Laws.List.{every_fails}
+use Rattle.metric.proofs.Laws.List.{every_fails}
 
 module _ (ranks : List ℕ) (k : ℕ) where
   -- how many of the first classes have rank k

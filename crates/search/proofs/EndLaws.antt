@@ -17,7 +17,7 @@ use Rattle.lfa.specs.Repair.{or_else, no_later}
 use Rattle.lfa.proofs.Laws.Test.{fails_make}
 use Rattle.lfa.proofs.Laws.Order.{NoLater, less, same, later_gives, later_make}
 use Rattle.metric.specs.Area.{cell_in}
-use Rattle.metric.specs.Laws.List.{below_more, select_append}
+use Rattle.metric.proofs.Laws.List.{below_more, select_append}
 use Rattle.order.specs.declared.Ordered.{Ordered}
 use Rattle.order.specs.Order.{keys_in, earlier_of, class_by}
 use Rattle.search.specs.Choice.{first_of, FirstEnd, KeysBelow, KeysOf, KeysFit, KeyOf, ordered_at, may_end, hop_pairs}

@@ -15,12 +15,12 @@ use Rattle.lfa.proofs.Laws.Counting.{map_below_same}
 use Rattle.lfa.proofs.Laws.Test.{or_false_left, or_false_right}
 use Rattle.lfa.specs.Space.{Protected, is_first, hop_over, first_hops}
 use Rattle.metric.specs.Columns.{links_in, arcs_in}
-use Rattle.metric.specs.Laws.List.{below_more, map_below_more, select_append}
-use Rattle.metric.specs.Laws.Columns.{arcs_in_more}
+use Rattle.metric.proofs.Laws.List.{below_more, map_below_more, select_append}
+use Rattle.metric.proofs.Laws.Columns.{arcs_in_more}
 use Rattle.arcs.specs.Arcs.{side_of, leaves_near, hop_by}
 use Rattle.arcs.proofs.ArcLaws.{reads_there, reads_back}
 use Rattle.search.specs.Hops.{arcs_listed, Put, Listed, hops_in}
-use Rattle.metric.specs.Laws.Select.{select_map}
+use Rattle.metric.proofs.Laws.Select.{select_map}
 
 -- ---- arcs by their numbers
 

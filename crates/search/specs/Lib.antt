@@ -2,4 +2,3 @@ pub mod Hops
 pub mod Spaces
 pub mod Choice
 pub mod Calls
-pub mod Laws

@@ -9,7 +9,7 @@ use avoid::Protected;
 use metric::read::wide;
 
 // The first hops of a repair: the numbers of `count` arcs.
-#[derive(Drop)]
+#[derive(Clone, Copy)]
 pub(crate) struct FirstHops {
     pub(crate) count: usize,
     pub(crate) arcs: [u8; 256],

@@ -9,7 +9,7 @@ use borrow.Author.Tests.{ltb-true, leb-true, lt-ltb, le-ltb}
 use Rattle.lfa.specs.Distance.{unreachable}
 use Rattle.lfa.specs.Space.{Protected, set_of, has}
 use Rattle.lfa.proofs.Laws.Test.{and_left, and_right, fails_left, fails_right}
-use Rattle.metric.specs.Laws.Set.{or_set_of, has_bit, has_no_bit}
+use Rattle.metric.proofs.Laws.Set.{or_set_of, has_bit, has_no_bit}
 use Rattle.steps.specs.Steps.{is_tight}
 use Rattle.steps.specs.Crossing.{over_link, reaches_without, numbers_fit}
 

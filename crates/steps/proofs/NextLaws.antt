@@ -20,10 +20,10 @@ use Rattle.lfa.proofs.Laws.List.{from_counted}
 use Rattle.lfa.proofs.Laws.Set.{set_of_same}
 use Rattle.lfa.proofs.Laws.Test.{fails_right}
 use Rattle.metric.specs.Columns.{links_in, arcs_in}
-use Rattle.metric.specs.Laws.Columns.{arcs_in_more}
-use Rattle.metric.specs.Laws.List.{any_more}
-use Rattle.metric.specs.Laws.Select.{map_same}
-use Rattle.metric.specs.Laws.Set.{or_set_of, set_of_none, one_router_lem, has_bit, has_no_bit}
+use Rattle.metric.proofs.Laws.Columns.{arcs_in_more}
+use Rattle.metric.proofs.Laws.List.{any_more}
+use Rattle.metric.proofs.Laws.Select.{map_same}
+use Rattle.metric.proofs.Laws.Set.{or_set_of, set_of_none, one_router_lem, has_bit, has_no_bit}
 use Rattle.steps.specs.Steps.{is_tight, step_to, next_by, nexts_in}
 
 -- ---- a hop

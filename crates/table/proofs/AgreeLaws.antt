@@ -10,7 +10,7 @@ use Rattle.metric.specs.Fit.{ColumnsWithin}
 use Rattle.metric.specs.Area.{area_cell}
 use Rattle.metric.specs.Columns.{arcs_in}
 use Rattle.metric.specs.RightTable.{RightTable}
-use Rattle.metric.specs.Laws.Columns.{columns_within}
+use Rattle.metric.proofs.Laws.Columns.{columns_within}
 use Rattle.table.specs.Calls.{costs_fit}
 use Rattle.table.specs.Sums.{RowsCopied, Tested}
 use Rattle.table.specs.Rows.{Over, Kept, ArcsKept, RowsTested}

@@ -12,7 +12,7 @@ use lib.Count.{count_trailing_zeros, under}
 use lib.Pow.{pow_pos}
 use Rattle.lfa.specs.Space.{has}
 use Rattle.lfa.proofs.Laws.Test.{or_cases, or_left, or_right}
-use Rattle.metric.specs.Laws.Set.{has_or, has_self, has_other}
+use Rattle.metric.proofs.Laws.Set.{has_or, has_self, has_other}
 
 -- the zeros below the lowest bit, and an odd number above them
 lowest : (k n : ℕ) → 0 < n → n < 2 ^ k → (count_trailing_zeros k n < k) × ((q : ℕ) × (n ≡ (2 * q + 1) * 2 ^ count_trailing_zeros k n))

@@ -24,10 +24,10 @@ use Rattle.lfa.proofs.Laws.Network.{arcs_give, Direction}
 use Rattle.metric.specs.Fit.{cells_fit, links_fit, ColumnsWithin}
 use Rattle.metric.specs.Columns.{links_in, arcs_in, network_in}
 use Rattle.metric.specs.RightTable.{RightTable}
-use Rattle.metric.specs.Laws.List.{every_more}
-use Rattle.metric.specs.Laws.Area.{area_filled_lem}
-use Rattle.metric.specs.Laws.Columns.{columns_within}
-use Rattle.metric.specs.Laws.RightTable.{right_least, filled_right}
+use Rattle.metric.proofs.Laws.List.{every_more}
+use Rattle.metric.proofs.Laws.Area.{area_filled_lem}
+use Rattle.metric.proofs.Laws.Columns.{columns_within}
+use Rattle.metric.proofs.Laws.RightTable.{right_least, filled_right}
 use Rattle.table.specs.Calls.{both_some, costs_fit, table_holds}
 use Rattle.table.specs.Sums.{Small, Capped, Tested}
 

@@ -20,7 +20,7 @@ use Rattle.lfa.proofs.Laws.Counting.{length_map_below, map_below_at}
 use Rattle.lfa.proofs.Laws.Network.{arcs_give, arcs_have, Direction}
 use Rattle.metric.specs.Area.{area_cell}
 use Rattle.metric.specs.Columns.{links_in, arcs_in}
-use Rattle.metric.specs.Laws.Set.{has_or, has_self, has_other, has_none}
+use Rattle.metric.proofs.Laws.Set.{has_or, has_self, has_other, has_none}
 use Rattle.table.specs.Rows.{Way, Over, Kept, ArcKept, ArcsKept}
 use Rattle.table.proofs.ArcLaws.{HopIn}
 

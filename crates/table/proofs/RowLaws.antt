@@ -11,7 +11,7 @@ use lib.ListN.{length, get_or, set, replicate, length-set, length-replicate, get
 use lib.Seq.{get_or-set_same, get_or-set_other, ext_get_or}
 use Rattle.lfa.specs.Space.{has}
 use Rattle.metric.specs.Area.{area_cell}
-use Rattle.metric.specs.Laws.Set.{has_none}
+use Rattle.metric.proofs.Laws.Set.{has_none}
 use Rattle.table.specs.Sums.{Same, SameCells}
 use Rattle.table.specs.Rows.{Little, LittleRow, SumsLowered, RowRight, RowTested, RowsRight, RowsTested}
 use Rattle.table.proofs.BitLaws.{Taken}

@@ -12,7 +12,7 @@ use lib.Seq.{get_or-set_same, get_or-set_other}
 use Rattle.lfa.specs.Lists as lists
 use Rattle.lfa.specs.Network.{Arc, arc, arcs_from}
 use Rattle.metric.specs.Columns.{links_in, arcs_in}
-use Rattle.metric.specs.Laws.Columns.{arcs_in_more}
+use Rattle.metric.proofs.Laws.Columns.{arcs_in_more}
 use Rattle.table.specs.Sums.{Form, cell_of, Limited, Cleared, RowLowered, Summed, LeastSums}
 use Rattle.table.proofs.CellLaws.{cell_few, one_place}
 

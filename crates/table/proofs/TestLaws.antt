@@ -15,7 +15,7 @@ use Rattle.lfa.specs.Distance.{unreachable}
 use Rattle.lfa.proofs.Laws.Arrive.{Within}
 use Rattle.metric.specs.Area.{area_cell}
 use Rattle.metric.specs.RightTable.{RightTable}
-use Rattle.metric.specs.Laws.Area.{each_place}
+use Rattle.metric.proofs.Laws.Area.{each_place}
 use Rattle.table.specs.Sums.{Form, cell_of, Real, Stands, real, wrong, Copied, Cleared, LeastSums, Same, SameCells, Small, Tested}
 use Rattle.table.proofs.SumLaws.{Shown, sum_diagonal, sum_most, sum_shown}
 use Rattle.table.proofs.CellLaws.{Sized, stands_real, real_most, real_zero, real_finite, real_slack, real_tight}

@@ -13,7 +13,7 @@ use Rattle.lfa.proofs.Laws.Counting.{length_map_below, map_below_at}
 use Rattle.lfa.proofs.Laws.Chunks.{length_flat}
 use Rattle.lfa.proofs.Laws.File.Parts.{flat_append}
 use Rattle.lfa.proofs.Laws.File.WrittenBlock.{front_bytes, front_long, check_front}
-use Rattle.metric.specs.Laws.List.{map_below_more}
+use Rattle.metric.proofs.Laws.List.{map_below_more}
 use Rattle.writer.specs.Put.{put_at}
 use Rattle.writer.specs.Block.{first_entries}
 use Rattle.writer.proofs.PutLaws.{put_after, put_padded}

@@ -7,34 +7,34 @@ use Rattle.answers.specs.Answer.{repair_of}
 use Rattle.answers.proofs.repair_answer.Statement.{statement}
 use Rattle.answers.proofs.repair_answer.Tie as tie
 
-enum_told : tie.Need-enum-told
-enum_told c = search rules
+enum_told-1 : tie.Need-enum_told-1
+enum_told-1 c = search rules
 
-enum-told-2 : tie.Need-enum-told-2
-enum-told-2 c = search rules
+enum_told-in-Untouched : tie.Need-enum_told-in-Untouched
+enum_told-in-Untouched c = search rules
 
-enum-told-3 : tie.Need-enum-told-3
-enum-told-3 c = search rules
+enum_told-in-Nothing : tie.Need-enum_told-in-Nothing
+enum_told-in-Nothing c = search rules
 
-enum-known-found : tie.Need-enum-known-found
-enum-known-found c = search rules
+enum_known-found : tie.Need-enum_known-found
+enum_known-found c = search rules
 
-returns : tie.Need-returns
+returns-in-Unreachable : tie.Need-returns-in-Unreachable
 unfolding repair_of repair_answer
-returns c = rw c.enum_told.given.1
+returns-in-Unreachable c = rw c.in-Unreachable.is
 
-returns-2 : tie.Need-returns-2
+returns-in-Untouched : tie.Need-returns-in-Untouched
 unfolding repair_of repair_answer
-returns-2 c = rw c.enum-told2.given.1
+returns-in-Untouched c = rw c.in-Untouched.is
 
-returns-3 : tie.Need-returns-3
+returns-in-Nothing : tie.Need-returns-in-Nothing
 unfolding repair_of refusal_answer row_of refusal repair_answer
-returns-3 c = rw c.enum-told3.given.1
+returns-in-Nothing c = rw c.in-Nothing.is
 
-returns-4 : tie.Need-returns-4
+returns-in-Pair : tie.Need-returns-in-Pair
 unfolding repair_of repair_answer
-returns-4 c = rw c.before.found.given.1
+returns-in-Pair c = rw c.in-Pair.is
 
 pub repair_answer_spec : {M : Type 1} → statement M
 repair_answer_spec =
-    tie.close (tie.spec enum_told enum-told-2 enum-told-3 enum-known-found returns returns-2 returns-3 returns-4)
+    tie.close (tie.spec enum_told-1 enum_told-in-Untouched enum_told-in-Nothing enum_known-found returns-in-Unreachable returns-in-Untouched returns-in-Nothing returns-in-Pair)

@@ -4,7 +4,7 @@ use Rattle.std.specs.Prelude.{ℕ, ◌<◌, ◌≡◌, true, List, length}
 use Rattle.std.proofs.Common.{◌∙◌, lt-ltb}
 use Rattle.lfa.specs.Space.{Protected, set_of}
 use Rattle.lfa.proofs.Laws.Test.{and_make}
-use Rattle.metric.specs.Laws.Fit.{cells_fit_lem}
+use Rattle.metric.proofs.Laws.Fit.{cells_fit_lem}
 use Rattle.metric.specs.Area.{held}
 use Rattle.avoid.specs.Avoiding.{clears, clears_to}
 use Rattle.avoid.specs.Calls.{Readable, readable, avoiding_to, avoiding_from}

@@ -20,7 +20,7 @@ use Rattle.lfa.proofs.Laws.Bound.{falls}
 use Rattle.lfa.proofs.Laws.Visit.{misses, misses_sum}
 use Rattle.lfa.proofs.Laws.Avoid.{avoids_gives, avoids_make, avoids_below, below_avoids}
 use Rattle.metric.specs.Area.{held}
-use Rattle.metric.specs.Laws.Fit.{cells_fit_lem}
+use Rattle.metric.proofs.Laws.Fit.{cells_fit_lem}
 use Rattle.avoid.specs.Avoiding.{clears, clears_to, misses_to}
 use Rattle.avoid.specs.Calls.{Readable, avoiding_to, avoiding_from, missing_from}
 use Rattle.avoid.specs.Known.{Known}

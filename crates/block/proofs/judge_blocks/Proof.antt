@@ -3,7 +3,6 @@
 use mathlib.Core.Path.{◌≡◌, refl, sym, ◌∙◌}
 use mathlib.Core.Bool.{true}
 use native.Mathlib.Omega.{arith}
-use borrow.Author.Tests.{not-true, not-false}
 use borrow.Author.Rules.{rules}
 use Rattle.lfa.specs.File.{length_good, blocks_in}
 use Rattle.block.specs.Judged.{blocks_decided}
@@ -12,59 +11,59 @@ use Rattle.block.proofs.JudgedLaws.{length_decides, check_decides, head_decides,
 use Rattle.block.proofs.judge_blocks.Statement.{statement}
 use Rattle.block.proofs.judge_blocks.Tie as tie
 
-length-good-requires : tie.Need-length-good-requires
-length-good-requires c κs = search rules
+length_good-requires : tie.Need-length_good-requires
+length_good-requires c κs = search rules
 
-returns : tie.Need-returns
+returns-then-not-length_good : tie.Need-returns-then-not-length_good
 unfolding blocks_decided
-returns c = length_decides _ (sym c.before.length-good.ensures ∙ c.if1.true)
+returns-then-not-length_good c = length_decides _ (sym c.length_good.ensures ∙ c.if-not-length_good.true)
 
 -- the length is good
-row_1 : (c : tie.Else1) → length_good c.before.before.before.args.file.now ≡ true
-row_1 c = sym c.before.length-good.ensures ∙ c.if1.false
+row_1 : (c : tie.Else-not-length_good) → length_good c.args.file.now ≡ true
+row_1 c = sym c.length_good.ensures ∙ c.if-not-length_good.false
 
-first-bad-check-requires : tie.Need-first-bad-check-requires
-first-bad-check-requires c κs = search rules
+first_bad_check-bad-requires : tie.Need-first_bad_check-bad-requires
+first_bad_check-bad-requires c κs = search rules
 
-returns-2 : tie.Need-returns-2
+returns-then-bad-n : tie.Need-returns-then-bad-n
 unfolding blocks_decided
-returns-2 c = check_decides _ (row_1 c.before.before) _ c.before.first-bad-check.ensures c.if2.true
+returns-then-bad-n c = check_decides _ (row_1 c.before.before) _ c.first_bad_check-bad.ensures c.if-bad-n.true
 
-head-good-requires : tie.Need-head-good-requires
+head_good-requires : tie.Need-head_good-requires
 unfolding blocks_in
-head-good-requires c κs =
+head_good-requires c κs =
     let l = good_length _ (row_1 c.before.before) in
     omega arith
 
-returns-3 : tie.Need-returns-3
+returns-then-not-head_good : tie.Need-returns-then-not-head_good
 unfolding blocks_decided
-returns-3 c =
+returns-then-not-head_good c =
     let f = c.before.before in
-    head_decides _ (row_1 f.before.before) _ f.before.first-bad-check.ensures f.if2.false (sym c.before.head-good.ensures ∙ c.if3.true)
+    head_decides _ (row_1 f.before.before) _ f.first_bad_check-bad.ensures f.if-bad-n.false (sym c.head_good.ensures ∙ c.if-not-head_good.true)
 
-judge-later-requires : tie.Need-judge-later-requires
+judge_later-requires : tie.Need-judge_later-requires
 unfolding blocks_in
-judge-later-requires c κs =
+judge_later-requires c κs =
     let l = good_length _ (row_1 c.before.before.before.before) in
     (refl, omega arith, omega arith, omega arith)
 
-returns-4 : tie.Need-returns-4
+returns : tie.Need-returns
 unfolding blocks_decided
-returns-4 c =
+returns c =
     let g = c.before in
     let f = g.before.before in
-    c.judge-later.ensures
-    ∙ head_passed _ (row_1 f.before.before) _ f.before.first-bad-check.ensures f.if2.false (sym g.before.head-good.ensures ∙ g.if3.false)
+    c.judge_later.ensures
+    ∙ head_passed _ (row_1 f.before.before) _ f.first_bad_check-bad.ensures f.if-bad-n.false (sym g.head_good.ensures ∙ g.if-not-head_good.false)
 
 pub judge_blocks_spec : {M : Type 1} → statement M
 judge_blocks_spec =
     tie.close
     (tie.spec
-    length-good-requires
-    returns
-    first-bad-check-requires
-    returns-2
-    head-good-requires
-    returns-3
-    judge-later-requires
-    returns-4)
+    length_good-requires
+    returns-then-not-length_good
+    first_bad_check-bad-requires
+    returns-then-bad-n
+    head_good-requires
+    returns-then-not-head_good
+    judge_later-requires
+    returns)

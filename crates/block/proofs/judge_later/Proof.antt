@@ -8,60 +8,53 @@ use Rattle.block.proofs.JudgedLaws.{count_decides, block_decides, later_passed}
 use Rattle.block.proofs.judge_later.Statement.{statement}
 use Rattle.block.proofs.judge_later.Tie as tie
 
-word-at-requires : tie.Need-word-at-requires
-word-at-requires c κs = search rules
+word_at-links-requires : tie.Need-word_at-links-requires
+word_at-links-requires c κs = search rules
 
-cast-links : tie.Need-overflow-cast-links
-cast-links c = search rules
+overflow_cast-links : tie.Need-overflow_cast-links
+overflow_cast-links c = search rules
 
-word-at-requires-2 : tie.Need-word-at-requires-2
-word-at-requires-2 c κs = search rules
+word_at-prefixes-requires : tie.Need-word_at-prefixes-requires
+word_at-prefixes-requires c κs = search rules
 
-cast-prefixes : tie.Need-overflow-cast-prefixes
-cast-prefixes c = search rules
+overflow_cast-prefixes : tie.Need-overflow_cast-prefixes
+overflow_cast-prefixes c = search rules
 
-blocks-needed-requires : tie.Need-blocks-needed-requires
-blocks-needed-requires c κs = search rules
+blocks_needed-needed-requires : tie.Need-blocks_needed-needed-requires
+blocks_needed-needed-requires c κs = search rules
+
+returns-then-n-needed : tie.Need-returns-then-n-needed
+unfolding blocks_decided links_of prefixes_of
+returns-then-n-needed c =
+    count_decides _ c.args.n _ _ _ c.requires.0 c.word_at-links.ensures c.word_at-prefixes.ensures c.blocks_needed-needed.ensures c.if-n-needed.true
+
+first_bad_block-bad-requires : tie.Need-first_bad_block-bad-requires
+unfolding links_of prefixes_of
+first_bad_block-bad-requires c κs =
+    (c.requires.1, c.requires.2, c.requires.3, c.word_at-links.ensures, c.word_at-prefixes.ensures, omega arith)
+
+returns-then-bad-n : tie.Need-returns-then-bad-n
+unfolding blocks_decided links_of prefixes_of
+returns-then-bad-n c =
+    block_decides _ c.args.n _ _ _ c.requires.0 c.word_at-links.ensures c.word_at-prefixes.ensures c.blocks_needed-needed.ensures
+    c.if-n-needed.false _ c.first_bad_block-bad.ensures c.if-bad-n.true
 
 returns : tie.Need-returns
 unfolding blocks_decided links_of prefixes_of
 returns c =
-    let s = c.before.before.before.before.before in
-    let w = c.before.before in
-    count_decides _ s.args.n _ _ _ s.requires.0 w.before.word_at_lem.ensures w.word-at2.ensures c.before.blocks-needed.ensures c.if1.true
-
-first-bad-block-requires : tie.Need-first-bad-block-requires
-unfolding links_of prefixes_of
-first-bad-block-requires c κs =
-    let s = c.before.before.before.before.before in
-    (s.requires.1, s.requires.2, s.requires.3, c.before.before.before.word_at_lem.ensures, c.before.before.word-at2.ensures, omega arith)
-
-returns-2 : tie.Need-returns-2
-unfolding blocks_decided links_of prefixes_of
-returns-2 c =
-    let s = c.before.before.before.before.before.before.before in
-    let w = c.before.before.before.before in
-    block_decides _ s.args.n _ _ _ s.requires.0 w.before.word_at_lem.ensures w.word-at2.ensures c.before.before.before.blocks-needed.ensures
-    c.before.before.if1.false _ c.before.first-bad-block.ensures c.if2.true
-
-returns-3 : tie.Need-returns-3
-unfolding blocks_decided links_of prefixes_of
-returns-3 c =
-    let s = c.before.before.before.before.before.before.before in
-    let w = c.before.before.before.before in
-    later_passed _ s.args.n _ _ _ s.requires.0 w.before.word_at_lem.ensures w.word-at2.ensures c.before.before.before.blocks-needed.ensures
-    c.before.before.if1.false _ c.before.first-bad-block.ensures s.requires.1 c.if2.false
+    later_passed _ c.args.n _ _ _ c.requires.0 c.word_at-links.ensures c.word_at-prefixes.ensures c.blocks_needed-needed.ensures
+    c.if-n-needed.false _ c.first_bad_block-bad.ensures c.requires.1 c.if-bad-n.false
 
 pub judge_later_spec : {M : Type 1} → statement M
 judge_later_spec =
     tie.close
     (tie.spec
-    word-at-requires
-    cast-links
-    word-at-requires-2
-    cast-prefixes
-    blocks-needed-requires
-    returns
-    first-bad-block-requires
-    returns-2
-    returns-3)
+    word_at-links-requires
+    overflow_cast-links
+    word_at-prefixes-requires
+    overflow_cast-prefixes
+    blocks_needed-needed-requires
+    returns-then-n-needed
+    first_bad_block-bad-requires
+    returns-then-bad-n
+    returns)

@@ -28,10 +28,10 @@ facts : (c : tie.After-wrapping_sub_u64-even) → let a = c.args in
 facts c =
     let a = c.args in
     added a.x a.y a.z _ _ _ _ _ _ c.odd_lanes.ensures c.odd_lanes-2.ensures
-    c.odd_lanes-3.ensures c.add_three-odd.ensures c.add_three-odd.ensures c.wrapping_sub_u64-even.ensures (search rules)
+    c.odd_lanes-3.ensures c.add_three-odd.ensures c.add_three.ensures c.wrapping_sub_u64-even.ensures (search rules)
 
 overflow_add-even : tie.Need-overflow_add-even
-overflow_add-even c = record { fits = (facts c).ranges }
+overflow_add-even c = record { fits = (facts c).fits }
 
 halves_of-requires : tie.Need-halves_of-requires
 halves_of-requires c κs = search rules

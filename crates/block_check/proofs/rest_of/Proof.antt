@@ -25,7 +25,7 @@ returns c =
     let b = c.args.block.now in
     let first = c.word_at.ensures in
     let second = c.word_at-2.ensures in
-    c.wrapping_add_u16-sum.ensures ∙ rest_sum b _ _ _ _ first second c.word_at-3.ensures c.wrapping_add_u16-sum.ensures
+    c.wrapping_add_u16.ensures ∙ rest_sum b _ _ _ _ first second c.word_at-3.ensures c.wrapping_add_u16-sum.ensures
 
 pub rest_of_spec : {M : Type 1} → statement M
 rest_of_spec =

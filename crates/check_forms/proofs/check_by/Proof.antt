@@ -5,17 +5,17 @@ use Rattle.block_check.specs.Whole.{whole}
 use Rattle.check_forms.proofs.check_by.Statement.{statement}
 use Rattle.check_forms.proofs.check_by.Tie as tie
 
-word-by-word-requires : tie.Need-word-by-word-requires
-word-by-word-requires c κs = search rules
+word_by_word-requires : tie.Need-word_by_word-requires
+word_by_word-requires c κs = search rules
+
+returns-then-words : tie.Need-returns-then-words
+returns-then-words c = search rules
+
+check_of-requires : tie.Need-check_of-requires
+check_of-requires c κs = search rules
 
 returns : tie.Need-returns
-returns c = search rules
-
-check-of-requires : tie.Need-check-of-requires
-check-of-requires c κs = search rules
-
-returns-2 : tie.Need-returns-2
-returns-2 c = c.check-of.ensures ∙ whole _ c.before.before.before.requires
+returns c = c.check_of.ensures ∙ whole _ c.requires
 
 pub check_by_spec : {M : Type 1} → statement M
-check_by_spec = tie.close (tie.spec word-by-word-requires returns check-of-requires returns-2)
+check_by_spec = tie.close (tie.spec word_by_word-requires returns-then-words check_of-requires returns)

@@ -6,43 +6,43 @@ use Rattle.field.specs.Laws.Part.{part_taken}
 use Rattle.check_forms.proofs.check_good.Statement.{statement}
 use Rattle.check_forms.proofs.check_good.Tie as tie
 
-mul-start : tie.Need-overflow-mul-start
-mul-start c = search rules
+overflow_mul-start : tie.Need-overflow_mul-start
+overflow_mul-start c = search rules
 
-add-end : tie.Need-overflow-add-end
-add-end c = search rules
+overflow_add-end : tie.Need-overflow_add-end
+overflow_add-end c = search rules
 
-sub-block : tie.Need-overflow-sub-block
-sub-block c = search rules
+slice_bounds-block-count : tie.Need-slice_bounds-block-count
+slice_bounds-block-count c = search rules
 
-part-block-start : tie.Need-slice-bounds-block-start
-part-block-start c = search rules
+slice_bounds-block-start : tie.Need-slice_bounds-block-start
+slice_bounds-block-start c = search rules
 
-part-block-end : tie.Need-slice-bounds-block-end
-part-block-end c = search rules
+slice_bounds-block-end : tie.Need-slice_bounds-block-end
+slice_bounds-block-end c = search rules
 
-check-by-requires : tie.Need-check-by-requires
-check-by-requires c κs = (part_taken _ (512 * c.before.before.args.i) 512 c.before.before.requires).1
+check_by-requires : tie.Need-check_by-requires
+check_by-requires c κs = (part_taken _ (512 * c.args.i) 512 c.requires).1
 
-word-at-requires : tie.Need-word-at-requires
-word-at-requires c κs = search rules
+word_at-requires : tie.Need-word_at-requires
+word_at-requires c κs = search rules
 
 returns : tie.Need-returns
 unfolding check_good block_of
 returns c =
     let start = c.before.before.before.before in
     let block = (part_taken start.args.file.now (512 * start.args.i) 512 start.requires).0 in
-    ap₂ eqb (c.before.check-by.ensures ∙ ap check_of block) (c.word_at_lem.ensures ∙ ap (λ b. word_at b 510) block)
+    ap₂ eqb (c.check_by.ensures ∙ ap check_of block) (c.word_at.ensures ∙ ap (λ b. word_at b 510) block)
 
 pub check_good_spec : {M : Type 1} → statement M
 check_good_spec =
     tie.close
     (tie.spec
-    mul-start
-    add-end
-    sub-block
-    part-block-start
-    part-block-end
-    check-by-requires
-    word-at-requires
+    overflow_mul-start
+    overflow_add-end
+    slice_bounds-block-count
+    slice_bounds-block-start
+    slice_bounds-block-end
+    check_by-requires
+    word_at-requires
     returns)

@@ -13,66 +13,66 @@ check_more n b sum word e f =
     let more : sum_words (n + 1) b ≡ sum_words n b + word_at b (2 * n) = sum_split n 1 b ∙ rw (sum_word b (2 * n)) in
     rw (e, f, more) (mod-add-mod (sum_words n b) 65536 (word_at b (2 * n)))
 
-abbrev invariant-loop : tie.invariant-loop
-invariant-loop block sum₀ i₀ sum i = (i ≤ 255) × (sum ≡ sum_words i block % 65536)
+abbrev invariant-loop-i : tie.invariant-loop-i
+invariant-loop-i block sum₀ i₀ sum i = (i ≤ 255) × (sum ≡ sum_words i block % 65536)
 
-abbrev decreases-loop : tie.decreases-loop
-decreases-loop block sum₀ i₀ sum i = 255 - i
+abbrev decreases-loop-i : tie.decreases-loop-i
+decreases-loop-i block sum₀ i₀ sum i = 255 - i
 
-loop-holds : tie.Need-loop-init invariant-loop decreases-loop
+loop-i-init : tie.Need-loop-i-init invariant-loop-i decreases-loop-i
 unfolding sum_words
-loop-holds c = search rules
+loop-i-init c = search rules
 
-mul_at : tie.Need-overflow-mul-at invariant-loop decreases-loop
-mul_at c = search rules
+overflow_mul-at : tie.Need-overflow_mul-at invariant-loop-i decreases-loop-i
+overflow_mul-at c = search rules
 
-shared-slice-read-word-of : tie.Need-shared-slice-read-word-of invariant-loop decreases-loop
-shared-slice-read-word-of c = search rules
+bounds-block-at : tie.Need-bounds-block-at invariant-loop-i decreases-loop-i
+bounds-block-at c = search rules
 
-add-word-of : tie.Need-overflow-add-word-of invariant-loop decreases-loop
-add-word-of c = search rules
+overflow_add-at : tie.Need-overflow_add-at invariant-loop-i decreases-loop-i
+overflow_add-at c = search rules
 
-shared-slice-read-word-of-2 : tie.Need-shared-slice-read-word-of-2 invariant-loop decreases-loop
-shared-slice-read-word-of-2 c = search rules
+bounds-block-at-in-loop-i : tie.Need-bounds-block-at-in-loop-i invariant-loop-i decreases-loop-i
+bounds-block-at-in-loop-i c = search rules
 
-word-of-requires : tie.Need-word-of-requires invariant-loop decreases-loop
-word-of-requires c κs = search rules
+word_of-requires : tie.Need-word_of-requires invariant-loop-i decreases-loop-i
+word_of-requires c κs = search rules
 
-wrapping-add-u16-requires : tie.Need-wrapping-add-u16-requires invariant-loop decreases-loop
-wrapping-add-u16-requires c κs = search rules
+wrapping_add_u16-sum-requires : tie.Need-wrapping_add_u16-sum-requires invariant-loop-i decreases-loop-i
+wrapping_add_u16-sum-requires c κs = search rules
 
-add-i : tie.Need-overflow-add-i invariant-loop decreases-loop
-add-i c = search rules
+overflow_add-i : tie.Need-overflow_add-i invariant-loop-i decreases-loop-i
+overflow_add-i c = search rules
 
-loop-less : tie.Need-loop-smaller invariant-loop decreases-loop
-loop-less c = search rules
+loop-i-smaller : tie.Need-loop-i-smaller invariant-loop-i decreases-loop-i
+loop-i-smaller c = search rules
 
-loop-again : tie.Need-loop-preserved invariant-loop decreases-loop
+loop-i-preserved : tie.Need-loop-i-preserved invariant-loop-i decreases-loop-i
 unfolding word_at byte_at
-loop-again c =
-    let l = c.before.before.before.before.before.loop in
-    (omega arith, c.wrapping-add-u16.ensures ∙ check_more _ _ _ _ l.invariant.1 c.before.word_of.ensures)
+loop-i-preserved c =
+    let l = c.loop-i in
+    (omega arith, c.wrapping_add_u16-sum.ensures ∙ check_more _ _ _ _ l.invariant.1 c.word_of.ensures)
 
-returns : tie.Need-returns invariant-loop decreases-loop
+returns : tie.Need-returns invariant-loop-i decreases-loop-i
 unfolding check_of
 returns c =
-    let e : c.before.loop.i ≡ 255 = omega arith in
-    c.before.loop.invariant.1 ∙ ap (λ (k : ℕ). sum_words k c.before.before.before.args.block.now % 65536) e
+    let e : c.loop-i.i ≡ 255 = omega arith in
+    c.loop-i.invariant.1 ∙ ap (λ (k : ℕ). sum_words k c.args.block.now % 65536) e
 
 pub word_by_word_spec : {M : Type 1} → statement M
 word_by_word_spec =
     tie.close
     (tie.spec
-    invariant-loop
-    decreases-loop
-    loop-holds
-    mul_at
-    shared-slice-read-word-of
-    add-word-of
-    shared-slice-read-word-of-2
-    word-of-requires
-    wrapping-add-u16-requires
-    add-i
-    loop-less
-    loop-again
+    invariant-loop-i
+    decreases-loop-i
+    loop-i-init
+    overflow_mul-at
+    bounds-block-at
+    overflow_add-at
+    bounds-block-at-in-loop-i
+    word_of-requires
+    wrapping_add_u16-sum-requires
+    overflow_add-i
+    loop-i-smaller
+    loop-i-preserved
     returns)

@@ -5,7 +5,7 @@ use mathlib.Core.Bool.{true}
 use borrow.Author.Rules.{rules}
 use borrow.Author.Tests.{not-true, not-false}
 use Rattle.metric.specs.Fit.{slots_fit}
-use Rattle.metric.specs.Laws.Fit.{slots_give}
+use Rattle.metric.proofs.Laws.Fit.{slots_give}
 use Rattle.column.specs.Calls.{attached_set}
 use Rattle.column.proofs.attached_routers.Statement.{statement}
 use Rattle.column.proofs.attached_routers.Tie as tie

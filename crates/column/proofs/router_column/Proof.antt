@@ -9,7 +9,7 @@ use Rattle.lfa.specs.Distance.{towards}
 use Rattle.lfa.proofs.Laws.Target.{towards_router}
 use Rattle.metric.specs.Area.{held}
 use Rattle.metric.specs.Column.{column}
-use Rattle.metric.specs.Laws.Area.{cell_known}
+use Rattle.metric.proofs.Laws.Area.{cell_known}
 use Rattle.column.proofs.ColumnLaws.{column_none, column_more}
 use Rattle.column.proofs.router_column.Statement.{statement}
 use Rattle.column.proofs.router_column.Tie as tie

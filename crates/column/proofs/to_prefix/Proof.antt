@@ -9,7 +9,7 @@ use Rattle.lfa.specs.Lists.{count_up, below}
 use Rattle.lfa.specs.Distance.{least, towards}
 use Rattle.metric.specs.Area.{held}
 use Rattle.metric.specs.Column.{slots_in}
-use Rattle.metric.specs.Laws.Area.{cell_known}
+use Rattle.metric.proofs.Laws.Area.{cell_known}
 use Rattle.column.proofs.ColumnLaws.{slot_turn}
 use Rattle.column.proofs.to_prefix.Statement.{statement}
 use Rattle.column.proofs.to_prefix.Tie as tie

@@ -7,7 +7,7 @@ use lib.ListN.{length}
 use borrow.Author.Tests.{not-true, not-false}
 use borrow.Author.Rules.{rules}
 use Rattle.metric.specs.Fit.{SlotsWithin, cells_fit}
-use Rattle.metric.specs.Laws.Fit.{cells_give, slots_give}
+use Rattle.metric.proofs.Laws.Fit.{cells_give, slots_give}
 use Rattle.column.proofs.CallLaws.{prefix_none, prefix_found_lem}
 use Rattle.column.proofs.towards_prefix.Statement.{statement}
 use Rattle.column.proofs.towards_prefix.Tie as tie

@@ -8,7 +8,7 @@ use lib.ListN.{length}
 use borrow.Author.Tests.{not-true, not-false, le-ltb}
 use borrow.Author.Rules.{rules}
 use Rattle.metric.specs.Fit.{cells_fit}
-use Rattle.metric.specs.Laws.Fit.{cells_give}
+use Rattle.metric.proofs.Laws.Fit.{cells_give}
 use Rattle.column.proofs.CallLaws.{router_none, router_found}
 use Rattle.column.proofs.towards_router.Statement.{statement}
 use Rattle.column.proofs.towards_router.Tie as tie

@@ -9,8 +9,8 @@ use Rattle.lfa.specs.Distance.{towards}
 use Rattle.lfa.specs.Space.{has}
 use Rattle.lfa.proofs.Laws.Set.{has_set_of}
 use Rattle.metric.specs.Fit.{SlotsWithin}
-use Rattle.metric.specs.Laws.Fit.{cells_fit_lem, slots_fit_lem}
-use Rattle.metric.specs.Laws.List.{any_map}
+use Rattle.metric.proofs.Laws.Fit.{cells_fit_lem, slots_fit_lem}
+use Rattle.metric.proofs.Laws.List.{any_map}
 use Rattle.metric.specs.Area.{held}
 use Rattle.metric.specs.Column.{column, slots_in}
 use Rattle.column.specs.Calls.{router_column, prefix_column, in_slots, attached_set}

@@ -5,7 +5,7 @@ use mathlib.Core.Path.{sym, ◌∙◌}
 use mathlib.Core.Logic.{inl, inr}
 use native.Mathlib.Omega.{arith}
 use borrow.Rule.Slice.PartMut.{mid_len}
-use Rattle.metric.specs.Laws.Fit.{cells_give, links_give}
+use Rattle.metric.proofs.Laws.Fit.{cells_give, links_give}
 use Rattle.distance.proofs.StoreLaws.{square_few}
 use Rattle.distance.proofs.AreaLaws.{area_left, area_found}
 use borrow.Author.Rules.{rules}

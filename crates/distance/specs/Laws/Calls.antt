@@ -6,7 +6,7 @@ use Rattle.lfa.specs.Network.{Network, arcs}
 use Rattle.lfa.specs.Distance.{distances, filled}
 use Rattle.lfa.proofs.Laws.Test.{and_make}
 use Rattle.metric.specs.Fit.{cells_fit, links_fit, ColumnsWithin}
-use Rattle.metric.specs.Laws.Fit.{cells_fit_lem, links_fit_lem}
+use Rattle.metric.proofs.Laws.Fit.{cells_fit_lem, links_fit_lem}
 use Rattle.metric.specs.Columns.{InColumns, network_in}
 use Rattle.distance.specs.Calls.{area_filled}
 

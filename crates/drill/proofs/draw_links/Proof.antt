@@ -9,95 +9,95 @@ use Rattle.drill.proofs.DrawLaws.{Drawing, draw_none, draw_next}
 use Rattle.drill.proofs.draw_links.Statement.{statement}
 use Rattle.drill.proofs.draw_links.Tie as tie
 
-abbrev invariant-loop : tie.invariant-loop
-invariant-loop seed n from₀ to₀ out₀ back₀ drawn₀ i₀ from to out back drawn i = Drawing seed n i drawn from to out back
+abbrev invariant-loop-i : tie.invariant-loop-i
+invariant-loop-i seed n from₀ to₀ out₀ back₀ drawn₀ i₀ from to out back drawn i = Drawing seed n i drawn from to out back
 
-abbrev decreases-loop : tie.decreases-loop
-decreases-loop seed n from₀ to₀ out₀ back₀ drawn₀ i₀ from to out back drawn i = n - i
+abbrev decreases-loop-i : tie.decreases-loop-i
+decreases-loop-i seed n from₀ to₀ out₀ back₀ drawn₀ i₀ from to out back drawn i = n - i
 
-loop-holds : tie.Need-loop-init invariant-loop decreases-loop
-loop-holds c = draw_none _ _ _ _ _ _ refl refl refl refl
+loop-i-init : tie.Need-loop-i-init invariant-loop-i decreases-loop-i
+loop-i-init c = draw_none _ _ _ _ _ _ refl refl refl refl
 
-ends-of-requires : tie.Need-ends-of-requires invariant-loop decreases-loop
-ends-of-requires c κs = search rules
+ends_of-ends-requires : tie.Need-ends_of-ends-requires invariant-loop-i decreases-loop-i
+ends_of-ends-requires c κs = search rules
 
-cast-from : tie.Need-overflow-cast-from invariant-loop decreases-loop
-cast-from c = search rules
+overflow_cast-from : tie.Need-overflow_cast-from invariant-loop-i decreases-loop-i
+overflow_cast-from c = search rules
 
-array-write-from : tie.Need-array-write-from invariant-loop decreases-loop
-array-write-from c = search rules
+bounds-from-i : tie.Need-bounds-from-i invariant-loop-i decreases-loop-i
+bounds-from-i c = search rules
 
-cast-to : tie.Need-overflow-cast-to invariant-loop decreases-loop
-cast-to c =
-    let n = c.before.before.before.before.before.args.n in
-    let below = next_in n c.before.before.before.before.loop.i (omega arith) in
-    search (rules, below, c.before.before.ends_of.ensures.1)
+overflow_cast-to : tie.Need-overflow_cast-to invariant-loop-i decreases-loop-i
+overflow_cast-to c =
+    let n = c.args.n in
+    let below = next_in n c.loop-i.i (omega arith) in
+    search (rules, below, c.ends_of-ends.ensures.1)
 
-array-write-to : tie.Need-array-write-to invariant-loop decreases-loop
-array-write-to c = search rules
+bounds-to-i : tie.Need-bounds-to-i invariant-loop-i decreases-loop-i
+bounds-to-i c = search rules
 
-replace-requires : tie.Need-replace-requires invariant-loop decreases-loop
-replace-requires c κs = search rules
+replace-first-requires : tie.Need-replace-first-requires invariant-loop-i decreases-loop-i
+replace-first-requires c κs = search rules
 
-replace-requires-2 : tie.Need-replace-requires-2 invariant-loop decreases-loop
-replace-requires-2 c κs = search rules
+replace-second-requires : tie.Need-replace-second-requires invariant-loop-i decreases-loop-i
+replace-second-requires c κs = search rules
 
-cost-of-requires : tie.Need-cost-of-requires invariant-loop decreases-loop
-cost-of-requires c κs = search rules
+cost_of-requires : tie.Need-cost_of-requires invariant-loop-i decreases-loop-i
+cost_of-requires c κs = search rules
 
-mul-out : tie.Need-overflow-mul-out invariant-loop decreases-loop
-mul-out c = search rules
+offset_bounds-out-i : tie.Need-offset_bounds-out-i invariant-loop-i decreases-loop-i
+offset_bounds-out-i c = search rules
 
-array-write-out : tie.Need-array-write-out invariant-loop decreases-loop
-array-write-out c = search rules
+bounds-out-i : tie.Need-bounds-out-i invariant-loop-i decreases-loop-i
+bounds-out-i c = search rules
 
-cost-of-requires-2 : tie.Need-cost-of-requires-2 invariant-loop decreases-loop
-cost-of-requires-2 c κs = search rules
+cost_of-requires-in-loop-i : tie.Need-cost_of-requires-in-loop-i invariant-loop-i decreases-loop-i
+cost_of-requires-in-loop-i c κs = search rules
 
-mul-back : tie.Need-overflow-mul-back invariant-loop decreases-loop
-mul-back c = search rules
+offset_bounds-back-i : tie.Need-offset_bounds-back-i invariant-loop-i decreases-loop-i
+offset_bounds-back-i c = search rules
 
-array-write-back : tie.Need-array-write-back invariant-loop decreases-loop
-array-write-back c = search rules
+bounds-back-i : tie.Need-bounds-back-i invariant-loop-i decreases-loop-i
+bounds-back-i c = search rules
 
-add-i : tie.Need-overflow-add-i invariant-loop decreases-loop
-add-i c = search rules
+overflow_add-i : tie.Need-overflow_add-i invariant-loop-i decreases-loop-i
+overflow_add-i c = search rules
 
-loop-less : tie.Need-loop-smaller invariant-loop decreases-loop
-loop-less c = search rules
+loop-i-smaller : tie.Need-loop-i-smaller invariant-loop-i decreases-loop-i
+loop-i-smaller c = search rules
 
-loop-again : tie.Need-loop-preserved invariant-loop decreases-loop
-loop-again c =
+loop-i-preserved : tie.Need-loop-i-preserved invariant-loop-i decreases-loop-i
+loop-i-preserved c =
     let at-ends = c.before.before.before.before.before.before in
-    let first = c.before.before.before.replace in
-    let second = c.before.before.replace2 in
-    draw_next at-ends.before.before.loop.invariant (omega arith) (omega arith) _ _ _ _ _ _ first.ensures second.ensures
-    at-ends.ends_of.ensures.0 at-ends.ends_of.ensures.1 c.before.cost-of.ensures c.cost-of2.ensures
+    let first = c.replace-first in
+    let second = c.replace-second in
+    draw_next at-ends.loop-i.invariant (omega arith) (omega arith) _ _ _ _ _ _ first.ensures second.ensures
+    at-ends.ends_of-ends.ensures.0 at-ends.ends_of-ends.ensures.1 c.cost_of.ensures c.cost_of-in-loop-i.ensures
 
-returns : tie.Need-returns invariant-loop decreases-loop
-returns c = λ i h. c.before.loop.invariant.links i (omega arith)
+returns : tie.Need-returns invariant-loop-i decreases-loop-i
+returns c = λ i h. c.loop-i.invariant.links i (omega arith)
 
 pub draw_links_spec : {M : Type 1} → statement M
 draw_links_spec =
     tie.close
     (tie.spec
-    invariant-loop
-    decreases-loop
-    loop-holds
-    ends-of-requires
-    cast-from
-    array-write-from
-    cast-to
-    array-write-to
-    replace-requires
-    replace-requires-2
-    cost-of-requires
-    mul-out
-    array-write-out
-    cost-of-requires-2
-    mul-back
-    array-write-back
-    add-i
-    loop-less
-    loop-again
+    invariant-loop-i
+    decreases-loop-i
+    loop-i-init
+    ends_of-ends-requires
+    overflow_cast-from
+    bounds-from-i
+    overflow_cast-to
+    bounds-to-i
+    replace-first-requires
+    replace-second-requires
+    cost_of-requires
+    offset_bounds-out-i
+    bounds-out-i
+    cost_of-requires-in-loop-i
+    offset_bounds-back-i
+    bounds-back-i
+    overflow_add-i
+    loop-i-smaller
+    loop-i-preserved
     returns)

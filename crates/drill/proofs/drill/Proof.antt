@@ -6,26 +6,26 @@ use Rattle.lfa.proofs.Laws.Drill.{too_few_lem, too_many, drilled}
 use Rattle.drill.proofs.drill.Statement.{statement}
 use Rattle.drill.proofs.drill.Tie as tie
 
-returns : tie.Need-returns
-returns c = too_few_lem _ _ (omega arith) _
+returns-then-routers-lt3 : tie.Need-returns-then-routers-lt3
+returns-then-routers-lt3 c = too_few_lem _ _ (omega arith) _
 
-returns-2 : tie.Need-returns-2
-returns-2 c = too_many _ _ (omega arith) _
+returns-then-routers-gt64 : tie.Need-returns-then-routers-gt64
+returns-then-routers-gt64 c = too_many _ _ (omega arith) _
 
-network-of-requires : tie.Need-network-of-requires
-network-of-requires c κs = search rules
+network_of-requires : tie.Need-network_of-requires
+network_of-requires c κs = search rules
 
 write-requires : tie.Need-write-requires
 write-requires c κs = search rules
 
-same_length : tie.Need-same-length
-same_length c = search rules
+shape_of-buffer : tie.Need-shape_of-buffer
+shape_of-buffer c = search rules
 
-returns-3 : tie.Need-returns-3
-returns-3 c =
+returns : tie.Need-returns
+returns c =
     let at-write = c.before.before in
-    drilled _ _ (omega arith) (omega arith) at-write.before.before.network-of.ensures at-write.write.ensures
+    drilled _ _ (omega arith) (omega arith) at-write.network_of.ensures at-write.write.ensures
 
 pub drill_spec : {M : Type 1} → statement M
 drill_spec =
-    tie.close (tie.spec returns returns-2 network-of-requires write-requires same_length returns-3)
+    tie.close (tie.spec returns-then-routers-lt3 returns-then-routers-gt64 network_of-requires write-requires shape_of-buffer returns)

@@ -7,17 +7,17 @@ use Rattle.lfa.proofs.Laws.Ring.{next_on_ring_lem, last_on_ring}
 use Rattle.drill.proofs.ends_of.Statement.{statement}
 use Rattle.drill.proofs.ends_of.Tie as tie
 
-add-if1 : tie.Need-overflow-add-if1
-add-if1 c = search rules
+overflow_add-i : tie.Need-overflow_add-i
+overflow_add-i c = search rules
 
-add-t5 : tie.Need-overflow-add-t5
-add-t5 c = search rules
+overflow_add-result : tie.Need-overflow_add-result
+overflow_add-result c = search rules
+
+returns-then-i-n : tie.Need-returns-then-i-n
+returns-then-i-n c = (refl, sym (next_on_ring_lem c.args.n c.args.i (omega arith)))
 
 returns : tie.Need-returns
-returns c = (refl, sym (next_on_ring_lem c.before.args.n c.before.args.i (omega arith)))
-
-returns-2 : tie.Need-returns-2
-returns-2 c = (refl, sym (last_on_ring c.before.args.n c.before.args.i (omega arith)))
+returns c = (refl, sym (last_on_ring c.args.n c.args.i (omega arith)))
 
 pub ends_of_spec : {M : Type 1} → statement M
-ends_of_spec = tie.close (tie.spec add-if1 add-t5 returns returns-2)
+ends_of_spec = tie.close (tie.spec overflow_add-i overflow_add-result returns-then-i-n returns)

@@ -6,11 +6,11 @@ use Rattle.drill.proofs.DrawLaws.{held_drill}
 use Rattle.drill.proofs.network_of.Statement.{statement}
 use Rattle.drill.proofs.network_of.Tie as tie
 
-draw-links-requires : tie.Need-draw-links-requires
-draw-links-requires c κs = search rules
+draw_links-columns-requires : tie.Need-draw_links-columns-requires
+draw_links-columns-requires c κs = search rules
 
 returns : tie.Need-returns
-returns c = held_drill _ _ _ refl refl refl c.before.before.before.before.draw-links.ensures
+returns c = held_drill _ _ _ refl refl refl c.draw_links-columns.ensures
 
 pub network_of_spec : {M : Type 1} → statement M
-network_of_spec = tie.close (tie.spec draw-links-requires returns)
+network_of_spec = tie.close (tie.spec draw_links-columns-requires returns)

@@ -6,17 +6,17 @@ use Rattle.lfa.specs.Drill.{replaced}
 use Rattle.drill.proofs.replace.Statement.{statement}
 use Rattle.drill.proofs.replace.Tie as tie
 
-mul_next : tie.Need-overflow-mul-next
-mul_next c = search rules
+overflow_mul-next : tie.Need-overflow_mul-next
+overflow_mul-next c = search rules
 
-add-next : tie.Need-overflow-add-next
-add-next c = search rules
+overflow_add-next : tie.Need-overflow_add-next
+overflow_add-next c = search rules
 
-cast-result : tie.Need-overflow-cast-result
-cast-result c = search rules
+overflow_cast-result : tie.Need-overflow_cast-result
+overflow_cast-result c = search rules
 
 returns : tie.Need-returns
 returns c = unfold replaced in refl
 
 pub replace_spec : {M : Type 1} → statement M
-replace_spec = tie.close (tie.spec mul_next add-next cast-result returns)
+replace_spec = tie.close (tie.spec overflow_mul-next overflow_add-next overflow_cast-result returns)

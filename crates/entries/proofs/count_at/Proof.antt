@@ -7,32 +7,31 @@ use borrow.Author.Rules.{rules}
 use Rattle.entries.proofs.count_at.Statement.{statement}
 use Rattle.entries.proofs.count_at.Tie as tie
 
-judge-requires : tie.Need-judge-requires
-judge-requires c κs = search rules
+judge-verdict-requires : tie.Need-judge-verdict-requires
+judge-verdict-requires c κs = search rules
 
-enum_told : tie.Need-enum-told
-enum_told c = search rules
+enum_told-1 : tie.Need-enum_told-1
+enum_told-1 c = search rules
 
-word-at-requires : tie.Need-word-at-requires
-word-at-requires c κs = search rules
+word_at-requires : tie.Need-word_at-requires
+word_at-requires c κs = search rules
 
-cast-result : tie.Need-overflow-cast-result
-cast-result c = search rules
+overflow_cast-result : tie.Need-overflow_cast-result
+overflow_cast-result c = search rules
 
-enum-told-2 : tie.Need-enum-told-2
-enum-told-2 c = search rules
+enum_told-in-Refused : tie.Need-enum_told-in-Refused
+enum_told-in-Refused c = search rules
 
-returns : tie.Need-returns
+returns-in-Accepted : tie.Need-returns-in-Accepted
 unfolding verdict_decided undecided
-returns c =
-    let f = c.before in
-    c.word_at_lem.ensures ∙ count_accepted _ _ (ap undecided (sym f.before.before.judge.ensures ∙ ap verdict_decided f.enum_told.given.1))
+returns-in-Accepted c =
+    c.word_at.ensures ∙ count_accepted _ _ (ap undecided (sym c.judge-verdict.ensures ∙ ap verdict_decided c.in-Accepted.is))
 
-returns-2 : tie.Need-returns-2
+returns-in-Refused : tie.Need-returns-in-Refused
 unfolding verdict_decided undecided
-returns-2 c = count_refused _ _ (ap undecided (sym c.before.before.judge.ensures ∙ ap verdict_decided c.enum-told2.given.1))
+returns-in-Refused c = count_refused _ _ (ap undecided (sym c.judge-verdict.ensures ∙ ap verdict_decided c.in-Refused.is))
 
 pub count_at_spec : {M : Type 1} → statement M
 count_at_spec =
     tie.close
-    (tie.spec judge-requires enum_told word-at-requires cast-result enum-told-2 returns returns-2)
+    (tie.spec judge-verdict-requires enum_told-1 word_at-requires overflow_cast-result enum_told-in-Refused returns-in-Accepted returns-in-Refused)

@@ -8,7 +8,7 @@ use lib.ListN.{get_or}
 use borrow.Author.Tests.{lt-ltb}
 use borrow.Author.Rules.{rules}
 use Rattle.metric.specs.Fit.{attaches}
-use Rattle.metric.specs.Laws.List.{every_more}
+use Rattle.metric.proofs.Laws.List.{every_more}
 use Rattle.fit.proofs.FitLaws.{slots_many, slot_fails, slots_pass}
 use Rattle.fit.proofs.slots_fit.Statement.{statement}
 use Rattle.fit.proofs.slots_fit.Tie as tie

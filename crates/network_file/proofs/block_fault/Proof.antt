@@ -8,61 +8,61 @@ use borrow.Author.Rules.{rules}
 use Rattle.network_file.proofs.block_fault.Statement.{statement}
 use Rattle.network_file.proofs.block_fault.Tie as tie
 
-enum_told : tie.Need-enum-told
-enum_told c = search rules
+enum_told-1 : tie.Need-enum_told-1
+enum_told-1 c = search rules
 
-enum-known-judged : tie.Need-enum-known-judged
-enum-known-judged c = search rules
+enum_known-judged : tie.Need-enum_known-judged
+enum_known-judged c = search rules
 
-enum-told-2 : tie.Need-enum-told-2
-enum-told-2 c = search rules
+enum_told-in-BadHead : tie.Need-enum_told-in-BadHead
+enum_told-in-BadHead c = search rules
 
-enum-known-judged-2 : tie.Need-enum-known-judged-2
-enum-known-judged-2 c = search rules
+enum_known-judged-in-BadBlockCount-1 : tie.Need-enum_known-judged-in-BadBlockCount-1
+enum_known-judged-in-BadBlockCount-1 c = search rules
 
-enum-known-judged-3 : tie.Need-enum-known-judged-3
-enum-known-judged-3 c = search rules
+enum_known-judged-in-BadBlock-1 : tie.Need-enum_known-judged-in-BadBlock-1
+enum_known-judged-in-BadBlock-1 c = search rules
 
-enum-told-3 : tie.Need-enum-told-3
-enum-told-3 c = search rules
+enum_told-in-Passed : tie.Need-enum_told-in-Passed
+enum_told-in-Passed c = search rules
 
-returns : tie.Need-returns
+returns-in-BadLength : tie.Need-returns-in-BadLength
 unfolding blocks_decided fault_row
-returns c = sym (ap blocks_decided c.enum_told.given.1)
+returns-in-BadLength c = sym (ap blocks_decided c.in-BadLength.is)
 
-returns-2 : tie.Need-returns-2
+returns-in-BadCheck : tie.Need-returns-in-BadCheck
 unfolding blocks_decided fault_row
-returns-2 c = sym (ap blocks_decided c.before.judged.given.1)
+returns-in-BadCheck c = sym (ap blocks_decided c.in-BadCheck.is)
 
-returns-3 : tie.Need-returns-3
+returns-in-BadHead : tie.Need-returns-in-BadHead
 unfolding blocks_decided fault_row
-returns-3 c = sym (ap blocks_decided c.enum-told2.given.1)
+returns-in-BadHead c = sym (ap blocks_decided c.in-BadHead.is)
 
-returns-4 : tie.Need-returns-4
+returns-in-BadBlockCount : tie.Need-returns-in-BadBlockCount
 unfolding blocks_decided fault_row
-returns-4 c = sym (ap blocks_decided c.before.judged2.given.1)
+returns-in-BadBlockCount c = sym (ap blocks_decided c.in-BadBlockCount.is)
 
-returns-5 : tie.Need-returns-5
+returns-in-BadBlock : tie.Need-returns-in-BadBlock
 unfolding blocks_decided fault_row
-returns-5 c = sym (ap blocks_decided c.before.judged3.given.1)
+returns-in-BadBlock c = sym (ap blocks_decided c.in-BadBlock.is)
 
-returns-6 : tie.Need-returns-6
+returns-in-Passed : tie.Need-returns-in-Passed
 unfolding blocks_decided undecided
-returns-6 c = absurd (false≢true (sym c.before.before.requires ∙ ap (λ j. undecided (blocks_decided j)) c.enum-told3.given.1))
+returns-in-Passed c = absurd (false≢true (sym c.requires ∙ ap (λ j. undecided (blocks_decided j)) c.in-Passed.is))
 
 pub block_fault_spec : {M : Type 1} → statement M
 block_fault_spec =
     tie.close
     (tie.spec
-    enum_told
-    enum-known-judged
-    enum-told-2
-    enum-known-judged-2
-    enum-known-judged-3
-    enum-told-3
-    returns
-    returns-2
-    returns-3
-    returns-4
-    returns-5
-    returns-6)
+    enum_told-1
+    enum_known-judged
+    enum_told-in-BadHead
+    enum_known-judged-in-BadBlockCount-1
+    enum_known-judged-in-BadBlock-1
+    enum_told-in-Passed
+    returns-in-BadLength
+    returns-in-BadCheck
+    returns-in-BadHead
+    returns-in-BadBlockCount
+    returns-in-BadBlock
+    returns-in-Passed)

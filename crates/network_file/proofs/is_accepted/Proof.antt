@@ -6,19 +6,19 @@ use borrow.Author.Rules.{rules}
 use Rattle.network_file.proofs.is_accepted.Statement.{statement}
 use Rattle.network_file.proofs.is_accepted.Tie as tie
 
-enum_told : tie.Need-enum-told
-enum_told c = search rules
+enum_told-1 : tie.Need-enum_told-1
+enum_told-1 c = search rules
 
-enum-told-2 : tie.Need-enum-told-2
-enum-told-2 c = search rules
+enum_told-in-Refused : tie.Need-enum_told-in-Refused
+enum_told-in-Refused c = search rules
 
-returns : tie.Need-returns
+returns-in-Accepted : tie.Need-returns-in-Accepted
 unfolding verdict_decided undecided
-returns c = sym (ap (λ v. undecided (verdict_decided v)) c.enum_told.given.1)
+returns-in-Accepted c = sym (ap (λ v. undecided (verdict_decided v)) c.in-Accepted.is)
 
-returns-2 : tie.Need-returns-2
+returns-in-Refused : tie.Need-returns-in-Refused
 unfolding verdict_decided undecided
-returns-2 c = sym (ap (λ v. undecided (verdict_decided v)) c.enum-told2.given.1)
+returns-in-Refused c = sym (ap (λ v. undecided (verdict_decided v)) c.in-Refused.is)
 
 pub is_accepted_spec : {M : Type 1} → statement M
-is_accepted_spec = tie.close (tie.spec enum_told enum-told-2 returns returns-2)
+is_accepted_spec = tie.close (tie.spec enum_told-1 enum_told-in-Refused returns-in-Accepted returns-in-Refused)

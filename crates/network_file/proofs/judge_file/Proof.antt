@@ -9,40 +9,40 @@ use borrow.Author.Rules.{rules}
 use Rattle.network_file.proofs.judge_file.Statement.{statement}
 use Rattle.network_file.proofs.judge_file.Tie as tie
 
-judge-blocks-requires : tie.Need-judge-blocks-requires
-judge-blocks-requires c κs = search rules
+judge_blocks-blocks-requires : tie.Need-judge_blocks-blocks-requires
+judge_blocks-blocks-requires c κs = search rules
 
-enum_told : tie.Need-enum-told
-enum_told c = search rules
+enum_told-1 : tie.Need-enum_told-1
+enum_told-1 c = search rules
 
-load-entries-requires : tie.Need-load-entries-requires
+load_entries-requires : tie.Need-load_entries-requires
 unfolding blocks_decided
-load-entries-requires c κs = sym c.before.before.judge-blocks.ensures ∙ ap blocks_decided c.enum_told.given.1
+load_entries-requires c κs = sym c.judge_blocks-blocks.ensures ∙ ap blocks_decided c.in-Passed.is
 
-block-fault-requires : tie.Need-block-fault-requires
-block-fault-requires c κs = not_passed _ c.match.keys2
+block_fault-requires : tie.Need-block_fault-requires
+block_fault-requires c κs = not_passed _ c.in_default.in_default-own.keys2
 
-no-links-requires : tie.Need-no-links-requires
-no-links-requires c κs = search rules
+no_links-nothing-requires : tie.Need-no_links-nothing-requires
+no_links-nothing-requires c κs = search rules
 
-returns : tie.Need-returns
-returns c = search rules
+returns-in-Passed : tie.Need-returns-in-Passed
+returns-in-Passed c = search rules
 
-returns-2 : tie.Need-returns-2
+returns-in_default : tie.Need-returns-in_default
 unfolding verdict_decided undecided
-returns-2 c =
+returns-in_default c =
     let fault = c.before in
-    let decided = blocks_refuse _ _ (sym fault.before.before.judge-blocks.ensures ∙ sym fault.block-fault.ensures) in
-    (sym decided, c.no-links.ensures ∙ ap links_struct_of (refused_network _ (ap undecided decided)))
+    let decided = blocks_refuse _ _ (sym fault.judge_blocks-blocks.ensures ∙ sym fault.block_fault.ensures) in
+    (sym decided, c.no_links-nothing.ensures ∙ ap links_struct_of (refused_network _ (ap undecided decided)))
 
 pub judge_file_spec : {M : Type 1} → statement M
 judge_file_spec =
     tie.close
     (tie.spec
-    judge-blocks-requires
-    enum_told
-    load-entries-requires
-    block-fault-requires
-    no-links-requires
-    returns
-    returns-2)
+    judge_blocks-blocks-requires
+    enum_told-1
+    load_entries-requires
+    block_fault-requires
+    no_links-nothing-requires
+    returns-in-Passed
+    returns-in_default)

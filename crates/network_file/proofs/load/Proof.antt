@@ -7,20 +7,20 @@ use borrow.Author.Rules.{rules}
 use Rattle.network_file.proofs.load.Statement.{statement}
 use Rattle.network_file.proofs.load.Tie as tie
 
-judge-file-requires : tie.Need-judge-file-requires
-judge-file-requires c κs = search rules
+judge_file-judged-requires : tie.Need-judge_file-judged-requires
+judge_file-judged-requires c κs = search rules
 
-is-accepted-requires : tie.Need-is-accepted-requires
-is-accepted-requires c κs = search rules
+is_accepted-requires : tie.Need-is_accepted-requires
+is_accepted-requires c κs = search rules
 
-network-if-requires : tie.Need-network-if-requires
-network-if-requires c κs =
-    let judged = c.before.before.judge-file.ensures in
+network_if-network-requires : tie.Need-network_if-network-requires
+network_if-network-requires c κs =
+    let judged = c.judge_file-judged.ensures in
     (c.is_accepted.ensures ∙ ap undecided judged.0, judged.1)
 
 returns : tie.Need-returns
-returns c = (verdict_answers _ _ c.before.before.before.judge-file.ensures.0, c.network-if.ensures)
+returns c = (verdict_answers _ _ c.judge_file-judged.ensures.0, c.network_if-network.ensures)
 
 pub load_spec : {M : Type 1} → statement M
 load_spec =
-    tie.close (tie.spec judge-file-requires is-accepted-requires network-if-requires returns)
+    tie.close (tie.spec judge_file-judged-requires is_accepted-requires network_if-network-requires returns)

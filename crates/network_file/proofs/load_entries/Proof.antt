@@ -2,7 +2,6 @@
 -- Assumes nothing.
 use mathlib.Core.Path.{refl, sym, ap, ◌∙◌}
 use native.Mathlib.Omega.{arith}
-use borrow.Author.Tests.{not-true, not-false}
 use Rattle.lfa.specs.File.{routers_of, links_of, prefixes_of, byte_at}
 use Rattle.block.specs.Laws.Sized.{blocks_passed}
 use Rattle.network_file.specs.Struct.{link_columns, links_struct_of}
@@ -13,73 +12,65 @@ use borrow.Author.Rules.{rules}
 use Rattle.network_file.proofs.load_entries.Statement.{statement}
 use Rattle.network_file.proofs.load_entries.Tie as tie
 
-shared-slice-read-routers : tie.Need-shared-slice-read-routers
-shared-slice-read-routers c = omega (arith, head_there _ (blocks_passed _ c.before.before.requires))
+bounds-file-4 : tie.Need-bounds-file-4
+bounds-file-4 c = omega (arith, head_there _ (blocks_passed _ c.requires))
 
-cast-routers : tie.Need-overflow-cast-routers
-cast-routers c = omega (arith, c.shared-slice-known2.given 4)
+overflow_cast-routers : tie.Need-overflow_cast-routers
+overflow_cast-routers c = omega (arith, c.shared_slice_known-2-1.given 4)
 
-word-at-requires : tie.Need-word-at-requires
-word-at-requires c κs = search rules
+word_at-links-requires : tie.Need-word_at-links-requires
+word_at-links-requires c κs = search rules
 
-cast-links : tie.Need-overflow-cast-links
-cast-links c = search rules
+overflow_cast-links : tie.Need-overflow_cast-links
+overflow_cast-links c = search rules
 
-word-at-requires-2 : tie.Need-word-at-requires-2
-word-at-requires-2 c κs = search rules
+word_at-prefixes-requires : tie.Need-word_at-prefixes-requires
+word_at-prefixes-requires c κs = search rules
 
-cast-prefixes : tie.Need-overflow-cast-prefixes
-cast-prefixes c = search rules
+overflow_cast-prefixes : tie.Need-overflow_cast-prefixes
+overflow_cast-prefixes c = search rules
 
-fill-links-requires : tie.Need-fill-links-requires
+fill_links-ends-requires : tie.Need-fill_links-ends-requires
 unfolding links_of
-fill-links-requires c κs = (blocks_passed _ c.before.before.before.before.requires, c.before.word_at_lem.ensures)
+fill_links-ends-requires c κs = (blocks_passed _ c.requires, c.word_at-links.ensures)
 
-judge-entries-requires : tie.Need-judge-entries-requires
+judge_entries-verdict-requires : tie.Need-judge_entries-verdict-requires
 unfolding routers_of links_of byte_at
-judge-entries-requires c κs =
-    let links = c.before.before in
-    (blocks_passed _ links.before.before.before.requires, refl, links.word_at_lem.ensures, c.fill-links.ensures)
+judge_entries-verdict-requires c κs =
+    (blocks_passed _ c.requires, refl, c.word_at-links.ensures, c.fill_links-ends.ensures)
 
-is-accepted-requires : tie.Need-is-accepted-requires
-is-accepted-requires c κs = search rules
+is_accepted-requires : tie.Need-is_accepted-requires
+is_accepted-requires c κs = search rules
 
-no-links-requires : tie.Need-no-links-requires
-no-links-requires c κs = search rules
+no_links-nothing-requires : tie.Need-no_links-nothing-requires
+no_links-nothing-requires c κs = search rules
+
+returns-then-not-is_accepted : tie.Need-returns-then-not-is_accepted
+returns-then-not-is_accepted c =
+    let decided = c.judge_entries-verdict.ensures ∙ sym (blocks_pass _ c.requires) in
+    let refused = sym (c.is_accepted.ensures ∙ ap undecided decided) ∙ c.if-not-is_accepted.true in
+    (decided, c.no_links-nothing.ensures ∙ ap links_struct_of (refused_network _ refused))
 
 returns : tie.Need-returns
-returns c =
-    let told = c.before.before in
-    let judged = told.before in
-    let decided = judged.judge-entries.ensures ∙ sym (blocks_pass _ judged.before.before.before.before.before.before.requires) in
-    let refused = sym (told.is_accepted.ensures ∙ ap undecided decided) ∙ c.before.if1.true in
-    (decided, c.no-links.ensures ∙ ap links_struct_of (refused_network _ refused))
-
-returns-2 : tie.Need-returns-2
 unfolding routers_of links_of prefixes_of byte_at link_columns
-returns-2 c =
-    let passed = c.before.before.before.before in
-    let told = passed.before in
-    let judged = told.before in
-    let ends = judged.before in
-    let start = ends.before.before.before.before.before in
-    let decided = judged.judge-entries.ensures ∙ sym (blocks_pass _ start.requires) in
-    let accepted = sym (told.is_accepted.ensures ∙ ap undecided decided) ∙ passed.if1.false in
-    (decided, rw ends.fill-links.ensures (links_made _ _ _ _ refl ends.before.before.word_at_lem.ensures ends.before.word-at2.ensures) ∙ ap links_struct_of (accepted_network _ accepted))
+returns c =
+    let decided = c.judge_entries-verdict.ensures ∙ sym (blocks_pass _ c.requires) in
+    let accepted = sym (c.is_accepted.ensures ∙ ap undecided decided) ∙ c.if-not-is_accepted.false in
+    (decided, rw c.fill_links-ends.ensures (links_made _ _ _ _ refl c.word_at-links.ensures c.word_at-prefixes.ensures) ∙ ap links_struct_of (accepted_network _ accepted))
 
 pub load_entries_spec : {M : Type 1} → statement M
 load_entries_spec =
     tie.close
     (tie.spec
-    shared-slice-read-routers
-    cast-routers
-    word-at-requires
-    cast-links
-    word-at-requires-2
-    cast-prefixes
-    fill-links-requires
-    judge-entries-requires
-    is-accepted-requires
-    no-links-requires
-    returns
-    returns-2)
+    bounds-file-4
+    overflow_cast-routers
+    word_at-links-requires
+    overflow_cast-links
+    word_at-prefixes-requires
+    overflow_cast-prefixes
+    fill_links-ends-requires
+    judge_entries-verdict-requires
+    is_accepted-requires
+    no_links-nothing-requires
+    returns-then-not-is_accepted
+    returns)

@@ -18,7 +18,7 @@ use Rattle.lfa.proofs.Laws.File.WrittenFile.{FewAttached, limits_few, prefix_wit
 use Rattle.metric.specs.Fit.{SlotsWithin}
 use Rattle.metric.specs.Columns.{links_in, InColumns}
 use Rattle.metric.specs.Column.{slots_in}
-use Rattle.metric.specs.Laws.Column.{pad_at}
+use Rattle.metric.proofs.Laws.Column.{pad_at}
 use Rattle.network_file.specs.Struct.{from_of, to_of, out_of, back_of, router_of, cost_of, link_column, slot_column, attached_column, struct_of, links_struct_of}
 use Rattle.network_file.specs.Held.{targets_in, network_held}
 

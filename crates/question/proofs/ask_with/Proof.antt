@@ -8,8 +8,8 @@ use borrow.Author.Rules.{rules}
 use Rattle.question.proofs.ask_with.Statement.{statement}
 use Rattle.question.proofs.ask_with.Tie as tie
 
-holds-distances-requires : tie.Need-holds-distances-requires
-holds-distances-requires c κs = search rules
+holds_distances-right-requires : tie.Need-holds_distances-right-requires
+holds_distances-right-requires c κs = search rules
 
 judge-requires : tie.Need-judge-requires
 judge-requires c κs = search rules
@@ -18,8 +18,8 @@ returns : tie.Need-returns
 unfolding question_about table_cells network_asked
 returns c = λ b held s choices ranks is counts columns good.
     let h = c.before in
-    let table = h.before.before.args.table.now in
-    c.judge.ensures b held table s choices ranks is counts good (λ a has. checked table is.links_is counts columns h.holds-distances.ensures a)
+    let table = h.args.table.now in
+    c.judge.ensures b held table s choices ranks is counts good (λ a has. checked table is.links_is counts columns h.holds_distances-right.ensures a)
 
 pub ask_with_spec : {M : Type 1} → statement M
-ask_with_spec = tie.close (tie.spec holds-distances-requires judge-requires returns)
+ask_with_spec = tie.close (tie.spec holds_distances-right-requires judge-requires returns)

@@ -9,25 +9,25 @@ use borrow.Author.Rules.{rules}
 use Rattle.question.proofs.pose.Statement.{statement}
 use Rattle.question.proofs.pose.Tie as tie
 
-load-requires : tie.Need-load-requires
-load-requires c κs = search rules
+load-loaded-requires : tie.Need-load-loaded-requires
+load-loaded-requires c κs = search rules
 
 -- the file is loaded
-is_loaded : (l : tie.After-load) → IsLoaded l.before.before.before.args.file.now l.load.result.verdict (link_part l.load.result.network)
+is_loaded : (l : tie.After-load-loaded) → IsLoaded l.args.file.now l.load-loaded.result.verdict (link_part l.load-loaded.result.network)
 unfolding byte_at
-is_loaded l = record { bytes = λ i. omega (arith, l.before.before.shared-slice-known.given i); verdict_is = l.load.ensures.0; links_is = part_is _ l.load.ensures.1 }
+is_loaded l = record { bytes = λ i. omega (arith, l.shared_slice_known-1.given i); verdict_is = l.load-loaded.ensures.0; links_is = part_is _ l.load-loaded.ensures.1 }
 
-ask-requires : tie.Need-ask-requires
-ask-requires c κs = search rules
+ask-turned-requires : tie.Need-ask-turned-requires
+ask-turned-requires c κs = search rules
 
-same_length : tie.Need-same-length
-same_length c = search rules
+shape_of-work : tie.Need-shape_of-work
+shape_of-work c = search rules
 
 returns : tie.Need-returns
 returns c =
     let h = c.before.before in
-    let l = h.before.before.before.before.before.before.before.before in
-    (l.load.ensures.1, λ s choices ranks good. h.ask.ensures _ _ s choices ranks (is_loaded l) (own_counts (link_part l.load.result.network)) (own_columns (link_part l.load.result.network)) good)
+    let l = h.before.before.before.before.before.before.before in
+    (l.load-loaded.ensures.1, λ s choices ranks good. h.ask-turned.ensures _ _ s choices ranks (is_loaded l) (own_counts (link_part l.load-loaded.result.network)) (own_columns (link_part l.load-loaded.result.network)) good)
 
 pub pose_spec : {M : Type 1} → statement M
-pose_spec = tie.close (tie.spec load-requires ask-requires same_length returns)
+pose_spec = tie.close (tie.spec load-loaded-requires ask-turned-requires shape_of-work returns)

@@ -8,25 +8,25 @@ use borrow.Author.Rules.{rules}
 use Rattle.question.proofs.pose_links.Statement.{statement}
 use Rattle.question.proofs.pose_links.Tie as tie
 
-load-links-requires : tie.Need-load-links-requires
-load-links-requires c κs = search rules
+load_links-loaded-requires : tie.Need-load_links-loaded-requires
+load_links-loaded-requires c κs = search rules
 
 -- the file is loaded
-is_loaded : (l : tie.After-load-links) → IsLoaded l.before.before.before.args.file.now l.load-links.result.verdict l.load-links.result.links
+is_loaded : (l : tie.After-load_links-loaded) → IsLoaded l.args.file.now l.load_links-loaded.result.verdict l.load_links-loaded.result.links
 unfolding byte_at
-is_loaded l = record { bytes = λ i. omega (arith, l.before.before.shared-slice-known.given i); verdict_is = l.load-links.ensures.0; links_is = l.load-links.ensures.1 }
+is_loaded l = record { bytes = λ i. omega (arith, l.shared_slice_known-1.given i); verdict_is = l.load_links-loaded.ensures.0; links_is = l.load_links-loaded.ensures.1 }
 
-ask-requires : tie.Need-ask-requires
-ask-requires c κs = search rules
+ask-turned-requires : tie.Need-ask-turned-requires
+ask-turned-requires c κs = search rules
 
-same_length : tie.Need-same-length
-same_length c = search rules
+shape_of-work : tie.Need-shape_of-work
+shape_of-work c = search rules
 
 returns : tie.Need-returns
 returns c =
     let h = c.before.before in
-    let l = h.before.before.before.before.before.before.before.before in
-    λ s choices ranks good. h.ask.ensures _ _ s choices ranks (is_loaded l) (own_counts l.load-links.result.links) (own_columns l.load-links.result.links) good
+    let l = h.before.before.before.before.before.before.before in
+    λ s choices ranks good. h.ask-turned.ensures _ _ s choices ranks (is_loaded l) (own_counts l.load_links-loaded.result.links) (own_columns l.load_links-loaded.result.links) good
 
 pub pose_links_spec : {M : Type 1} → statement M
-pose_links_spec = tie.close (tie.spec load-links-requires ask-requires same_length returns)
+pose_links_spec = tie.close (tie.spec load_links-loaded-requires ask-turned-requires shape_of-work returns)

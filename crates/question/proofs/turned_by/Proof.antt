@@ -9,70 +9,70 @@ use borrow.Author.Rules.{rules}
 use Rattle.question.proofs.turned_by.Statement.{statement}
 use Rattle.question.proofs.turned_by.Tie as tie
 
-enum-known-row : tie.Need-enum-known-row
-enum-known-row c = search rules
+enum_known-row : tie.Need-enum_known-row
+enum_known-row c = search rules
 
-enum-known-row-2 : tie.Need-enum-known-row-2
-enum-known-row-2 c = search rules
+enum_known-row-in-ShortBuffer-1 : tie.Need-enum_known-row-in-ShortBuffer-1
+enum_known-row-in-ShortBuffer-1 c = search rules
 
-enum-known-row-3 : tie.Need-enum-known-row-3
-enum-known-row-3 c = search rules
+enum_known-row-in-NoSuchLink-1 : tie.Need-enum_known-row-in-NoSuchLink-1
+enum_known-row-in-NoSuchLink-1 c = search rules
 
-enum-known-row-4 : tie.Need-enum-known-row-4
-enum-known-row-4 c = search rules
+enum_known-row-in-NoSuchPrefix-1 : tie.Need-enum_known-row-in-NoSuchPrefix-1
+enum_known-row-in-NoSuchPrefix-1 c = search rules
 
-enum_told : tie.Need-enum-told
-enum_told c = search rules
+enum_told-1 : tie.Need-enum_told-1
+enum_told-1 c = search rules
 
-enum-told-2 : tie.Need-enum-told-2
-enum-told-2 c = search rules
+enum_told-in-BadRanks : tie.Need-enum_told-in-BadRanks
+enum_told-in-BadRanks c = search rules
 
-enum-told-3 : tie.Need-enum-told-3
-enum-told-3 c = search rules
+enum_told-in-WrongTable : tie.Need-enum_told-in-WrongTable
+enum_told-in-WrongTable c = search rules
 
-returns : tie.Need-returns
+returns-in-ShortArea : tie.Need-returns-in-ShortArea
 unfolding row_decided in_early row_of turned_row
-returns c = sym (ap (λ (r : Row). in_early (row_decided r)) c.before.row.given.1)
+returns-in-ShortArea c = sym (ap (λ (r : Row). in_early (row_decided r)) c.in-ShortArea.is)
 
-returns-2 : tie.Need-returns-2
+returns-in-ShortBuffer : tie.Need-returns-in-ShortBuffer
 unfolding row_decided in_early row_of turned_row
-returns-2 c = sym (ap (λ (r : Row). in_early (row_decided r)) c.before.row2.given.1)
+returns-in-ShortBuffer c = sym (ap (λ (r : Row). in_early (row_decided r)) c.in-ShortBuffer.is)
 
-returns-3 : tie.Need-returns-3
+returns-in-NoSuchLink : tie.Need-returns-in-NoSuchLink
 unfolding row_decided in_early row_of turned_row
-returns-3 c = sym (ap (λ (r : Row). in_early (row_decided r)) c.before.row3.given.1)
+returns-in-NoSuchLink c = sym (ap (λ (r : Row). in_early (row_decided r)) c.in-NoSuchLink.is)
 
-returns-4 : tie.Need-returns-4
+returns-in-NoSuchPrefix : tie.Need-returns-in-NoSuchPrefix
 unfolding row_decided in_early row_of turned_row
-returns-4 c = sym (ap (λ (r : Row). in_early (row_decided r)) c.before.row4.given.1)
+returns-in-NoSuchPrefix c = sym (ap (λ (r : Row). in_early (row_decided r)) c.in-NoSuchPrefix.is)
 
-returns-5 : tie.Need-returns-5
+returns-in-Passed : tie.Need-returns-in-Passed
 unfolding row_decided in_early row_of turned_row
-returns-5 c = sym (ap (λ (r : Row). in_early (row_decided r)) c.enum_told.given.1)
+returns-in-Passed c = sym (ap (λ (r : Row). in_early (row_decided r)) c.in-Passed.is)
 
-returns-6 : tie.Need-returns-6
+returns-in-BadRanks : tie.Need-returns-in-BadRanks
 unfolding row_decided in_early row_of turned_row
-returns-6 c = sym (ap (λ (r : Row). in_early (row_decided r)) c.enum-told2.given.1)
+returns-in-BadRanks c = sym (ap (λ (r : Row). in_early (row_decided r)) c.in-BadRanks.is)
 
-returns-7 : tie.Need-returns-7
+returns-in-WrongTable : tie.Need-returns-in-WrongTable
 unfolding row_decided in_early row_of turned_row
-returns-7 c = sym (ap (λ (r : Row). in_early (row_decided r)) c.enum-told3.given.1)
+returns-in-WrongTable c = sym (ap (λ (r : Row). in_early (row_decided r)) c.in-WrongTable.is)
 
 pub turned_by_spec : {M : Type 1} → statement M
 turned_by_spec =
     tie.close
     (tie.spec
-    enum-known-row
-    enum-known-row-2
-    enum-known-row-3
-    enum-known-row-4
-    enum_told
-    enum-told-2
-    enum-told-3
-    returns
-    returns-2
-    returns-3
-    returns-4
-    returns-5
-    returns-6
-    returns-7)
+    enum_known-row
+    enum_known-row-in-ShortBuffer-1
+    enum_known-row-in-NoSuchLink-1
+    enum_known-row-in-NoSuchPrefix-1
+    enum_told-1
+    enum_told-in-BadRanks
+    enum_told-in-WrongTable
+    returns-in-ShortArea
+    returns-in-ShortBuffer
+    returns-in-NoSuchLink
+    returns-in-NoSuchPrefix
+    returns-in-Passed
+    returns-in-BadRanks
+    returns-in-WrongTable)

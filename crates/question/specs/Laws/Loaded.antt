@@ -16,7 +16,7 @@ use Rattle.network_file.specs.Laws.Struct.{struct_columns}
 use Rattle.network_file.specs.declared.network.Links.{Links}
 use Rattle.metric.specs.Fit.{ColumnsWithin}
 use Rattle.metric.specs.Columns.{InColumns}
-use Rattle.metric.specs.Laws.Columns.{limits_columns}
+use Rattle.metric.proofs.Laws.Columns.{limits_columns}
 use Rattle.network_file.specs.declared.Verdict.{Verdict}
 use Rattle.network_file.specs.Load.{answer_of}
 use Rattle.lfa.specs.Question.{loading}

@@ -7,124 +7,124 @@ use borrow.Author.Rules.{rules}
 use Rattle.refusal.proofs.file_row.Statement.{statement}
 use Rattle.refusal.proofs.file_row.Tie as tie
 
-enum_told : tie.Need-enum-told
-enum_told c = search rules
+enum_told-1 : tie.Need-enum_told-1
+enum_told-1 c = search rules
 
 numbered-requires : tie.Need-numbered-requires
 numbered-requires c κs = search rules
 
-enum-known-fault : tie.Need-enum-known-fault
-enum-known-fault c = search rules
+enum_known-fault : tie.Need-enum_known-fault
+enum_known-fault c = search rules
 
-numbered-requires-2 : tie.Need-numbered-requires-2
-numbered-requires-2 c κs = search rules
+numbered-requires-in-Check : tie.Need-numbered-requires-in-Check
+numbered-requires-in-Check c κs = search rules
 
-enum-told-2 : tie.Need-enum-told-2
-enum-told-2 c = search rules
+enum_told-in-Head : tie.Need-enum_told-in-Head
+enum_told-in-Head c = search rules
 
-numbered-requires-3 : tie.Need-numbered-requires-3
-numbered-requires-3 c κs = search rules
+numbered-requires-in-Head : tie.Need-numbered-requires-in-Head
+numbered-requires-in-Head c κs = search rules
 
-enum-known-fault-2 : tie.Need-enum-known-fault-2
-enum-known-fault-2 c = search rules
+enum_known-fault-in-BlockCount-1 : tie.Need-enum_known-fault-in-BlockCount-1
+enum_known-fault-in-BlockCount-1 c = search rules
 
-numbered-requires-4 : tie.Need-numbered-requires-4
-numbered-requires-4 c κs = search rules
+numbered-requires-in-BlockCount : tie.Need-numbered-requires-in-BlockCount
+numbered-requires-in-BlockCount c κs = search rules
 
-enum-known-fault-3 : tie.Need-enum-known-fault-3
-enum-known-fault-3 c = search rules
+enum_known-fault-in-Block-1 : tie.Need-enum_known-fault-in-Block-1
+enum_known-fault-in-Block-1 c = search rules
 
-numbered-requires-5 : tie.Need-numbered-requires-5
-numbered-requires-5 c κs = search rules
+numbered-requires-in-Block : tie.Need-numbered-requires-in-Block
+numbered-requires-in-Block c κs = search rules
 
-enum-known-fault-4 : tie.Need-enum-known-fault-4
-enum-known-fault-4 c = search rules
+enum_known-fault-in-Link-1 : tie.Need-enum_known-fault-in-Link-1
+enum_known-fault-in-Link-1 c = search rules
 
-numbered-requires-6 : tie.Need-numbered-requires-6
-numbered-requires-6 c κs = search rules
+numbered-requires-in-Link : tie.Need-numbered-requires-in-Link
+numbered-requires-in-Link c κs = search rules
 
-enum-known-fault-5 : tie.Need-enum-known-fault-5
-enum-known-fault-5 c = search rules
+enum_known-fault-in-ParallelLink-1 : tie.Need-enum_known-fault-in-ParallelLink-1
+enum_known-fault-in-ParallelLink-1 c = search rules
 
-numbered-requires-7 : tie.Need-numbered-requires-7
-numbered-requires-7 c κs = search rules
+numbered-requires-in-ParallelLink : tie.Need-numbered-requires-in-ParallelLink
+numbered-requires-in-ParallelLink c κs = search rules
 
-enum-known-fault-6 : tie.Need-enum-known-fault-6
-enum-known-fault-6 c = search rules
+enum_known-fault-in-Prefix-1 : tie.Need-enum_known-fault-in-Prefix-1
+enum_known-fault-in-Prefix-1 c = search rules
 
-numbered-requires-8 : tie.Need-numbered-requires-8
-numbered-requires-8 c κs = search rules
+numbered-requires-in-Prefix : tie.Need-numbered-requires-in-Prefix
+numbered-requires-in-Prefix c κs = search rules
 
-enum-known-fault-7 : tie.Need-enum-known-fault-7
-enum-known-fault-7 c = search rules
+enum_known-fault-in-RouterTwice-1 : tie.Need-enum_known-fault-in-RouterTwice-1
+enum_known-fault-in-RouterTwice-1 c = search rules
 
-numbered-requires-9 : tie.Need-numbered-requires-9
-numbered-requires-9 c κs = search rules
+numbered-requires-in-RouterTwice : tie.Need-numbered-requires-in-RouterTwice
+numbered-requires-in-RouterTwice c κs = search rules
 
-returns : tie.Need-returns
+returns-in-Length : tie.Need-returns-in-Length
 unfolding fault_of fault_row refusal in_file entry_of file_number
-returns c = rw c.before.enum_told.given.1 c.numbered.ensures
+returns-in-Length c = rw c.in-Length.is c.numbered.ensures
 
-returns-2 : tie.Need-returns-2
+returns-in-Check : tie.Need-returns-in-Check
 unfolding fault_of fault_row refusal in_file entry_of file_number
-returns-2 c = rw c.before.before.fault.given.1 c.numbered2.ensures
+returns-in-Check c = rw c.in-Check.is c.numbered-in-Check.ensures
 
-returns-3 : tie.Need-returns-3
+returns-in-Head : tie.Need-returns-in-Head
 unfolding fault_of fault_row refusal in_file entry_of file_number
-returns-3 c = rw c.before.enum-told2.given.1 c.numbered3.ensures
+returns-in-Head c = rw c.in-Head.is c.numbered-in-Head.ensures
 
-returns-4 : tie.Need-returns-4
+returns-in-BlockCount : tie.Need-returns-in-BlockCount
 unfolding fault_of fault_row refusal in_file entry_of file_number
-returns-4 c = rw c.before.before.fault2.given.1 c.numbered4.ensures
+returns-in-BlockCount c = rw c.in-BlockCount.is c.numbered-in-BlockCount.ensures
 
-returns-5 : tie.Need-returns-5
+returns-in-Block : tie.Need-returns-in-Block
 unfolding fault_of fault_row refusal in_file entry_of file_number
-returns-5 c = rw c.before.before.fault3.given.1 c.numbered5.ensures
+returns-in-Block c = rw c.in-Block.is c.numbered-in-Block.ensures
 
-returns-6 : tie.Need-returns-6
+returns-in-Link : tie.Need-returns-in-Link
 unfolding fault_of fault_row refusal in_file entry_of file_number
-returns-6 c = rw c.before.before.fault4.given.1 c.numbered6.ensures
+returns-in-Link c = rw c.in-Link.is c.numbered-in-Link.ensures
 
-returns-7 : tie.Need-returns-7
+returns-in-ParallelLink : tie.Need-returns-in-ParallelLink
 unfolding fault_of fault_row refusal in_file entry_of file_number
-returns-7 c = rw c.before.before.fault5.given.1 c.numbered7.ensures
+returns-in-ParallelLink c = rw c.in-ParallelLink.is c.numbered-in-ParallelLink.ensures
 
-returns-8 : tie.Need-returns-8
+returns-in-Prefix : tie.Need-returns-in-Prefix
 unfolding fault_of fault_row refusal in_file entry_of file_number
-returns-8 c = rw c.before.before.fault6.given.1 c.numbered8.ensures
+returns-in-Prefix c = rw c.in-Prefix.is c.numbered-in-Prefix.ensures
 
-returns-9 : tie.Need-returns-9
+returns-in-RouterTwice : tie.Need-returns-in-RouterTwice
 unfolding fault_of fault_row refusal in_file entry_of file_number
-returns-9 c = rw c.before.before.fault7.given.1 c.numbered9.ensures
+returns-in-RouterTwice c = rw c.in-RouterTwice.is c.numbered-in-RouterTwice.ensures
 
 pub file_row_spec : {M : Type 1} → statement M
 file_row_spec =
     tie.close
     (tie.spec
-    enum_told
+    enum_told-1
     numbered-requires
-    enum-known-fault
-    numbered-requires-2
-    enum-told-2
-    numbered-requires-3
-    enum-known-fault-2
-    numbered-requires-4
-    enum-known-fault-3
-    numbered-requires-5
-    enum-known-fault-4
-    numbered-requires-6
-    enum-known-fault-5
-    numbered-requires-7
-    enum-known-fault-6
-    numbered-requires-8
-    enum-known-fault-7
-    numbered-requires-9
-    returns
-    returns-2
-    returns-3
-    returns-4
-    returns-5
-    returns-6
-    returns-7
-    returns-8
-    returns-9)
+    enum_known-fault
+    numbered-requires-in-Check
+    enum_told-in-Head
+    numbered-requires-in-Head
+    enum_known-fault-in-BlockCount-1
+    numbered-requires-in-BlockCount
+    enum_known-fault-in-Block-1
+    numbered-requires-in-Block
+    enum_known-fault-in-Link-1
+    numbered-requires-in-Link
+    enum_known-fault-in-ParallelLink-1
+    numbered-requires-in-ParallelLink
+    enum_known-fault-in-Prefix-1
+    numbered-requires-in-Prefix
+    enum_known-fault-in-RouterTwice-1
+    numbered-requires-in-RouterTwice
+    returns-in-Length
+    returns-in-Check
+    returns-in-Head
+    returns-in-BlockCount
+    returns-in-Block
+    returns-in-Link
+    returns-in-ParallelLink
+    returns-in-Prefix
+    returns-in-RouterTwice)

@@ -8,111 +8,111 @@ use borrow.Author.Rules.{rules}
 use Rattle.refusal.proofs.question_row.Statement.{statement}
 use Rattle.refusal.proofs.question_row.Tie as tie
 
-enum-known-refusal : tie.Need-enum-known-refusal
-enum-known-refusal c = search rules
+enum_known-refusal : tie.Need-enum_known-refusal
+enum_known-refusal c = search rules
 
-file-row-requires : tie.Need-file-row-requires
-file-row-requires c κs = search rules
+file_row-requires : tie.Need-file_row-requires
+file_row-requires c κs = search rules
 
-enum-known-refusal-2 : tie.Need-enum-known-refusal-2
-enum-known-refusal-2 c = search rules
+enum_known-refusal-in-ShortArea-1 : tie.Need-enum_known-refusal-in-ShortArea-1
+enum_known-refusal-in-ShortArea-1 c = search rules
 
 numbered-requires : tie.Need-numbered-requires
 numbered-requires c κs = search rules
 
-enum-known-refusal-3 : tie.Need-enum-known-refusal-3
-enum-known-refusal-3 c = search rules
+enum_known-refusal-in-ShortBuffer-1 : tie.Need-enum_known-refusal-in-ShortBuffer-1
+enum_known-refusal-in-ShortBuffer-1 c = search rules
 
-numbered-requires-2 : tie.Need-numbered-requires-2
-numbered-requires-2 c κs = search rules
+numbered-requires-in-ShortBuffer : tie.Need-numbered-requires-in-ShortBuffer
+numbered-requires-in-ShortBuffer c κs = search rules
 
-enum-known-refusal-4 : tie.Need-enum-known-refusal-4
-enum-known-refusal-4 c = search rules
+enum_known-refusal-in-NoSuchLink-1 : tie.Need-enum_known-refusal-in-NoSuchLink-1
+enum_known-refusal-in-NoSuchLink-1 c = search rules
 
-numbered-requires-3 : tie.Need-numbered-requires-3
-numbered-requires-3 c κs = search rules
+numbered-requires-in-NoSuchLink : tie.Need-numbered-requires-in-NoSuchLink
+numbered-requires-in-NoSuchLink c κs = search rules
 
-enum-known-refusal-5 : tie.Need-enum-known-refusal-5
-enum-known-refusal-5 c = search rules
+enum_known-refusal-in-NoSuchPrefix-1 : tie.Need-enum_known-refusal-in-NoSuchPrefix-1
+enum_known-refusal-in-NoSuchPrefix-1 c = search rules
 
-numbered-requires-4 : tie.Need-numbered-requires-4
-numbered-requires-4 c κs = search rules
+numbered-requires-in-NoSuchPrefix : tie.Need-numbered-requires-in-NoSuchPrefix
+numbered-requires-in-NoSuchPrefix c κs = search rules
 
-enum_told : tie.Need-enum-told
-enum_told c = search rules
+enum_told-1 : tie.Need-enum_told-1
+enum_told-1 c = search rules
 
-numbered-requires-5 : tie.Need-numbered-requires-5
-numbered-requires-5 c κs = search rules
+numbered-requires-in-NoPair : tie.Need-numbered-requires-in-NoPair
+numbered-requires-in-NoPair c κs = search rules
 
-enum-told-2 : tie.Need-enum-told-2
-enum-told-2 c = search rules
+enum_told-in-BadRanks : tie.Need-enum_told-in-BadRanks
+enum_told-in-BadRanks c = search rules
 
-numbered-requires-6 : tie.Need-numbered-requires-6
-numbered-requires-6 c κs = search rules
+numbered-requires-in-BadRanks : tie.Need-numbered-requires-in-BadRanks
+numbered-requires-in-BadRanks c κs = search rules
 
-enum-told-3 : tie.Need-enum-told-3
-enum-told-3 c = search rules
+enum_told-in-WrongTable : tie.Need-enum_told-in-WrongTable
+enum_told-in-WrongTable c = search rules
 
-numbered-requires-7 : tie.Need-numbered-requires-7
-numbered-requires-7 c κs = search rules
+numbered-requires-in-WrongTable : tie.Need-numbered-requires-in-WrongTable
+numbered-requires-in-WrongTable c κs = search rules
 
-returns : tie.Need-returns
+returns-in-File : tie.Need-returns-in-File
 unfolding refusal_answer row_of fault_of
-returns c = rw c.before.before.refusal.given.1 c.file-row.ensures
+returns-in-File c = rw c.in-File.is c.file_row.ensures
 
-returns-2 : tie.Need-returns-2
+returns-in-ShortArea : tie.Need-returns-in-ShortArea
 unfolding refusal_answer row_of refusal entry_of
-returns-2 c = rw c.before.before.refusal2.given.1 c.numbered.ensures
+returns-in-ShortArea c = rw c.in-ShortArea.is c.numbered.ensures
 
-returns-3 : tie.Need-returns-3
+returns-in-ShortBuffer : tie.Need-returns-in-ShortBuffer
 unfolding refusal_answer row_of refusal entry_of
-returns-3 c = rw c.before.before.refusal3.given.1 c.numbered2.ensures
+returns-in-ShortBuffer c = rw c.in-ShortBuffer.is c.numbered-in-ShortBuffer.ensures
 
-returns-4 : tie.Need-returns-4
+returns-in-NoSuchLink : tie.Need-returns-in-NoSuchLink
 unfolding refusal_answer row_of refusal entry_of
-returns-4 c = rw c.before.before.refusal4.given.1 c.numbered3.ensures
+returns-in-NoSuchLink c = rw c.in-NoSuchLink.is c.numbered-in-NoSuchLink.ensures
 
-returns-5 : tie.Need-returns-5
+returns-in-NoSuchPrefix : tie.Need-returns-in-NoSuchPrefix
 unfolding refusal_answer row_of refusal entry_of
-returns-5 c = rw c.before.before.refusal5.given.1 c.numbered4.ensures
+returns-in-NoSuchPrefix c = rw c.in-NoSuchPrefix.is c.numbered-in-NoSuchPrefix.ensures
 
-returns-6 : tie.Need-returns-6
+returns-in-NoPair : tie.Need-returns-in-NoPair
 unfolding refusal_answer row_of refusal entry_of
-returns-6 c = rw c.before.enum_told.given.1 c.numbered5.ensures
+returns-in-NoPair c = rw c.in-NoPair.is c.numbered-in-NoPair.ensures
 
-returns-7 : tie.Need-returns-7
+returns-in-BadRanks : tie.Need-returns-in-BadRanks
 unfolding refusal_answer row_of refusal entry_of
-returns-7 c = rw c.before.enum-told2.given.1 c.numbered6.ensures
+returns-in-BadRanks c = rw c.in-BadRanks.is c.numbered-in-BadRanks.ensures
 
-returns-8 : tie.Need-returns-8
+returns-in-WrongTable : tie.Need-returns-in-WrongTable
 unfolding refusal_answer row_of refusal entry_of
-returns-8 c = rw c.before.enum-told3.given.1 c.numbered7.ensures
+returns-in-WrongTable c = rw c.in-WrongTable.is c.numbered-in-WrongTable.ensures
 
 pub question_row_spec : {M : Type 1} → statement M
 question_row_spec =
     tie.close
     (tie.spec
-    enum-known-refusal
-    file-row-requires
-    enum-known-refusal-2
+    enum_known-refusal
+    file_row-requires
+    enum_known-refusal-in-ShortArea-1
     numbered-requires
-    enum-known-refusal-3
-    numbered-requires-2
-    enum-known-refusal-4
-    numbered-requires-3
-    enum-known-refusal-5
-    numbered-requires-4
-    enum_told
-    numbered-requires-5
-    enum-told-2
-    numbered-requires-6
-    enum-told-3
-    numbered-requires-7
-    returns
-    returns-2
-    returns-3
-    returns-4
-    returns-5
-    returns-6
-    returns-7
-    returns-8)
+    enum_known-refusal-in-ShortBuffer-1
+    numbered-requires-in-ShortBuffer
+    enum_known-refusal-in-NoSuchLink-1
+    numbered-requires-in-NoSuchLink
+    enum_known-refusal-in-NoSuchPrefix-1
+    numbered-requires-in-NoSuchPrefix
+    enum_told-1
+    numbered-requires-in-NoPair
+    enum_told-in-BadRanks
+    numbered-requires-in-BadRanks
+    enum_told-in-WrongTable
+    numbered-requires-in-WrongTable
+    returns-in-File
+    returns-in-ShortArea
+    returns-in-ShortBuffer
+    returns-in-NoSuchLink
+    returns-in-NoSuchPrefix
+    returns-in-NoPair
+    returns-in-BadRanks
+    returns-in-WrongTable)

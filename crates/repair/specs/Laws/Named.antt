@@ -18,8 +18,8 @@ use Rattle.metric.specs.Columns.{arcs_in}
 use Rattle.metric.specs.Fit.{SlotsWithin}
 use Rattle.metric.specs.Area.{held}
 use Rattle.metric.specs.Column.{slots_in}
-use Rattle.metric.specs.Laws.Area.{held_filled}
-use Rattle.metric.specs.Laws.Columns.{arcs_columns}
+use Rattle.metric.proofs.Laws.Area.{held_filled}
+use Rattle.metric.proofs.Laws.Columns.{arcs_columns}
 use Rattle.search.specs.Hops.{protected_in}
 use Rattle.question.specs.Taken.{Taken}
 use Rattle.question.specs.Laws.Loaded.{limits, network_columns, routers_same}

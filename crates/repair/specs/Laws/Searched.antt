@@ -22,10 +22,10 @@ use Rattle.network_file.specs.declared.network.Network.{Network}
 use Rattle.network_file.specs.Struct.{struct_of, link_part}
 use Rattle.metric.specs.Area.{held}
 use Rattle.metric.specs.Column.{slots_in}
-use Rattle.metric.specs.Laws.Area.{held_filled}
+use Rattle.metric.proofs.Laws.Area.{held_filled}
 use Rattle.avoid.specs.Known.{Known}
 use Rattle.search.specs.Calls.{hops_of, protected_of, space_by, link_by, prefix_by}
-use Rattle.search.specs.Laws.Calls.{Asking, space_found, link_found_lem, prefix_found_lem}
+use Rattle.search.proofs.Laws.Calls.{Asking, space_found, link_found_lem, prefix_found_lem}
 use Rattle.question.specs.Taken.{Taken}
 use Rattle.question.specs.Laws.Loaded.{limits, columns_within, routers_same, links_are, prefixes_are}
 use Rattle.repair.specs.Laws.Named.{hops_are, held_is, prefix_cell, prefix_slots, prefix_target, protected_is}

@@ -8,8 +8,9 @@ use mathlib.Core.Logic.{⊎_elim}
 use native.Mathlib.Omega.{arith}
 use lib.ListN.{length, length-set}
 use Rattle.ospf.specs.Run.{begin_of}
-use Rattle.ospf.specs.Laws.Run.{Passed, passed_none}
-use Rattle.ospf.specs.Laws.Reading.{passed_fields, router_read}
+use Rattle.ospf.proofs.Laws.Run.{passed_none}
+use Rattle.ospf.specs.Run.{Passed}
+use Rattle.ospf.proofs.Laws.Reading.{passed_fields, router_read}
 use Rattle.router_lsa.specs.Scan.{scanned, AtHand}
 use Rattle.router_lsa.proofs.RunLaws.{scan_bad, scan_good, scan_whole}
 use Rattle.router_lsa.proofs.NewLaws.{hand_none, hand_more, hand_full}

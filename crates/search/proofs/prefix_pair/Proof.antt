@@ -15,67 +15,62 @@ use borrow.Author.Rules.{rules}
 use Rattle.search.proofs.prefix_pair.Statement.{statement}
 use Rattle.search.proofs.prefix_pair.Tie as tie
 
+returns-then-prefix-ge128 : tie.Need-returns-then-prefix-ge128
+unfolding prefix_by prefix_if
+returns-then-prefix-ge128 c = rw (le-ltb _ _ c.if-prefix-ge128.true, prefix_if)
+
+returns-then-link-ge128 : tie.Need-returns-then-link-ge128
+unfolding prefix_by prefix_if
+returns-then-link-ge128 c = rw (lt-ltb _ _ c.if-prefix-ge128.false, le-ltb _ _ c.if-link-ge128.true, prefix_if)
+
+bounds-network-prefix : tie.Need-bounds-network-prefix
+bounds-network-prefix c = search rules
+
+wide-count-requires : tie.Need-wide-count-requires
+wide-count-requires c κs = search rules
+
+overflow_mul-prefix : tie.Need-overflow_mul-prefix
+overflow_mul-prefix c = search rules
+
+towards_prefix-target-requires : tie.Need-towards_prefix-target-requires
+towards_prefix-target-requires c κs = search rules
+
+overflow_mul-prefix-2 : tie.Need-overflow_mul-prefix-2
+overflow_mul-prefix-2 c = search rules
+
+attached_routers-ends-requires : tie.Need-attached_routers-ends-requires
+attached_routers-ends-requires c κs = search rules
+
+protect-protected-requires : tie.Need-protect-protected-requires
+protect-protected-requires c κs = search rules
+
+prefix_found-requires : tie.Need-prefix_found-requires
+prefix_found-requires c κs = search rules
+
 returns : tie.Need-returns
-unfolding prefix_by prefix_if
-returns c = rw (le-ltb _ _ c.if1.true, prefix_if)
-
-returns-2 : tie.Need-returns-2
-unfolding prefix_by prefix_if
-returns-2 c = rw (lt-ltb _ _ c.before.if1.false, le-ltb _ _ c.if2.true, prefix_if)
-
-element-copy-out-wide : tie.Need-element-copy-out-wide
-element-copy-out-wide c = search rules
-
-wide-requires : tie.Need-wide-requires
-wide-requires c κs = search rules
-
-mul-towards-prefix : tie.Need-overflow-mul-towards-prefix
-mul-towards-prefix c = search rules
-
-towards-prefix-requires : tie.Need-towards-prefix-requires
-towards-prefix-requires c κs = search rules
-
-mul-attached-routers : tie.Need-overflow-mul-attached-routers
-mul-attached-routers c = search rules
-
-attached-routers-requires : tie.Need-attached-routers-requires
-attached-routers-requires c κs = search rules
-
-protect-requires : tie.Need-protect-requires
-protect-requires c κs = search rules
-
-prefix-found-requires : tie.Need-prefix-found-requires
-prefix-found-requires c κs = search rules
-
-returns-3 : tie.Need-returns-3
 unfolding prefix_by
-returns-3 c =
-    let p = c.before.before.before.before.before.before.before in
-    let t = p.before.before.before.before.before.before in
-    let d = t.before.before.before in
-    let w = d.before.before.before.before in
-    let e = w.before.before in
-    let a = e.before.before.before.before.args in
+returns c =
+    let a = c.args in
     let found : Protected → List ℕ → ℕ → Outcome = λ q l ends.
-    prefix_if a.ranks.now (searchable a.t1.routers a.t1.links q (length a.dist.now)) a.t1.routers (hops_of (link_part a.t1)) q a.dist.now ends l
-    (onward_by_steps a.t1.routers a.t1.links a.t1.from a.t1.to a.t1.out a.t1.back q ends l) in
-    let target = d.towards-prefix.ensures ∙ ap (λ (k : ℕ). prefix_column a.t1.routers a.t1.at a.t1.own (8 * a.prefix) k a.dist.now) w.wide.ensures in
-    let ends = t.attached-routers.ensures ∙ ap (λ (k : ℕ). attached_set a.t1.at (8 * a.prefix) k) w.wide.ensures in
-    rw (lt-ltb _ _ e.before.if1.false, lt-ltb _ _ e.if2.false)
-    (c.prefix_found_lem.ensures ∙ ap₂ (λ (q : Protected) (l : List ℕ). found q l t.attached-routers.result) p.protect.ensures target ∙ ap (found _ _) ends)
+    prefix_if a.ranks.now (searchable a.network.routers a.network.links q (length a.dist.now)) a.network.routers (hops_of (link_part a.network)) q a.dist.now ends l
+    (onward_by_steps a.network.routers a.network.links a.network.from a.network.to a.network.out a.network.back q ends l) in
+    let target = c.towards_prefix-target.ensures ∙ ap (λ (k : ℕ). prefix_column a.network.routers a.network.at a.network.own (8 * a.prefix) k a.dist.now) c.wide-count.ensures in
+    let ends = c.attached_routers-ends.ensures ∙ ap (λ (k : ℕ). attached_set a.network.at (8 * a.prefix) k) c.wide-count.ensures in
+    rw (lt-ltb _ _ c.if-prefix-ge128.false, lt-ltb _ _ c.if-link-ge128.false)
+    (c.prefix_found.ensures ∙ ap₂ (λ (q : Protected) (l : List ℕ). found q l c.attached_routers-ends.result) c.protect-protected.ensures target ∙ ap (found _ _) ends)
 
 pub prefix_pair_spec : {M : Type 1} → statement M
 prefix_pair_spec =
     tie.close
     (tie.spec
-    returns
-    returns-2
-    element-copy-out-wide
-    wide-requires
-    mul-towards-prefix
-    towards-prefix-requires
-    mul-attached-routers
-    attached-routers-requires
-    protect-requires
-    prefix-found-requires
-    returns-3)
+    returns-then-prefix-ge128
+    returns-then-link-ge128
+    bounds-network-prefix
+    wide-count-requires
+    overflow_mul-prefix
+    towards_prefix-target-requires
+    overflow_mul-prefix-2
+    attached_routers-ends-requires
+    protect-protected-requires
+    prefix_found-requires
+    returns)

@@ -10,23 +10,22 @@ use borrow.Author.Rules.{rules}
 use Rattle.search.proofs.space_in.Statement.{statement}
 use Rattle.search.proofs.space_in.Tie as tie
 
-returns : tie.Need-returns
+returns-then-link-ge128 : tie.Need-returns-then-link-ge128
 unfolding space_by space_if
-returns c = rw (le-ltb _ _ c.if1.true, space_if)
+returns-then-link-ge128 c = rw (le-ltb _ _ c.if-link-ge128.true, space_if)
 
-protect-requires : tie.Need-protect-requires
-protect-requires c κs = search rules
+protect-protected-requires : tie.Need-protect-protected-requires
+protect-protected-requires c κs = search rules
 
-space-of-requires : tie.Need-space-of-requires
-space-of-requires c κs = search rules
+space_of-requires : tie.Need-space_of-requires
+space_of-requires c κs = search rules
 
-returns-2 : tie.Need-returns-2
+returns : tie.Need-returns
 unfolding space_by
-returns-2 c =
-    let e = c.before.before.before.before.before.before.before.before.before.before.before.before in
-    let a = e.before.before.args in
-    let found = c.space-of.ensures ∙ ap (λ (q : Protected). space_if (searchable a.t2.routers a.t2.links q (length a.dist.now)) (space_named a.which) a.t2.routers (hops_of a.t2) q a.dist.now) c.before.before.before.before.before.before.protect.ensures in
-    rw (lt-ltb _ _ e.if1.false) found
+returns c =
+    let a = c.args in
+    let found = c.space_of.ensures ∙ ap (λ (q : Protected). space_if (searchable a.columns.routers a.columns.links q (length a.dist.now)) (space_named a.which) a.columns.routers (hops_of a.columns) q a.dist.now) c.protect-protected.ensures in
+    rw (lt-ltb _ _ c.if-link-ge128.false) found
 
 pub space_in_spec : {M : Type 1} → statement M
-space_in_spec = tie.close (tie.spec returns protect-requires space-of-requires returns-2)
+space_in_spec = tie.close (tie.spec returns-then-link-ge128 protect-protected-requires space_of-requires returns)

@@ -6,7 +6,7 @@ use mathlib.Core.Logic.{⊎_elim}
 use native.Mathlib.Omega.{arith}
 use borrow.Author.Rules.{rules}
 use Rattle.lfa.specs.Space.{set_of}
-use Rattle.metric.specs.Laws.Set.{put_in, left_out}
+use Rattle.metric.proofs.Laws.Set.{put_in, left_out}
 use Rattle.steps.proofs.LedLaws.{meets, led_all, is_met, not_met}
 use Rattle.steps.proofs.led_to.Statement.{statement}
 use Rattle.steps.proofs.led_to.Tie as tie

@@ -7,7 +7,7 @@ use native.Mathlib.Omega.{arith}
 use lib.ListN.{get_or}
 use borrow.Author.Rules.{rules}
 use Rattle.lfa.specs.Space.{set_of}
-use Rattle.metric.specs.Laws.Set.{put_in, left_out}
+use Rattle.metric.proofs.Laws.Set.{put_in, left_out}
 use Rattle.steps.specs.Crossing.{reaches_without}
 use Rattle.steps.proofs.reaching_without.Statement.{statement}
 use Rattle.steps.proofs.reaching_without.Tie as tie

@@ -7,8 +7,8 @@ use Rattle.lfa.specs.Distance.{towards}
 use Rattle.metric.specs.Fit.{links_fit, ColumnsWithin}
 use Rattle.metric.specs.Columns.{arcs_in}
 use Rattle.metric.specs.Column.{column}
-use Rattle.metric.specs.Laws.Columns.{columns_within}
-use Rattle.metric.specs.Laws.Fit.{links_fit_lem}
+use Rattle.metric.proofs.Laws.Columns.{columns_within}
+use Rattle.metric.proofs.Laws.Fit.{links_fit_lem}
 use Rattle.steps.specs.Steps.{nexts_in, nexts_by}
 use Rattle.steps.specs.Laws.Next.{RightNexts, RightEnds, right_nexts}
 

@@ -22,7 +22,7 @@ use Rattle.lfa.proofs.Laws.Visit.{misses}
 use Rattle.metric.specs.Fit.{ColumnsWithin}
 use Rattle.metric.specs.Columns.{arcs_in}
 use Rattle.metric.specs.Column.{column}
-use Rattle.metric.specs.Laws.Columns.{columns_within}
+use Rattle.metric.proofs.Laws.Columns.{columns_within}
 use Rattle.steps.specs.declared.Onward.{Onward}
 use Rattle.steps.specs.Steps.{is_tight, nexts_by, led_in}
 use Rattle.steps.specs.Crossing.{steps_over, over_link, reaches_without, kept_from, numbers_fit, onward_by_steps}

@@ -20,8 +20,8 @@ use Rattle.lfa.proofs.Laws.Set.{set_of_lt, has_set_of}
 use Rattle.lfa.proofs.Laws.Arrive.{Within}
 use Rattle.lfa.proofs.Laws.Avoid.{step_leaves}
 use Rattle.metric.specs.Column.{column}
-use Rattle.metric.specs.Laws.Column.{column_at}
-use Rattle.metric.specs.Laws.List.{any_same}
+use Rattle.metric.proofs.Laws.Column.{column_at}
+use Rattle.metric.proofs.Laws.List.{any_same}
 use Rattle.steps.specs.Steps.{is_tight, step_to, next_by, nexts_in}
 
 -- a sum that is a finite distance is below the cap

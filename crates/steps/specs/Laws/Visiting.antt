@@ -17,7 +17,7 @@ use Rattle.lfa.proofs.Laws.Set.{has_set_of}
 use Rattle.lfa.proofs.Laws.Arrive.{Within, Falls, walk_few}
 use Rattle.lfa.proofs.Laws.Avoid.{step_gives, step_make}
 use Rattle.lfa.proofs.Laws.Visit.{visits_gives, visits_make}
-use Rattle.metric.specs.Laws.Set.{has_none}
+use Rattle.metric.proofs.Laws.Set.{has_none}
 use Rattle.steps.specs.Steps.{led_in}
 use Rattle.steps.specs.Laws.Next.{RightNexts}
 use Rattle.steps.specs.Laws.Led.{round_gives, round_make}

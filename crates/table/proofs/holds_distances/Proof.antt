@@ -5,7 +5,7 @@ use mathlib.Core.Path.{◌≡◌, sym, ◌∙◌}
 use mathlib.Core.Bool.{true}
 use lib.ListN.{length}
 use Rattle.metric.specs.Fit.{cells_fit, links_fit, ColumnsWithin}
-use Rattle.metric.specs.Laws.Fit.{cells_give, links_give}
+use Rattle.metric.proofs.Laws.Fit.{cells_give, links_give}
 use Rattle.table.specs.Calls.{costs_fit}
 use Rattle.table.proofs.CallLaws.{cells_refused, links_refused, costs_refused, tested_answer, answered}
 use borrow.Author.Rules.{rules}

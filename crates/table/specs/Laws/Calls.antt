@@ -13,8 +13,8 @@ use Rattle.lfa.proofs.Laws.Network.{limits_links}
 use Rattle.lfa.proofs.Laws.Holds.{holds_gives}
 use Rattle.metric.specs.Fit.{cells_fit, links_fit}
 use Rattle.metric.specs.Columns.{InColumns, network_in}
-use Rattle.metric.specs.Laws.Fit.{cells_fit_lem, links_fit_lem}
-use Rattle.metric.specs.Laws.Columns.{link_held_lem, limits_columns}
+use Rattle.metric.proofs.Laws.Fit.{cells_fit_lem, links_fit_lem}
+use Rattle.metric.proofs.Laws.Columns.{link_held_lem, limits_columns}
 use Rattle.table.specs.Calls.{both_some, costs_fit, table_holds}
 
 module _ {net : Network} {n links : ℕ} {from to out back : List ℕ} (limits : WithinLimits net) (c : InColumns net n links from to out back) where

@@ -5,7 +5,6 @@ use mathlib.Core.Path.{◌≡◌, refl, sym, ◌∙◌}
 use mathlib.Core.Bool.{true}
 use native.Mathlib.Omega.{arith}
 use lib.ListN.{length-replicate}
-use borrow.Author.Tests.{not-true, not-false}
 use Rattle.lfa.specs.FileOf.{pad}
 use Rattle.lfa.specs.Writing.{counts_fit}
 use Rattle.network_file.specs.Held.{network_held}
@@ -15,55 +14,54 @@ use borrow.Author.Rules.{rules}
 use Rattle.writer.proofs.write.Statement.{statement}
 use Rattle.writer.proofs.write.Tie as tie
 
-counts-fit-requires : tie.Need-counts-fit-requires
-counts-fit-requires c κs = search rules
+counts_fit-requires : tie.Need-counts_fit-requires
+counts_fit-requires c κs = search rules
 
-returns : tie.Need-returns
-returns c = counts_fail _ _ (sym c.before.counts-fit.ensures ∙ c.if1.true)
+returns-then-not-counts_fit : tie.Need-returns-then-not-counts_fit
+returns-then-not-counts_fit c = counts_fail _ _ (sym c.counts_fit.ensures ∙ c.if-not-counts_fit.true)
 
-slice-aggregate-compose : tie.Need-slice-aggregate-compose
-slice-aggregate-compose c = search rules
+slice_bounds-compose-end : tie.Need-slice_bounds-compose-end
+slice_bounds-compose-end c = search rules
 
 -- the counts fit
-counted : (c : tie.Else1) → counts_fit (network_held c.before.before.before.args.network) ≡ true
-counted c = sym c.before.counts-fit.ensures ∙ c.if1.false
+counted : (c : tie.Else-not-counts_fit) → counts_fit (network_held c.args.network) ≡ true
+counted c = sym c.counts_fit.ensures ∙ c.if-not-counts_fit.false
 
-compose-requires : tie.Need-compose-requires
+compose-size-requires : tie.Need-compose-size-requires
 unfolding pad
-compose-requires c κs = (counts_small _ (counted c.before), (refl, length-replicate {A = ℕ} 6656 0))
+compose-size-requires c κs = (counts_small _ (counted c.before), (refl, length-replicate {A = ℕ} 6656 0))
 
-sub-write-accepted : tie.Need-overflow-sub-write-accepted
-sub-write-accepted c = search rules
+slice_bounds-write_accepted-count : tie.Need-slice_bounds-write_accepted-count
+slice_bounds-write_accepted-count c = search rules
 
-part-write-accepted-start : tie.Need-slice-bounds-write-accepted-start
-part-write-accepted-start c = search rules
+slice_bounds-write_accepted-start : tie.Need-slice_bounds-write_accepted-start
+slice_bounds-write_accepted-start c = search rules
 
-part-write-accepted-end : tie.Need-slice-bounds-write-accepted-end
-part-write-accepted-end c = let made = c.before.before.compose.ensures in omega (arith, made.0, holds_few _ _ made.1, made.1.1)
+slice_bounds-write_accepted-end : tie.Need-slice_bounds-write_accepted-end
+slice_bounds-write_accepted-end c = let made = c.compose-size.ensures in omega (arith, made.0, holds_few _ _ made.1, made.1.1)
 
-write-accepted-requires : tie.Need-write-accepted-requires
-write-accepted-requires c κs = search rules
+write_accepted-requires : tie.Need-write_accepted-requires
+write_accepted-requires c κs = search rules
 
-same_length : tie.Need-same-length
-same_length c = search rules
+shape_of-buffer : tie.Need-shape_of-buffer
+shape_of-buffer c = search rules
 
-returns-2 : tie.Need-returns-2
-returns-2 c =
-    let composed = c.before.before.before.before.before.before.before in
-    let made = composed.compose.ensures in
-    c.before.before.write-accepted.ensures _ (counted composed.before.before) (first_part _ _ _ made.1 made.0)
+returns : tie.Need-returns
+returns c =
+    let made = c.compose-size.ensures in
+    c.write_accepted.ensures _ (counted c.before.before.before.before.before.before.before.before) (first_part _ _ _ made.1 made.0)
 
 pub write_spec : {M : Type 1} → statement M
 write_spec =
     tie.close
     (tie.spec
-    counts-fit-requires
-    returns
-    slice-aggregate-compose
-    compose-requires
-    sub-write-accepted
-    part-write-accepted-start
-    part-write-accepted-end
-    write-accepted-requires
-    same_length
-    returns-2)
+    counts_fit-requires
+    returns-then-not-counts_fit
+    slice_bounds-compose-end
+    compose-size-requires
+    slice_bounds-write_accepted-count
+    slice_bounds-write_accepted-start
+    slice_bounds-write_accepted-end
+    write_accepted-requires
+    shape_of-buffer
+    returns)

@@ -8,7 +8,7 @@ use native.Mathlib.Omega.{arith}
 use borrow.Author.Rules.{rules}
 use Rattle.lfa.specs.Space.{set_of}
 use Rattle.metric.specs.Area.{held}
-use Rattle.metric.specs.Laws.Set.{put_in, left_out}
+use Rattle.metric.proofs.Laws.Set.{put_in, left_out}
 use Rattle.avoid.specs.Avoiding.{asked, clears_to}
 use Rattle.avoid.proofs.SetLaws.{known, cells_clear_to}
 use Rattle.avoid.proofs.set.set_from.Statement.{statement}

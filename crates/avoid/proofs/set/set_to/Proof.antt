@@ -9,7 +9,7 @@ use lib.ListN.{get_or}
 use borrow.Author.Rules.{rules}
 use Rattle.lfa.specs.Space.{set_of}
 use Rattle.metric.specs.Area.{held}
-use Rattle.metric.specs.Laws.Set.{put_in, left_out}
+use Rattle.metric.proofs.Laws.Set.{put_in, left_out}
 use Rattle.avoid.specs.Avoiding.{asked, clears}
 use Rattle.avoid.proofs.SetLaws.{known, cells_clear}
 use Rattle.avoid.proofs.set.set_to.Statement.{statement}

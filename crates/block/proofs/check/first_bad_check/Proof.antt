@@ -1,6 +1,5 @@
 -- Row 2 over the file: the loop for the first number at which a test fails.
 -- Assumes nothing.
-use borrow.Author.Tests.{not-true, not-false}
 use mathlib.Core.Path.{sym, ◌∙◌}
 use Prim.Native.Nat.{◌-◌}
 use native.Mathlib.Omega.{arith}
@@ -10,49 +9,49 @@ use Rattle.block.specs.Laws.First.{Searching, search_starts, search_passed, sear
 use Rattle.block.proofs.check.first_bad_check.Statement.{statement}
 use Rattle.block.proofs.check.first_bad_check.Tie as tie
 
-abbrev invariant-loop : tie.invariant-loop
-invariant-loop file n i₀ i = Searching (check_good file) 0 n n i
+abbrev invariant-loop-i : tie.invariant-loop-i
+invariant-loop-i file n i₀ i = Searching (check_good file) 0 n n i
 
-abbrev decreases-loop : tie.decreases-loop
-decreases-loop file n i₀ i = n - i
+abbrev decreases-loop-i : tie.decreases-loop-i
+decreases-loop-i file n i₀ i = n - i
 
-loop-holds : tie.Need-loop-init invariant-loop decreases-loop
-loop-holds c = search_starts _ _ _ _ (omega arith)
+loop-i-init : tie.Need-loop-i-init invariant-loop-i decreases-loop-i
+loop-i-init c = search_starts _ _ _ _ (omega arith)
 
-check-good-requires : tie.Need-check-good-requires invariant-loop decreases-loop
-check-good-requires c κs = search rules
+check_good-requires : tie.Need-check_good-requires invariant-loop-i decreases-loop-i
+check_good-requires c κs = search rules
 
-returns : tie.Need-returns invariant-loop decreases-loop
+returns-then-not-check_good : tie.Need-returns-then-not-check_good invariant-loop-i decreases-loop-i
+returns-then-not-check_good c =
+    let l = c.loop-i in
+    search_found _ _ _ _ l.i l.invariant c.loop-i-test.true (sym c.check_good.ensures ∙ c.if-not-check_good.true)
+
+overflow_add-i : tie.Need-overflow_add-i invariant-loop-i decreases-loop-i
+overflow_add-i c = search rules
+
+loop-i-smaller : tie.Need-loop-i-smaller invariant-loop-i decreases-loop-i
+loop-i-smaller c = search rules
+
+loop-i-preserved : tie.Need-loop-i-preserved invariant-loop-i decreases-loop-i
+loop-i-preserved c =
+    let l = c.loop-i in
+    search_passed _ _ _ _ l.i l.invariant c.loop-i-test.true (sym c.check_good.ensures ∙ c.if-not-check_good.false)
+
+returns : tie.Need-returns invariant-loop-i decreases-loop-i
 returns c =
-    let l = c.before.before.before.loop in
-    search_found _ _ _ _ l.i l.invariant c.before.before.loop-test.true (sym c.before.check-good.ensures ∙ c.if1.true)
-
-add-i : tie.Need-overflow-add-i invariant-loop decreases-loop
-add-i c = search rules
-
-loop-less : tie.Need-loop-smaller invariant-loop decreases-loop
-loop-less c = search rules
-
-loop-again : tie.Need-loop-preserved invariant-loop decreases-loop
-loop-again c =
-    let l = c.before.before.before.loop in
-    search_passed _ _ _ _ l.i l.invariant c.before.before.loop-test.true (sym c.before.check-good.ensures ∙ c.if1.false)
-
-returns-2 : tie.Need-returns-2 invariant-loop decreases-loop
-returns-2 c =
-    let l = c.before.loop in
-    search_none _ _ _ _ l.i l.invariant c.loop-test.false
+    let l = c.loop-i in
+    search_none _ _ _ _ l.i l.invariant c.loop-i-test.false
 
 pub first_bad_check_spec : {M : Type 1} → statement M
 first_bad_check_spec =
     tie.close
     (tie.spec
-    invariant-loop
-    decreases-loop
-    loop-holds
-    check-good-requires
-    returns
-    add-i
-    loop-less
-    loop-again
-    returns-2)
+    invariant-loop-i
+    decreases-loop-i
+    loop-i-init
+    check_good-requires
+    returns-then-not-check_good
+    overflow_add-i
+    loop-i-smaller
+    loop-i-preserved
+    returns)

@@ -5,17 +5,17 @@ use Rattle.lfa.specs.File.{length_good}
 use Rattle.block.proofs.head.length_good.Statement.{statement}
 use Rattle.block.proofs.head.length_good.Tie as tie
 
+returns-then-n-eq0 : tie.Need-returns-then-n-eq0
+unfolding length_good
+returns-then-n-eq0 c = rw (length_good, eq-eqb _ _ c.if-n-eq0.true)
+
+returns-then-n-ne0 : tie.Need-returns-then-n-ne0
+unfolding length_good
+returns-then-n-ne0 c = rw (length_good, ne_eqb _ _ c.if-n-eq0.false, ne_eqb _ _ c.if-n-ne0.true)
+
 returns : tie.Need-returns
 unfolding length_good
-returns c = rw (length_good, eq-eqb _ _ c.if1.true)
-
-returns-2 : tie.Need-returns-2
-unfolding length_good
-returns-2 c = rw (length_good, ne_eqb _ _ c.before.if1.false, ne_eqb _ _ c.if2.true)
-
-returns-3 : tie.Need-returns-3
-unfolding length_good
-returns-3 c = rw (length_good, ne_eqb _ _ c.before.if1.false, eq-eqb _ _ c.if2.false)
+returns c = rw (length_good, ne_eqb _ _ c.if-n-eq0.false, eq-eqb _ _ c.if-n-ne0.false)
 
 pub length_good_spec : {M : Type 1} → statement M
-length_good_spec = tie.close (tie.spec returns returns-2 returns-3)
+length_good_spec = tie.close (tie.spec returns-then-n-eq0 returns-then-n-ne0 returns)

@@ -8,42 +8,42 @@ use Rattle.block.specs.Head.{label_good}
 use Rattle.block.proofs.later.label_good.Statement.{statement}
 use Rattle.block.proofs.later.label_good.Tie as tie
 
-word-at-requires : tie.Need-word-at-requires
-word-at-requires c κs = search rules
+word_at-requires : tie.Need-word_at-requires
+word_at-requires c κs = search rules
 
-cast-if1 : tie.Need-overflow-cast-if1
-cast-if1 c = search rules
+overflow_cast-word_at : tie.Need-overflow_cast-word_at
+overflow_cast-word_at c = search rules
+
+returns-then-word_at-number : tie.Need-returns-then-word_at-number
+unfolding label_good
+returns-then-word_at-number c = rw (label_good, ← c.word_at.ensures, ne_eqb _ _ c.if-word_at-number.true)
+
+bounds-block-0 : tie.Need-bounds-block-0
+bounds-block-0 c = search rules
+
+returns-then-block-kind : tie.Need-returns-then-block-kind
+unfolding label_good byte_at
+returns-then-block-kind c = rw (label_good, ← c.word_at.ensures, eq-eqb _ _ c.if-word_at-number.false, ne_eqb _ _ c.if-block-kind.true)
+
+bounds-block-1 : tie.Need-bounds-block-1
+bounds-block-1 c = search rules
+
+overflow_cast-result : tie.Need-overflow_cast-result
+overflow_cast-result c = omega (arith, c.shared_slice_known-3-1.given 1)
 
 returns : tie.Need-returns
-unfolding label_good
-returns c = rw (label_good, ← c.before.word_at_lem.ensures, ne_eqb _ _ c.if1.true)
-
-shared-slice-read-if2 : tie.Need-shared-slice-read-if2
-shared-slice-read-if2 c = search rules
-
-returns-2 : tie.Need-returns-2
 unfolding label_good byte_at
-returns-2 c = rw (label_good, ← c.before.before.before.word_at_lem.ensures, eq-eqb _ _ c.before.before.if1.false, ne_eqb _ _ c.if2.true)
-
-shared-slice-read-result : tie.Need-shared-slice-read-result
-shared-slice-read-result c = search rules
-
-cast-result : tie.Need-overflow-cast-result
-cast-result c = omega (arith, c.shared-slice-known3.given 1)
-
-returns-3 : tie.Need-returns-3
-unfolding label_good byte_at
-returns-3 c = rw (label_good, ← c.before.before.before.before.word_at_lem.ensures, eq-eqb _ _ c.before.before.before.if1.false, eq-eqb _ _ c.before.if2.false)
+returns c = rw (label_good, ← c.word_at.ensures, eq-eqb _ _ c.if-word_at-number.false, eq-eqb _ _ c.if-block-kind.false)
 
 pub label_good_spec : {M : Type 1} → statement M
 label_good_spec =
     tie.close
     (tie.spec
-    word-at-requires
-    cast-if1
-    returns
-    shared-slice-read-if2
-    returns-2
-    shared-slice-read-result
-    cast-result
-    returns-3)
+    word_at-requires
+    overflow_cast-word_at
+    returns-then-word_at-number
+    bounds-block-0
+    returns-then-block-kind
+    bounds-block-1
+    overflow_cast-result
+    returns)

@@ -1,7 +1,7 @@
 -- `fill_cells` lowers the cells to the costs of arcs, eliminates, substitutes, and shows what the cells stand for.
 -- Assumes nothing.
 use Rattle.lfa.proofs.Laws.Distance.{distances_least}
-use Rattle.metric.specs.Laws.Columns.{columns_within}
+use Rattle.metric.proofs.Laws.Columns.{columns_within}
 use Rattle.distance.proofs.DirectLaws.{cheapest_limited, cheapest_none}
 use Rattle.distance.proofs.EliminationLaws.{fallen_limited}
 use Rattle.distance.proofs.CloseLaws.{cells_closed, cells_finished}

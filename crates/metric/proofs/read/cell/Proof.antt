@@ -9,8 +9,8 @@ use lib.ListN.{length}
 use borrow.Author.Tests.{not-true, not-false}
 use borrow.Author.Rules.{rules}
 use Rattle.metric.specs.Fit.{cells_fit}
-use Rattle.metric.specs.Laws.Fit.{cells_give}
-use Rattle.metric.specs.Laws.Area.{cell_in_lem}
+use Rattle.metric.proofs.Laws.Fit.{cells_give}
+use Rattle.metric.proofs.Laws.Area.{cell_in_lem}
 use Rattle.metric.proofs.ReadLaws.{cell_none, cell_found}
 use Rattle.metric.proofs.read.cell.Statement.{statement}
 use Rattle.metric.proofs.read.cell.Tie as tie

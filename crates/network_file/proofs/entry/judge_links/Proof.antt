@@ -8,35 +8,32 @@ use borrow.Author.Rules.{rules}
 use Rattle.network_file.proofs.entry.judge_links.Statement.{statement}
 use Rattle.network_file.proofs.entry.judge_links.Tie as tie
 
-bad-link-requires : tie.Need-bad-link-requires
-bad-link-requires c κs = search rules
+bad_link-bad-requires : tie.Need-bad_link-bad-requires
+bad_link-bad-requires c κs = search rules
+
+returns-then-bad-links : tie.Need-returns-then-bad-links
+unfolding verdict_decided fault_row
+returns-then-bad-links c = let pre = c.requires in bad_link_decides _ _ pre.2 _ c.bad_link-bad.ensures c.if-bad-links.true
+
+parallel_link-parallel-requires : tie.Need-parallel_link-parallel-requires
+parallel_link-parallel-requires c κs =
+    let pre = c.requires in
+    (omega (arith, pre.2, pre.0.few_links), ends_below _ _ pre.2 _ c.bad_link-bad.ensures c.if-bad-links.false pre.0 _ _ (ends_in _ _ _ pre.3))
+
+returns-then-parallel-links : tie.Need-returns-then-parallel-links
+unfolding verdict_decided fault_row
+returns-then-parallel-links c =
+    let pre = c.requires in
+    parallel_decides _ _ pre.2 _ c.bad_link-bad.ensures c.if-bad-links.false
+    _ (c.parallel_link-parallel.ensures _ (ends_in _ _ _ pre.3)) c.if-parallel-links.true
 
 returns : tie.Need-returns
-unfolding verdict_decided fault_row
-returns c = let pre = c.before.before.before.requires in bad_link_decides _ _ pre.2 _ c.before.bad-link.ensures c.if1.true
-
-parallel-link-requires : tie.Need-parallel-link-requires
-parallel-link-requires c κs =
-    let first = c.before.before.before in
-    let pre = first.before.before.before.requires in
-    (omega (arith, pre.2, pre.0.few_links), ends_below _ _ pre.2 _ first.before.bad-link.ensures first.if1.false pre.0 _ _ (ends_in _ _ _ pre.3))
-
-returns-2 : tie.Need-returns-2
-unfolding verdict_decided fault_row
-returns-2 c =
-    let first = c.before.before.before.before.before in
-    let pre = first.before.before.before.requires in
-    parallel_decides _ _ pre.2 _ first.before.bad-link.ensures first.if1.false
-    _ (c.before.parallel-link.ensures _ (ends_in _ _ _ pre.3)) c.if2.true
-
-returns-3 : tie.Need-returns-3
 unfolding verdict_decided
-returns-3 c =
-    let first = c.before.before.before.before.before in
-    let pre = first.before.before.before.requires in
-    no_link_decides _ _ pre.2 _ first.before.bad-link.ensures first.if1.false
-    _ (c.before.parallel-link.ensures _ (ends_in _ _ _ pre.3)) c.if2.false
+returns c =
+    let pre = c.requires in
+    no_link_decides _ _ pre.2 _ c.bad_link-bad.ensures c.if-bad-links.false
+    _ (c.parallel_link-parallel.ensures _ (ends_in _ _ _ pre.3)) c.if-parallel-links.false
 
 pub judge_links_spec : {M : Type 1} → statement M
 judge_links_spec =
-    tie.close (tie.spec bad-link-requires returns parallel-link-requires returns-2 returns-3)
+    tie.close (tie.spec bad_link-bad-requires returns-then-bad-links parallel_link-parallel-requires returns-then-parallel-links returns)

@@ -9,66 +9,63 @@ use borrow.Author.Rules.{rules}
 use Rattle.network_file.proofs.entry.judge_prefixes.Statement.{statement}
 use Rattle.network_file.proofs.entry.judge_prefixes.Tie as tie
 
-shared-slice-read-routers : tie.Need-shared-slice-read-routers
-shared-slice-read-routers c = omega (arith, head_there _ c.before.before.requires)
+bounds-file-4 : tie.Need-bounds-file-4
+bounds-file-4 c = omega (arith, head_there _ c.requires)
 
-cast-routers : tie.Need-overflow-cast-routers
-cast-routers c = omega (arith, c.shared-slice-known2.given 4)
+overflow_cast-routers : tie.Need-overflow_cast-routers
+overflow_cast-routers c = omega (arith, c.shared_slice_known-2-1.given 4)
 
-word-at-requires : tie.Need-word-at-requires
-word-at-requires c κs = search rules
+word_at-links-requires : tie.Need-word_at-links-requires
+word_at-links-requires c κs = search rules
 
-cast-links : tie.Need-overflow-cast-links
-cast-links c = search rules
+overflow_cast-links : tie.Need-overflow_cast-links
+overflow_cast-links c = search rules
 
-word-at-requires-2 : tie.Need-word-at-requires-2
-word-at-requires-2 c κs = search rules
+word_at-prefixes-requires : tie.Need-word_at-prefixes-requires
+word_at-prefixes-requires c κs = search rules
 
-cast-prefixes : tie.Need-overflow-cast-prefixes
-cast-prefixes c = search rules
+overflow_cast-prefixes : tie.Need-overflow_cast-prefixes
+overflow_cast-prefixes c = search rules
 
-first-bad-prefix-requires : tie.Need-first-bad-prefix-requires
+first_bad_prefix-bad-requires : tie.Need-first_bad_prefix-bad-requires
 unfolding routers_of byte_at
-first-bad-prefix-requires c κs = (counted_read _ _ _ c.before.before.before.before.requires c.before.word_at_lem.ensures c.word-at2.ensures, refl)
+first_bad_prefix-bad-requires c κs = (counted_read _ _ _ c.requires c.word_at-links.ensures c.word_at-prefixes.ensures, refl)
+
+returns-then-bad-prefixes : tie.Need-returns-then-bad-prefixes
+unfolding verdict_decided fault_row prefixes_of
+returns-then-bad-prefixes c = bad_prefix_decides _ _ c.word_at-prefixes.ensures _ c.first_bad_prefix-bad.ensures c.if-bad-prefixes.true
+
+first_router_twice-twice-requires : tie.Need-first_router_twice-twice-requires
+unfolding prefixes_of
+first_router_twice-twice-requires c κs = (
+  counted_read _ _ _ c.requires c.word_at-links.ensures c.word_at-prefixes.ensures,
+  sound_prefixes _ _ c.word_at-prefixes.ensures _ c.first_bad_prefix-bad.ensures c.if-bad-prefixes.false,
+)
+
+returns-then-twice-prefixes : tie.Need-returns-then-twice-prefixes
+unfolding verdict_decided fault_row prefixes_of
+returns-then-twice-prefixes c =
+    twice_decides _ _ c.word_at-prefixes.ensures _ c.first_bad_prefix-bad.ensures c.if-bad-prefixes.false
+    _ c.first_router_twice-twice.ensures c.if-twice-prefixes.true
 
 returns : tie.Need-returns
-unfolding verdict_decided fault_row prefixes_of
-returns c = bad_prefix_decides _ _ c.before.before.word-at2.ensures _ c.before.first-bad-prefix.ensures c.if1.true
-
-first-router-twice-requires : tie.Need-first-router-twice-requires
-unfolding prefixes_of
-first-router-twice-requires c κs =
-    let w = c.before.before in (
-      counted_read _ _ _ w.before.before.before.before.requires w.before.word_at_lem.ensures w.word-at2.ensures,
-      sound_prefixes _ _ w.word-at2.ensures _ c.before.first-bad-prefix.ensures c.if1.false,
-    )
-
-returns-2 : tie.Need-returns-2
-unfolding verdict_decided fault_row prefixes_of
-returns-2 c =
-    let first = c.before.before in
-    twice_decides _ _ first.before.before.word-at2.ensures _ first.before.first-bad-prefix.ensures first.if1.false
-    _ c.before.first-router-twice.ensures c.if2.true
-
-returns-3 : tie.Need-returns-3
 unfolding verdict_decided prefixes_of
-returns-3 c =
-    let first = c.before.before in
-    no_prefix_decides _ _ first.before.before.word-at2.ensures _ first.before.first-bad-prefix.ensures first.if1.false
-    _ c.before.first-router-twice.ensures c.if2.false
+returns c =
+    no_prefix_decides _ _ c.word_at-prefixes.ensures _ c.first_bad_prefix-bad.ensures c.if-bad-prefixes.false
+    _ c.first_router_twice-twice.ensures c.if-twice-prefixes.false
 
 pub judge_prefixes_spec : {M : Type 1} → statement M
 judge_prefixes_spec =
     tie.close
     (tie.spec
-    shared-slice-read-routers
-    cast-routers
-    word-at-requires
-    cast-links
-    word-at-requires-2
-    cast-prefixes
-    first-bad-prefix-requires
-    returns
-    first-router-twice-requires
-    returns-2
-    returns-3)
+    bounds-file-4
+    overflow_cast-routers
+    word_at-links-requires
+    overflow_cast-links
+    word_at-prefixes-requires
+    overflow_cast-prefixes
+    first_bad_prefix-bad-requires
+    returns-then-bad-prefixes
+    first_router_twice-twice-requires
+    returns-then-twice-prefixes
+    returns)

@@ -5,9 +5,9 @@ use Rattle.network_file.proofs.EntryLaws.{prefixes_sound, held_counted, struct_m
 use Rattle.network_file.proofs.entry.network_of.Statement.{statement}
 use Rattle.network_file.proofs.entry.network_of.Tie as tie
 
-fill-prefixes-requires : tie.Need-fill-prefixes-requires
-fill-prefixes-requires c κs =
-    let pre = c.before.requires in
+fill_prefixes-slots-requires : tie.Need-fill_prefixes-slots-requires
+fill_prefixes-slots-requires c κs =
+    let pre = c.requires in
     let counted = held_counted _ _ pre.1 pre.0 in
     (counted, rw counted.prefixes_right (prefixes_sound _ pre.2))
 
@@ -15,7 +15,7 @@ returns : tie.Need-returns
 unfolding prefix_columns
 returns c =
     let slots = c.before.before.before.before.before.before.before in
-    rw slots.fill-prefixes.ensures (struct_made _ _ slots.before.before.requires.1)
+    rw slots.fill_prefixes-slots.ensures (struct_made _ _ slots.requires.1)
 
 pub network_of_spec : {M : Type 1} → statement M
-network_of_spec = tie.close (tie.spec fill-prefixes-requires returns)
+network_of_spec = tie.close (tie.spec fill_prefixes-slots-requires returns)

@@ -12,53 +12,53 @@ use borrow.Author.Rules.{rules}
 use Rattle.network_file.proofs.link.bad_ends.Statement.{statement}
 use Rattle.network_file.proofs.link.bad_ends.Tie as tie
 
-abbrev invariant-loop : tie.invariant-loop
-invariant-loop routers links from to bad₀ k₀ bad k = (k ≤ links) × (eqb bad 0 ≡ every_below (ends_good routers from to) k)
+abbrev invariant-loop-k : tie.invariant-loop-k
+invariant-loop-k routers links from to bad₀ k₀ bad k = (k ≤ links) × (eqb bad 0 ≡ every_below (ends_good routers from to) k)
 
-abbrev decreases-loop : tie.decreases-loop
-decreases-loop routers links from to bad₀ k₀ bad k = links - k
+abbrev decreases-loop-k : tie.decreases-loop-k
+decreases-loop-k routers links from to bad₀ k₀ bad k = links - k
 
-loop-holds : tie.Need-loop-init invariant-loop decreases-loop
-loop-holds c = (omega arith, sym (every_none _))
+loop-k-init : tie.Need-loop-k-init invariant-loop-k decreases-loop-k
+loop-k-init c = (omega arith, sym (every_none _))
 
-element-copy-out-ends-bad : tie.Need-element-copy-out-ends-bad invariant-loop decreases-loop
-element-copy-out-ends-bad c = search rules
+bounds-from-k : tie.Need-bounds-from-k invariant-loop-k decreases-loop-k
+bounds-from-k c = search rules
 
-element-copy-out-ends-bad-2 : tie.Need-element-copy-out-ends-bad-2 invariant-loop decreases-loop
-element-copy-out-ends-bad-2 c = search rules
+bounds-to-k : tie.Need-bounds-to-k invariant-loop-k decreases-loop-k
+bounds-to-k c = search rules
 
-ends-bad-requires : tie.Need-ends-bad-requires invariant-loop decreases-loop
-ends-bad-requires c κs = search rules
+ends_bad-bad-requires : tie.Need-ends_bad-bad-requires invariant-loop-k decreases-loop-k
+ends_bad-bad-requires c κs = search rules
 
-add-k : tie.Need-overflow-add-k invariant-loop decreases-loop
-add-k c = search rules
+overflow_add-k : tie.Need-overflow_add-k invariant-loop-k decreases-loop-k
+overflow_add-k c = search rules
 
-loop-less : tie.Need-loop-smaller invariant-loop decreases-loop
-loop-less c = search rules
+loop-k-smaller : tie.Need-loop-k-smaller invariant-loop-k decreases-loop-k
+loop-k-smaller c = search rules
 
-loop-again : tie.Need-loop-preserved invariant-loop decreases-loop
+loop-k-preserved : tie.Need-loop-k-preserved invariant-loop-k decreases-loop-k
 unfolding ends_good
-loop-again c =
-    let l = c.before.before.before.before.loop in
-    (omega arith, or_zero_more _ l.k l.bad _ l.invariant.1 c.ends-bad.ensures)
+loop-k-preserved c =
+    let l = c.loop-k in
+    (omega arith, or_zero_more _ l.k l.bad _ l.invariant.1 c.ends_bad-bad.ensures)
 
-returns : tie.Need-returns invariant-loop decreases-loop
+returns : tie.Need-returns invariant-loop-k decreases-loop-k
 returns c =
-    let l = c.before.loop in
-    let e : l.k ≡ c.before.before.args.links = omega arith in
+    let l = c.loop-k in
+    let e : l.k ≡ c.args.links = omega arith in
     rw e at l.invariant.1
 
 pub bad_ends_spec : {M : Type 1} → statement M
 bad_ends_spec =
     tie.close
     (tie.spec
-    invariant-loop
-    decreases-loop
-    loop-holds
-    element-copy-out-ends-bad
-    element-copy-out-ends-bad-2
-    ends-bad-requires
-    add-k
-    loop-less
-    loop-again
+    invariant-loop-k
+    decreases-loop-k
+    loop-k-init
+    bounds-from-k
+    bounds-to-k
+    ends_bad-bad-requires
+    overflow_add-k
+    loop-k-smaller
+    loop-k-preserved
     returns)

@@ -5,42 +5,41 @@ use borrow.Author.Rules.{rules}
 use Rattle.network_file.proofs.link.bad_link.Statement.{statement}
 use Rattle.network_file.proofs.link.bad_link.Tie as tie
 
-cast-bad-ends : tie.Need-overflow-cast-bad-ends
-cast-bad-ends c = search rules
+overflow_cast-routers : tie.Need-overflow_cast-routers
+overflow_cast-routers c = search rules
 
-bad-ends-requires : tie.Need-bad-ends-requires
-bad-ends-requires c κs = search rules
+bad_ends-requires : tie.Need-bad_ends-requires
+bad_ends-requires c κs = search rules
 
-first-bad-link-requires : tie.Need-first-bad-link-requires
-first-bad-link-requires c κs = search rules
+first_bad_link-requires : tie.Need-first_bad_link-requires
+first_bad_link-requires c κs = search rules
+
+returns-then-bad_ends-ne0 : tie.Need-returns-then-bad_ends-ne0
+returns-then-bad_ends-ne0 c = search rules
+
+least_cost-requires : tie.Need-least_cost-requires
+least_cost-requires c κs = search rules
+
+first_bad_link-requires-then-least_cost-lt1 : tie.Need-first_bad_link-requires-then-least_cost-lt1
+first_bad_link-requires-then-least_cost-lt1 c κs = search rules
+
+returns-then-least_cost-lt1 : tie.Need-returns-then-least_cost-lt1
+returns-then-least_cost-lt1 c = search rules
 
 returns : tie.Need-returns
-returns c = search rules
-
-least-cost-requires : tie.Need-least-cost-requires
-least-cost-requires c κs = search rules
-
-first-bad-link-requires-2 : tie.Need-first-bad-link-requires-2
-first-bad-link-requires-2 c κs = search rules
-
-returns-2 : tie.Need-returns-2
-returns-2 c = search rules
-
-returns-3 : tie.Need-returns-3
-returns-3 c =
-    let first = c.before.before.before.before.before in
-    let pre = first.before.before.before.before.before.before.requires in
-    none_bad _ _ _ _ pre.1 pre.3 _ _ first.before.bad-ends.ensures c.before.least-cost.ensures first.if1.false c.if2.false
+returns c =
+    let pre = c.requires in
+    none_bad _ _ _ _ pre.1 pre.3 _ _ c.bad_ends.ensures c.least_cost.ensures c.if-bad_ends-ne0.false c.if-least_cost-lt1.false
 
 pub bad_link_spec : {M : Type 1} → statement M
 bad_link_spec =
     tie.close
     (tie.spec
-    cast-bad-ends
-    bad-ends-requires
-    first-bad-link-requires
-    returns
-    least-cost-requires
-    first-bad-link-requires-2
-    returns-2
-    returns-3)
+    overflow_cast-routers
+    bad_ends-requires
+    first_bad_link-requires
+    returns-then-bad_ends-ne0
+    least_cost-requires
+    first_bad_link-requires-then-least_cost-lt1
+    returns-then-least_cost-lt1
+    returns)

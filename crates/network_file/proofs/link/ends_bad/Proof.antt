@@ -4,23 +4,23 @@ use borrow.Author.Tests.{lt-ltb, le-ltb, eq-eqb, ne_eqb}
 use Rattle.network_file.proofs.link.ends_bad.Statement.{statement}
 use Rattle.network_file.proofs.link.ends_bad.Tie as tie
 
+returns-then-routers-a : tie.Need-returns-then-routers-a
+returns-then-routers-a c = rw (le-ltb _ _ c.if-routers-a.true)
+
+returns-then-routers-b : tie.Need-returns-then-routers-b
+returns-then-routers-b c =
+    let n = c.args in
+    rw (lt-ltb n.a n.routers c.if-routers-a.false, le-ltb n.b n.routers c.if-routers-b.true)
+
+returns-then-a-b : tie.Need-returns-then-a-b
+returns-then-a-b c =
+    let n = c.args in
+    rw (lt-ltb n.a n.routers c.if-routers-a.false, lt-ltb n.b n.routers c.if-routers-b.false, eq-eqb n.a n.b c.if-a-b.true)
+
 returns : tie.Need-returns
-returns c = rw (le-ltb _ _ c.if1.true)
-
-returns-2 : tie.Need-returns-2
-returns-2 c =
-    let n = c.before.before.args in
-    rw (lt-ltb n.a n.routers c.before.if1.false, le-ltb n.b n.routers c.if2.true)
-
-returns-3 : tie.Need-returns-3
-returns-3 c =
-    let n = c.before.before.before.args in
-    rw (lt-ltb n.a n.routers c.before.before.if1.false, lt-ltb n.b n.routers c.before.if2.false, eq-eqb n.a n.b c.if3.true)
-
-returns-4 : tie.Need-returns-4
-returns-4 c =
-    let n = c.before.before.before.args in
-    rw (lt-ltb n.a n.routers c.before.before.if1.false, lt-ltb n.b n.routers c.before.if2.false, ne_eqb n.a n.b c.if3.false)
+returns c =
+    let n = c.args in
+    rw (lt-ltb n.a n.routers c.if-routers-a.false, lt-ltb n.b n.routers c.if-routers-b.false, ne_eqb n.a n.b c.if-a-b.false)
 
 pub ends_bad_spec : {M : Type 1} → statement M
-ends_bad_spec = tie.close (tie.spec returns returns-2 returns-3 returns-4)
+ends_bad_spec = tie.close (tie.spec returns-then-routers-a returns-then-routers-b returns-then-a-b returns)

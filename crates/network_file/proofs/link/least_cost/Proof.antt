@@ -12,64 +12,64 @@ use borrow.Author.Rules.{rules}
 use Rattle.network_file.proofs.link.least_cost.Statement.{statement}
 use Rattle.network_file.proofs.link.least_cost.Tie as tie
 
-abbrev invariant-loop : tie.invariant-loop
-invariant-loop links out back least₀ k₀ least k = (k ≤ links) × (leb 1 least ≡ every_below (costs_good out back) k)
+abbrev invariant-loop-k : tie.invariant-loop-k
+invariant-loop-k links out back least₀ k₀ least k = (k ≤ links) × (leb 1 least ≡ every_below (costs_good out back) k)
 
-abbrev decreases-loop : tie.decreases-loop
-decreases-loop links out back least₀ k₀ least k = links - k
+abbrev decreases-loop-k : tie.decreases-loop-k
+decreases-loop-k links out back least₀ k₀ least k = links - k
 
-loop-holds : tie.Need-loop-init invariant-loop decreases-loop
-loop-holds c = (omega arith, sym (every_none _))
+loop-k-init : tie.Need-loop-k-init invariant-loop-k decreases-loop-k
+loop-k-init c = (omega arith, sym (every_none _))
 
-mul-smaller : tie.Need-overflow-mul-smaller invariant-loop decreases-loop
-mul-smaller c = search rules
+offset_bounds-out-k : tie.Need-offset_bounds-out-k invariant-loop-k decreases-loop-k
+offset_bounds-out-k c = search rules
 
-element-copy-out-smaller : tie.Need-element-copy-out-smaller invariant-loop decreases-loop
-element-copy-out-smaller c = search rules
+bounds-out-k : tie.Need-bounds-out-k invariant-loop-k decreases-loop-k
+bounds-out-k c = search rules
 
-mul-smaller-2 : tie.Need-overflow-mul-smaller-2 invariant-loop decreases-loop
-mul-smaller-2 c = search rules
+offset_bounds-back-k : tie.Need-offset_bounds-back-k invariant-loop-k decreases-loop-k
+offset_bounds-back-k c = search rules
 
-element-copy-out-smaller-2 : tie.Need-element-copy-out-smaller-2 invariant-loop decreases-loop
-element-copy-out-smaller-2 c = search rules
+bounds-back-k : tie.Need-bounds-back-k invariant-loop-k decreases-loop-k
+bounds-back-k c = search rules
 
-smaller-requires : tie.Need-smaller-requires invariant-loop decreases-loop
+smaller-requires : tie.Need-smaller-requires invariant-loop-k decreases-loop-k
 smaller-requires c κs = search rules
 
-smaller-requires-2 : tie.Need-smaller-requires-2 invariant-loop decreases-loop
-smaller-requires-2 c κs = search rules
+smaller-least-requires : tie.Need-smaller-least-requires invariant-loop-k decreases-loop-k
+smaller-least-requires c κs = search rules
 
-add-k : tie.Need-overflow-add-k invariant-loop decreases-loop
-add-k c = search rules
+overflow_add-k : tie.Need-overflow_add-k invariant-loop-k decreases-loop-k
+overflow_add-k c = search rules
 
-loop-less : tie.Need-loop-smaller invariant-loop decreases-loop
-loop-less c = search rules
+loop-k-smaller : tie.Need-loop-k-smaller invariant-loop-k decreases-loop-k
+loop-k-smaller c = search rules
 
-loop-again : tie.Need-loop-preserved invariant-loop decreases-loop
-loop-again c =
-    let l = c.before.before.before.before.before.loop in
-    (omega arith, least_more _ _ l.k l.least l.invariant.1 c.before.smaller.ensures c.smaller2.ensures)
+loop-k-preserved : tie.Need-loop-k-preserved invariant-loop-k decreases-loop-k
+loop-k-preserved c =
+    let l = c.loop-k in
+    (omega arith, least_more _ _ l.k l.least l.invariant.1 c.smaller.ensures c.smaller-least.ensures)
 
-returns : tie.Need-returns invariant-loop decreases-loop
+returns : tie.Need-returns invariant-loop-k decreases-loop-k
 returns c =
-    let l = c.before.loop in
-    let e : l.k ≡ c.before.before.args.links = omega arith in
+    let l = c.loop-k in
+    let e : l.k ≡ c.args.links = omega arith in
     rw e at l.invariant.1
 
 pub least_cost_spec : {M : Type 1} → statement M
 least_cost_spec =
     tie.close
     (tie.spec
-    invariant-loop
-    decreases-loop
-    loop-holds
-    mul-smaller
-    element-copy-out-smaller
-    mul-smaller-2
-    element-copy-out-smaller-2
+    invariant-loop-k
+    decreases-loop-k
+    loop-k-init
+    offset_bounds-out-k
+    bounds-out-k
+    offset_bounds-back-k
+    bounds-back-k
     smaller-requires
-    smaller-requires-2
-    add-k
-    loop-less
-    loop-again
+    smaller-least-requires
+    overflow_add-k
+    loop-k-smaller
+    loop-k-preserved
     returns)

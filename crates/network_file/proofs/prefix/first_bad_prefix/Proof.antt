@@ -4,7 +4,6 @@
 use Prim.Native.Nat.{◌-◌}
 use mathlib.Core.Path.{◌≡◌, refl, ◌∙◌}
 use native.Mathlib.Omega.{arith}
-use borrow.Author.Tests.{not-true, not-false}
 use borrow.Author.Rules.{rules}
 use Rattle.network_file.specs.Entry.{place_of, unused_mask, unused_masks}
 use Rattle.lfa.specs.Lists.{below, count_up}
@@ -15,77 +14,77 @@ use Rattle.network_file.proofs.PrefixLaws.{prefix_tested}
 use Rattle.network_file.proofs.prefix.first_bad_prefix.Statement.{statement}
 use Rattle.network_file.proofs.prefix.first_bad_prefix.Tie as tie
 
-abbrev invariant-loop : tie.invariant-loop
-invariant-loop file routers links prefixes masks place₀ p₀ place p = Searching (prefix_good file) 0 prefixes prefixes p × (place ≡ place_of file p)
+abbrev invariant-loop-p : tie.invariant-loop-p
+invariant-loop-p file routers links prefixes masks place₀ p₀ place p = Searching (prefix_good file) 0 prefixes prefixes p × (place ≡ place_of file p)
 
-abbrev decreases-loop : tie.decreases-loop
-decreases-loop file routers links prefixes masks place₀ p₀ place p = prefixes - p
+abbrev decreases-loop-p : tie.decreases-loop-p
+decreases-loop-p file routers links prefixes masks place₀ p₀ place p = prefixes - p
 
-first-place-requires : tie.Need-first-place-requires invariant-loop decreases-loop
-first-place-requires c κs = let pre = c.before.requires.0 in omega (arith, pre.links_right, pre.sized.few_links)
+first_place-place-requires : tie.Need-first_place-place-requires invariant-loop-p decreases-loop-p
+first_place-place-requires c κs = let pre = c.requires.0 in omega (arith, pre.links_right, pre.sized.few_links)
 
-loop-holds : tie.Need-loop-init invariant-loop decreases-loop
-loop-holds c = (search_starts _ 0 _ _ (omega arith), c.first-place.ensures _ c.before.before.requires.0.links_right)
+loop-p-init : tie.Need-loop-p-init invariant-loop-p decreases-loop-p
+loop-p-init c = (search_starts _ 0 _ _ (omega arith), c.first_place-place.ensures _ c.requires.0.links_right)
 
-entry-at-requires : tie.Need-entry-at-requires invariant-loop decreases-loop
-entry-at-requires c κs =
-    let pre = c.before.before.before.before.requires.0 in
-    let h = rw pre.prefixes_right at c.loop-test.true in
-    place_inside _ _ _ c.before.loop.invariant.1 pre.sized h
+entry_at-requires : tie.Need-entry_at-requires invariant-loop-p decreases-loop-p
+entry_at-requires c κs =
+    let pre = c.requires.0 in
+    let h = rw pre.prefixes_right at c.loop-p-test.true in
+    place_inside _ _ _ c.loop-p.invariant.1 pre.sized h
 
-sound-prefix-requires : tie.Need-sound-prefix-requires invariant-loop decreases-loop
+sound_prefix-requires : tie.Need-sound_prefix-requires invariant-loop-p decreases-loop-p
 unfolding unused_masks unused_mask below count_up
-sound-prefix-requires c κs =
-    let pre = c.before.before.before.before.before.before.requires in
-    (c.before.entry_at.ensures.1, rw pre.1 pre.0.sized.some_routers, rw pre.1 pre.0.sized.few_routers, refl)
+sound_prefix-requires c κs =
+    let pre = c.requires in
+    (c.entry_at.ensures.1, rw pre.1 pre.0.sized.some_routers, rw pre.1 pre.0.sized.few_routers, refl)
 
-returns : tie.Need-returns invariant-loop decreases-loop
-returns c =
+returns-then-not-sound_prefix : tie.Need-returns-then-not-sound_prefix invariant-loop-p decreases-loop-p
+returns-then-not-sound_prefix c =
     let turn = c.before.before.before.before in
-    let l = turn.before.loop in
+    let l = turn.loop-p in
     let start = turn.before.before.before.before in
-    let is = c.before.before.before.entry_at.ensures.0 _ l.invariant.1 in
-    let tested = prefix_tested _ _ _ _ start.requires.1 is c.before.sound-prefix.ensures in
-    search_found _ 0 _ _ _ l.invariant.0 turn.loop-test.true (tested ∙ c.if1.true)
+    let is = c.entry_at.ensures.0 _ l.invariant.1 in
+    let tested = prefix_tested _ _ _ _ start.requires.1 is c.sound_prefix.ensures in
+    search_found _ 0 _ _ _ l.invariant.0 turn.loop-p-test.true (tested ∙ c.if-not-sound_prefix.true)
 
-next-place-requires : tie.Need-next-place-requires invariant-loop decreases-loop
-next-place-requires c κs =
+next_place-place-requires : tie.Need-next_place-place-requires invariant-loop-p decreases-loop-p
+next_place-place-requires c κs =
     let turn = c.before.before.before.before in
-    let pre = turn.before.before.before.before.requires.0 in
-    let h = rw pre.prefixes_right at turn.loop-test.true in
-    place_small _ _ _ turn.before.loop.invariant.1 pre.sized h
+    let pre = turn.requires.0 in
+    let h = rw pre.prefixes_right at turn.loop-p-test.true in
+    place_small _ _ _ turn.loop-p.invariant.1 pre.sized h
 
-add-p : tie.Need-overflow-add-p invariant-loop decreases-loop
-add-p c = search rules
+overflow_add-p : tie.Need-overflow_add-p invariant-loop-p decreases-loop-p
+overflow_add-p c = search rules
 
-loop-less : tie.Need-loop-smaller invariant-loop decreases-loop
-loop-less c = search rules
+loop-p-smaller : tie.Need-loop-p-smaller invariant-loop-p decreases-loop-p
+loop-p-smaller c = search rules
 
-loop-again : tie.Need-loop-preserved invariant-loop decreases-loop
-loop-again c =
+loop-p-preserved : tie.Need-loop-p-preserved invariant-loop-p decreases-loop-p
+loop-p-preserved c =
     let turn = c.before.before.before.before.before in
-    let l = turn.before.loop in
+    let l = turn.loop-p in
     let start = turn.before.before.before.before in
-    let is = c.before.before.before.before.entry_at.ensures.0 _ l.invariant.1 in
-    let tested = prefix_tested _ _ _ _ start.requires.1 is c.before.before.sound-prefix.ensures in
-    (search_passed _ 0 _ _ _ l.invariant.0 turn.loop-test.true (tested ∙ c.before.if1.false), c.next_place.ensures _ _ l.invariant.1)
+    let is = c.entry_at.ensures.0 _ l.invariant.1 in
+    let tested = prefix_tested _ _ _ _ start.requires.1 is c.sound_prefix.ensures in
+    (search_passed _ 0 _ _ _ l.invariant.0 turn.loop-p-test.true (tested ∙ c.if-not-sound_prefix.false), c.next_place-place.ensures _ _ l.invariant.1)
 
-returns-2 : tie.Need-returns-2 invariant-loop decreases-loop
-returns-2 c = search_none _ 0 _ _ _ c.before.loop.invariant.0 c.loop-test.false
+returns : tie.Need-returns invariant-loop-p decreases-loop-p
+returns c = search_none _ 0 _ _ _ c.loop-p.invariant.0 c.loop-p-test.false
 
 pub first_bad_prefix_spec : {M : Type 1} → statement M
 first_bad_prefix_spec =
     tie.close
     (tie.spec
-    invariant-loop
-    decreases-loop
-    first-place-requires
-    loop-holds
-    entry-at-requires
-    sound-prefix-requires
-    returns
-    next-place-requires
-    add-p
-    loop-less
-    loop-again
-    returns-2)
+    invariant-loop-p
+    decreases-loop-p
+    first_place-place-requires
+    loop-p-init
+    entry_at-requires
+    sound_prefix-requires
+    returns-then-not-sound_prefix
+    next_place-place-requires
+    overflow_add-p
+    loop-p-smaller
+    loop-p-preserved
+    returns)

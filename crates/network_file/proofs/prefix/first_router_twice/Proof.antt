@@ -3,7 +3,6 @@
 use Prim.Native.Nat.{◌-◌}
 use mathlib.Core.Path.{◌≡◌, ◌∙◌}
 use native.Mathlib.Omega.{arith}
-use borrow.Author.Tests.{not-true, not-false}
 use borrow.Author.Rules.{rules}
 use Rattle.network_file.specs.Entry.{place_of}
 use Rattle.lfa.specs.File.{routers_new}
@@ -13,76 +12,76 @@ use Rattle.network_file.proofs.PrefixLaws.{slots_there, routers_tested}
 use Rattle.network_file.proofs.prefix.first_router_twice.Statement.{statement}
 use Rattle.network_file.proofs.prefix.first_router_twice.Tie as tie
 
-abbrev invariant-loop : tie.invariant-loop
-invariant-loop file links prefixes place₀ p₀ place p = Searching (routers_new file) 0 prefixes prefixes p × (place ≡ place_of file p)
+abbrev invariant-loop-p : tie.invariant-loop-p
+invariant-loop-p file links prefixes place₀ p₀ place p = Searching (routers_new file) 0 prefixes prefixes p × (place ≡ place_of file p)
 
-abbrev decreases-loop : tie.decreases-loop
-decreases-loop file links prefixes place₀ p₀ place p = prefixes - p
+abbrev decreases-loop-p : tie.decreases-loop-p
+decreases-loop-p file links prefixes place₀ p₀ place p = prefixes - p
 
-first-place-requires : tie.Need-first-place-requires invariant-loop decreases-loop
-first-place-requires c κs = let pre = c.before.requires.0 in omega (arith, pre.links_right, pre.sized.few_links)
+first_place-place-requires : tie.Need-first_place-place-requires invariant-loop-p decreases-loop-p
+first_place-place-requires c κs = let pre = c.requires.0 in omega (arith, pre.links_right, pre.sized.few_links)
 
-loop-holds : tie.Need-loop-init invariant-loop decreases-loop
-loop-holds c = (search_starts _ 0 _ _ (omega arith), c.first-place.ensures _ c.before.before.requires.0.links_right)
+loop-p-init : tie.Need-loop-p-init invariant-loop-p decreases-loop-p
+loop-p-init c = (search_starts _ 0 _ _ (omega arith), c.first_place-place.ensures _ c.requires.0.links_right)
 
-entry-at-requires : tie.Need-entry-at-requires invariant-loop decreases-loop
-entry-at-requires c κs =
-    let pre = c.before.before.before.before.requires.0 in
-    let h = rw pre.prefixes_right at c.loop-test.true in
-    place_inside _ _ _ c.before.loop.invariant.1 pre.sized h
+entry_at-requires : tie.Need-entry_at-requires invariant-loop-p decreases-loop-p
+entry_at-requires c κs =
+    let pre = c.requires.0 in
+    let h = rw pre.prefixes_right at c.loop-p-test.true in
+    place_inside _ _ _ c.loop-p.invariant.1 pre.sized h
 
-new-routers-requires : tie.Need-new-routers-requires invariant-loop decreases-loop
-new-routers-requires c κs =
-    let pre = c.before.before.before.before.before.requires in
-    slots_there _ _ _ pre.0.sized (c.entry_at.ensures.0 _ c.before.before.loop.invariant.1) c.entry_at.ensures.1 (pre.1 _ c.before.loop-test.true)
+new_routers-requires : tie.Need-new_routers-requires invariant-loop-p decreases-loop-p
+new_routers-requires c κs =
+    let pre = c.requires in
+    slots_there _ _ _ pre.0.sized (c.entry_at.ensures.0 _ c.loop-p.invariant.1) c.entry_at.ensures.1 (pre.1 _ c.loop-p-test.true)
 
-returns : tie.Need-returns invariant-loop decreases-loop
-returns c =
+returns-then-not-new_routers : tie.Need-returns-then-not-new_routers invariant-loop-p decreases-loop-p
+returns-then-not-new_routers c =
     let turn = c.before.before.before in
-    let l = turn.before.loop in
+    let l = turn.loop-p in
     let start = turn.before.before.before.before in
-    let is = c.before.before.entry_at.ensures.0 _ l.invariant.1 in
-    let tested = routers_tested _ _ _ is c.before.new-routers.ensures in
-    search_found _ 0 _ _ _ l.invariant.0 turn.loop-test.true (tested ∙ c.if1.true)
+    let is = c.entry_at.ensures.0 _ l.invariant.1 in
+    let tested = routers_tested _ _ _ is c.new_routers.ensures in
+    search_found _ 0 _ _ _ l.invariant.0 turn.loop-p-test.true (tested ∙ c.if-not-new_routers.true)
 
-next-place-requires : tie.Need-next-place-requires invariant-loop decreases-loop
-next-place-requires c κs =
+next_place-place-requires : tie.Need-next_place-place-requires invariant-loop-p decreases-loop-p
+next_place-place-requires c κs =
     let turn = c.before.before.before in
-    let pre = turn.before.before.before.before.requires.0 in
-    let h = rw pre.prefixes_right at turn.loop-test.true in
-    place_small _ _ _ turn.before.loop.invariant.1 pre.sized h
+    let pre = turn.requires.0 in
+    let h = rw pre.prefixes_right at turn.loop-p-test.true in
+    place_small _ _ _ turn.loop-p.invariant.1 pre.sized h
 
-add-p : tie.Need-overflow-add-p invariant-loop decreases-loop
-add-p c = search rules
+overflow_add-p : tie.Need-overflow_add-p invariant-loop-p decreases-loop-p
+overflow_add-p c = search rules
 
-loop-less : tie.Need-loop-smaller invariant-loop decreases-loop
-loop-less c = search rules
+loop-p-smaller : tie.Need-loop-p-smaller invariant-loop-p decreases-loop-p
+loop-p-smaller c = search rules
 
-loop-again : tie.Need-loop-preserved invariant-loop decreases-loop
-loop-again c =
+loop-p-preserved : tie.Need-loop-p-preserved invariant-loop-p decreases-loop-p
+loop-p-preserved c =
     let turn = c.before.before.before.before in
-    let l = turn.before.loop in
+    let l = turn.loop-p in
     let start = turn.before.before.before.before in
-    let is = c.before.before.before.entry_at.ensures.0 _ l.invariant.1 in
-    let tested = routers_tested _ _ _ is c.before.before.new-routers.ensures in
-    (search_passed _ 0 _ _ _ l.invariant.0 turn.loop-test.true (tested ∙ c.before.if1.false), c.next_place.ensures _ _ l.invariant.1)
+    let is = c.entry_at.ensures.0 _ l.invariant.1 in
+    let tested = routers_tested _ _ _ is c.new_routers.ensures in
+    (search_passed _ 0 _ _ _ l.invariant.0 turn.loop-p-test.true (tested ∙ c.if-not-new_routers.false), c.next_place-place.ensures _ _ l.invariant.1)
 
-returns-2 : tie.Need-returns-2 invariant-loop decreases-loop
-returns-2 c = search_none _ 0 _ _ _ c.before.loop.invariant.0 c.loop-test.false
+returns : tie.Need-returns invariant-loop-p decreases-loop-p
+returns c = search_none _ 0 _ _ _ c.loop-p.invariant.0 c.loop-p-test.false
 
 pub first_router_twice_spec : {M : Type 1} → statement M
 first_router_twice_spec =
     tie.close
     (tie.spec
-    invariant-loop
-    decreases-loop
-    first-place-requires
-    loop-holds
-    entry-at-requires
-    new-routers-requires
-    returns
-    next-place-requires
-    add-p
-    loop-less
-    loop-again
-    returns-2)
+    invariant-loop-p
+    decreases-loop-p
+    first_place-place-requires
+    loop-p-init
+    entry_at-requires
+    new_routers-requires
+    returns-then-not-new_routers
+    next_place-place-requires
+    overflow_add-p
+    loop-p-smaller
+    loop-p-preserved
+    returns)

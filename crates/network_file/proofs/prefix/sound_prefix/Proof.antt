@@ -5,68 +5,68 @@ use Rattle.network_file.proofs.PrefixLaws.{count_none, count_many, second_wrong,
 use Rattle.network_file.proofs.prefix.sound_prefix.Statement.{statement}
 use Rattle.network_file.proofs.prefix.sound_prefix.Tie as tie
 
-shared-slice-read-wide : tie.Need-shared-slice-read-wide
-shared-slice-read-wide c = search rules
+bounds-entry-0 : tie.Need-bounds-entry-0
+bounds-entry-0 c = search rules
 
-wide-requires : tie.Need-wide-requires
-wide-requires c κs = search rules
+wide-count-requires : tie.Need-wide-count-requires
+wide-count-requires c κs = search rules
 
-returns : tie.Need-returns
-returns c = count_none _ _ _ c.before.wide.ensures c.if1.true
+returns-then-count-lt1 : tie.Need-returns-then-count-lt1
+returns-then-count-lt1 c = count_none _ _ _ c.wide-count.ensures c.if-count-lt1.true
 
-returns-2 : tie.Need-returns-2
-returns-2 c = count_many _ _ _ c.before.before.wide.ensures c.before.if1.false c.if2.true
+returns-then-count-gt8 : tie.Need-returns-then-count-gt8
+returns-then-count-gt8 c = count_many _ _ _ c.wide-count.ensures c.if-count-lt1.false c.if-count-gt8.true
 
-shared-slice-read-if3 : tie.Need-shared-slice-read-if3
-shared-slice-read-if3 c = search rules
+bounds-entry-1 : tie.Need-bounds-entry-1
+bounds-entry-1 c = search rules
 
-returns-3 : tie.Need-returns-3
-returns-3 c = second_wrong _ _ _ c.before.before.before.before.wide.ensures c.before.before.before.if1.false c.before.before.if2.false c.if3.true
+returns-then-entry-ne0 : tie.Need-returns-then-entry-ne0
+returns-then-entry-ne0 c = second_wrong _ _ _ c.wide-count.ensures c.if-count-lt1.false c.if-count-gt8.false c.if-entry-ne0.true
 
-cast-routers-over : tie.Need-overflow-cast-routers-over
-cast-routers-over c = search rules
+overflow_cast-routers : tie.Need-overflow_cast-routers
+overflow_cast-routers c = search rules
 
-sub-routers-over : tie.Need-overflow-sub-routers-over
-sub-routers-over c = search rules
+overflow_sub-routers : tie.Need-overflow_sub-routers
+overflow_sub-routers c = search rules
 
-routers-over-requires : tie.Need-routers-over-requires
-routers-over-requires c κs = search rules
+routers_over-requires : tie.Need-routers_over-requires
+routers_over-requires c κs = search rules
 
-returns-4 : tie.Need-returns-4
-returns-4 c =
+returns-then-routers_over-ge65536 : tie.Need-returns-then-routers_over-ge65536
+returns-then-routers_over-ge65536 c =
     let second = c.before.before in
     let few = second.before.before in
     let some = few.before in
-    let pre = some.before.before.before.before.requires in
-    router_wrong _ _ _ some.before.wide.ensures some.if1.false few.if2.false second.if3.false pre.0 pre.1 pre.2
-    _ c.before.routers-over.ensures c.if4.true
+    let pre = some.requires in
+    router_wrong _ _ _ some.wide-count.ensures some.if-count-lt1.false few.if-count-gt8.false second.if-entry-ne0.false pre.0 pre.1 pre.2
+    _ c.routers_over.ensures c.if-routers_over-ge65536.true
 
-unused-slots-requires : tie.Need-unused-slots-requires
-unused-slots-requires c κs = search rules
+unused_slots-requires : tie.Need-unused_slots-requires
+unused_slots-requires c κs = search rules
 
-returns-5 : tie.Need-returns-5
-returns-5 c =
+returns : tie.Need-returns
+returns c =
     let over = c.before.before in
     let second = over.before in
     let few = second.before.before in
     let some = few.before in
-    let pre = some.before.before.before.before.requires in
-    unused_decide _ _ _ some.before.wide.ensures some.if1.false few.if2.false second.if3.false pre.0 pre.1 pre.2
-    _ over.routers-over.ensures c.before.if4.false c.unused-slots.ensures
+    let pre = some.requires in
+    unused_decide _ _ _ some.wide-count.ensures some.if-count-lt1.false few.if-count-gt8.false second.if-entry-ne0.false pre.0 pre.1 pre.2
+    _ over.routers_over.ensures c.if-routers_over-ge65536.false c.unused_slots.ensures
 
 pub sound_prefix_spec : {M : Type 1} → statement M
 sound_prefix_spec =
     tie.close
     (tie.spec
-    shared-slice-read-wide
-    wide-requires
-    returns
-    returns-2
-    shared-slice-read-if3
-    returns-3
-    cast-routers-over
-    sub-routers-over
-    routers-over-requires
-    returns-4
-    unused-slots-requires
-    returns-5)
+    bounds-entry-0
+    wide-count-requires
+    returns-then-count-lt1
+    returns-then-count-gt8
+    bounds-entry-1
+    returns-then-entry-ne0
+    overflow_cast-routers
+    overflow_sub-routers
+    routers_over-requires
+    returns-then-routers_over-ge65536
+    unused_slots-requires
+    returns)

@@ -11,48 +11,48 @@ use Rattle.network_file.proofs.AttachmentLaws.{cost_read}
 use Rattle.network_file.proofs.prefix.store_costs.Statement.{statement}
 use Rattle.network_file.proofs.prefix.store_costs.Tie as tie
 
-abbrev invariant-loop : tie.invariant-loop
-invariant-loop entry p own₀ s₀ own s = (s ≤ 8) × (own ≡ stored (8 * p) s (λ j. cost_of (slot entry j)) own₀)
+abbrev invariant-loop-s : tie.invariant-loop-s
+invariant-loop-s entry p own₀ s₀ own s = (s ≤ 8) × (own ≡ stored (8 * p) s (λ j. cost_of (slot entry j)) own₀)
 
-abbrev decreases-loop : tie.decreases-loop
-decreases-loop entry p own₀ s₀ own s = 8 - s
+abbrev decreases-loop-s : tie.decreases-loop-s
+decreases-loop-s entry p own₀ s₀ own s = 8 - s
 
-loop-holds : tie.Need-loop-init invariant-loop decreases-loop
-loop-holds c = (omega arith, stored_none _ _ _)
+loop-s-init : tie.Need-loop-s-init invariant-loop-s decreases-loop-s
+loop-s-init c = (omega arith, stored_none _ _ _)
 
-slot-word-requires : tie.Need-slot-word-requires invariant-loop decreases-loop
-slot-word-requires c κs = search rules
+slot_word-requires : tie.Need-slot_word-requires invariant-loop-s decreases-loop-s
+slot_word-requires c κs = search rules
 
-cast-own : tie.Need-overflow-cast-own invariant-loop decreases-loop
-cast-own c = search rules
+overflow_cast-own : tie.Need-overflow_cast-own invariant-loop-s decreases-loop-s
+overflow_cast-own c = search rules
 
-mul-own : tie.Need-overflow-mul-own invariant-loop decreases-loop
-mul-own c = search rules
+overflow_mul-own : tie.Need-overflow_mul-own invariant-loop-s decreases-loop-s
+overflow_mul-own c = search rules
 
-add-own : tie.Need-overflow-add-own invariant-loop decreases-loop
-add-own c = search rules
+overflow_add-own : tie.Need-overflow_add-own invariant-loop-s decreases-loop-s
+overflow_add-own c = search rules
 
-mul-own-2 : tie.Need-overflow-mul-own-2 invariant-loop decreases-loop
-mul-own-2 c = search rules
+offset_bounds-own-p : tie.Need-offset_bounds-own-p invariant-loop-s decreases-loop-s
+offset_bounds-own-p c = search rules
 
-element-write-own : tie.Need-element-write-own invariant-loop decreases-loop
-element-write-own c = search rules
+bounds-own-p : tie.Need-bounds-own-p invariant-loop-s decreases-loop-s
+bounds-own-p c = search rules
 
-add-s : tie.Need-overflow-add-s invariant-loop decreases-loop
-add-s c = search rules
+overflow_add-s : tie.Need-overflow_add-s invariant-loop-s decreases-loop-s
+overflow_add-s c = search rules
 
-loop-less : tie.Need-loop-smaller invariant-loop decreases-loop
-loop-less c = search rules
+loop-s-smaller : tie.Need-loop-s-smaller invariant-loop-s decreases-loop-s
+loop-s-smaller c = search rules
 
-loop-again : tie.Need-loop-preserved invariant-loop decreases-loop
-loop-again c =
-    let l = c.before.before.loop in
-    let a = c.before.before.before.before.args in
-    (omega arith, stored_more (8 * a.p) l.s _ a.own.now l.invariant.1 (c.slot-word.ensures.1 ∙ cost_read _ l.s))
+loop-s-preserved : tie.Need-loop-s-preserved invariant-loop-s decreases-loop-s
+loop-s-preserved c =
+    let l = c.loop-s in
+    let a = c.args in
+    (omega arith, stored_more (8 * a.p) l.s _ a.own.now l.invariant.1 (c.slot_word.ensures.1 ∙ cost_read _ l.s))
 
-returns : tie.Need-returns invariant-loop decreases-loop
+returns : tie.Need-returns invariant-loop-s decreases-loop-s
 returns c =
-    let l = c.before.loop in
+    let l = c.loop-s in
     let e : l.s ≡ 8 = omega arith in
     rw e at l.invariant.1
 
@@ -60,16 +60,16 @@ pub store_costs_spec : {M : Type 1} → statement M
 store_costs_spec =
     tie.close
     (tie.spec
-    invariant-loop
-    decreases-loop
-    loop-holds
-    slot-word-requires
-    cast-own
-    mul-own
-    add-own
-    mul-own-2
-    element-write-own
-    add-s
-    loop-less
-    loop-again
+    invariant-loop-s
+    decreases-loop-s
+    loop-s-init
+    slot_word-requires
+    overflow_cast-own
+    overflow_mul-own
+    overflow_add-own
+    offset_bounds-own-p
+    bounds-own-p
+    overflow_add-s
+    loop-s-smaller
+    loop-s-preserved
     returns)

@@ -11,48 +11,48 @@ use Rattle.network_file.proofs.AttachmentLaws.{router_read}
 use Rattle.network_file.proofs.prefix.store_routers.Statement.{statement}
 use Rattle.network_file.proofs.prefix.store_routers.Tie as tie
 
-abbrev invariant-loop : tie.invariant-loop
-invariant-loop entry p at₀ s₀ at s = (s ≤ 8) × (at ≡ stored (8 * p) s (λ j. router_of (slot entry j)) at₀)
+abbrev invariant-loop-s : tie.invariant-loop-s
+invariant-loop-s entry p at₀ s₀ at s = (s ≤ 8) × (at ≡ stored (8 * p) s (λ j. router_of (slot entry j)) at₀)
 
-abbrev decreases-loop : tie.decreases-loop
-decreases-loop entry p at₀ s₀ at s = 8 - s
+abbrev decreases-loop-s : tie.decreases-loop-s
+decreases-loop-s entry p at₀ s₀ at s = 8 - s
 
-loop-holds : tie.Need-loop-init invariant-loop decreases-loop
-loop-holds c = (omega arith, stored_none _ _ _)
+loop-s-init : tie.Need-loop-s-init invariant-loop-s decreases-loop-s
+loop-s-init c = (omega arith, stored_none _ _ _)
 
-mul_at : tie.Need-overflow-mul-at invariant-loop decreases-loop
-mul_at c = search rules
+overflow_mul-at : tie.Need-overflow_mul-at invariant-loop-s decreases-loop-s
+overflow_mul-at c = search rules
 
-add_at : tie.Need-overflow-add-at invariant-loop decreases-loop
-add_at c = search rules
+overflow_add-at : tie.Need-overflow_add-at invariant-loop-s decreases-loop-s
+overflow_add-at c = search rules
 
-shared-slice-read-at : tie.Need-shared-slice-read-at invariant-loop decreases-loop
-shared-slice-read-at c = search rules
+bounds-entry-s : tie.Need-bounds-entry-s invariant-loop-s decreases-loop-s
+bounds-entry-s c = search rules
 
-mul-at-2 : tie.Need-overflow-mul-at-2 invariant-loop decreases-loop
-mul-at-2 c = search rules
+overflow_mul-at-in-loop-s : tie.Need-overflow_mul-at-in-loop-s invariant-loop-s decreases-loop-s
+overflow_mul-at-in-loop-s c = search rules
 
-add-at-2 : tie.Need-overflow-add-at-2 invariant-loop decreases-loop
-add-at-2 c = search rules
+overflow_add-at-in-loop-s : tie.Need-overflow_add-at-in-loop-s invariant-loop-s decreases-loop-s
+overflow_add-at-in-loop-s c = search rules
 
-element-write-at : tie.Need-element-write-at invariant-loop decreases-loop
-element-write-at c = search rules
+bounds-at-p : tie.Need-bounds-at-p invariant-loop-s decreases-loop-s
+bounds-at-p c = search rules
 
-add-s : tie.Need-overflow-add-s invariant-loop decreases-loop
-add-s c = search rules
+overflow_add-s : tie.Need-overflow_add-s invariant-loop-s decreases-loop-s
+overflow_add-s c = search rules
 
-loop-less : tie.Need-loop-smaller invariant-loop decreases-loop
-loop-less c = search rules
+loop-s-smaller : tie.Need-loop-s-smaller invariant-loop-s decreases-loop-s
+loop-s-smaller c = search rules
 
-loop-again : tie.Need-loop-preserved invariant-loop decreases-loop
-loop-again c =
-    let l = c.before.before.loop in
-    let a = c.before.before.before.args in
+loop-s-preserved : tie.Need-loop-s-preserved invariant-loop-s decreases-loop-s
+loop-s-preserved c =
+    let l = c.loop-s in
+    let a = c.args in
     (omega arith, stored_more (8 * a.p) l.s _ a.at.now l.invariant.1 (router_read _ l.s))
 
-returns : tie.Need-returns invariant-loop decreases-loop
+returns : tie.Need-returns invariant-loop-s decreases-loop-s
 returns c =
-    let l = c.before.loop in
+    let l = c.loop-s in
     let e : l.s ≡ 8 = omega arith in
     rw e at l.invariant.1
 
@@ -60,16 +60,16 @@ pub store_routers_spec : {M : Type 1} → statement M
 store_routers_spec =
     tie.close
     (tie.spec
-    invariant-loop
-    decreases-loop
-    loop-holds
-    mul_at
-    add_at
-    shared-slice-read-at
-    mul-at-2
-    add-at-2
-    element-write-at
-    add-s
-    loop-less
-    loop-again
+    invariant-loop-s
+    decreases-loop-s
+    loop-s-init
+    overflow_mul-at
+    overflow_add-at
+    bounds-entry-s
+    overflow_mul-at-in-loop-s
+    overflow_add-at-in-loop-s
+    bounds-at-p
+    overflow_add-s
+    loop-s-smaller
+    loop-s-preserved
     returns)

@@ -13,50 +13,49 @@ use Rattle.network_file.proofs.SlotLaws.{slot_masked}
 use Rattle.network_file.proofs.prefix.unused_slots.Statement.{statement}
 use Rattle.network_file.proofs.prefix.unused_slots.Tie as tie
 
-abbrev invariant-loop : tie.invariant-loop
-invariant-loop count entry masks all₀ s₀ all s = (s ≤ 8) × (eqb all 0 ≡ every_below (unused_zero entry count) s)
+abbrev invariant-loop-s : tie.invariant-loop-s
+invariant-loop-s count entry masks all₀ s₀ all s = (s ≤ 8) × (eqb all 0 ≡ every_below (unused_zero entry count) s)
 
-abbrev decreases-loop : tie.decreases-loop
-decreases-loop count entry masks all₀ s₀ all s = 8 - s
+abbrev decreases-loop-s : tie.decreases-loop-s
+decreases-loop-s count entry masks all₀ s₀ all s = 8 - s
 
-loop-holds : tie.Need-loop-init invariant-loop decreases-loop
-loop-holds c = (omega arith, sym (every_none _))
+loop-s-init : tie.Need-loop-s-init invariant-loop-s decreases-loop-s
+loop-s-init c = (omega arith, sym (every_none _))
 
-slot-word-requires : tie.Need-slot-word-requires invariant-loop decreases-loop
-slot-word-requires c κs = search rules
+slot_word-requires : tie.Need-slot_word-requires invariant-loop-s decreases-loop-s
+slot_word-requires c κs = search rules
 
-mul-all : tie.Need-overflow-mul-all invariant-loop decreases-loop
-mul-all c = search rules
+overflow_mul-all : tie.Need-overflow_mul-all invariant-loop-s decreases-loop-s
+overflow_mul-all c = search rules
 
-add-all : tie.Need-overflow-add-all invariant-loop decreases-loop
-add-all c = search rules
+overflow_add-all : tie.Need-overflow_add-all invariant-loop-s decreases-loop-s
+overflow_add-all c = search rules
 
-mul-all-2 : tie.Need-overflow-mul-all-2 invariant-loop decreases-loop
-mul-all-2 c = search rules
+offset_bounds-masks-count : tie.Need-offset_bounds-masks-count invariant-loop-s decreases-loop-s
+offset_bounds-masks-count c = search rules
 
-element-copy-out-all : tie.Need-element-copy-out-all invariant-loop decreases-loop
-element-copy-out-all c = search rules
+bounds-masks-count : tie.Need-bounds-masks-count invariant-loop-s decreases-loop-s
+bounds-masks-count c = search rules
 
-add-s : tie.Need-overflow-add-s invariant-loop decreases-loop
-add-s c = search rules
+overflow_add-s : tie.Need-overflow_add-s invariant-loop-s decreases-loop-s
+overflow_add-s c = search rules
 
-loop-less : tie.Need-loop-smaller invariant-loop decreases-loop
-loop-less c = search rules
+loop-s-smaller : tie.Need-loop-s-smaller invariant-loop-s decreases-loop-s
+loop-s-smaller c = search rules
 
-loop-again : tie.Need-loop-preserved invariant-loop decreases-loop
-loop-again c =
-    let w = c.before.slot-word in
-    let l = c.before.before.before.loop in
-    let start = c.before.before.before.before.before in
+loop-s-preserved : tie.Need-loop-s-preserved invariant-loop-s decreases-loop-s
+loop-s-preserved c =
+    let w = c.slot_word in
+    let l = c.loop-s in
     let fits : w.result < 4294967296 = omega arith in
     let h : l.s < 8 = omega arith in (
       omega arith,
-      or_zero_more _ l.s l.all _ l.invariant.1 (slot_masked _ _ l.s w.result _ fits start.requires.1 h start.requires.2 w.ensures.0 w.ensures.1),
+      or_zero_more _ l.s l.all _ l.invariant.1 (slot_masked _ _ l.s w.result _ fits c.requires.1 h c.requires.2 w.ensures.0 w.ensures.1),
     )
 
-returns : tie.Need-returns invariant-loop decreases-loop
+returns : tie.Need-returns invariant-loop-s decreases-loop-s
 returns c =
-    let l = c.before.loop in
+    let l = c.loop-s in
     let e : l.s ≡ 8 = omega arith in
     rw e at l.invariant.1
 
@@ -64,15 +63,15 @@ pub unused_slots_spec : {M : Type 1} → statement M
 unused_slots_spec =
     tie.close
     (tie.spec
-    invariant-loop
-    decreases-loop
-    loop-holds
-    slot-word-requires
-    mul-all
-    add-all
-    mul-all-2
-    element-copy-out-all
-    add-s
-    loop-less
-    loop-again
+    invariant-loop-s
+    decreases-loop-s
+    loop-s-init
+    slot_word-requires
+    overflow_mul-all
+    overflow_add-all
+    offset_bounds-masks-count
+    bounds-masks-count
+    overflow_add-s
+    loop-s-smaller
+    loop-s-preserved
     returns)

@@ -13,11 +13,11 @@ use Rattle.metric.specs.Columns.{arcs_in}
 use Rattle.metric.specs.Area.{held}
 use Rattle.metric.specs.Column.{slots_in}
 use Rattle.column.specs.Laws.Calls.{prefix_known, attached_known}
-use Rattle.metric.specs.Laws.Columns.{columns_within}
+use Rattle.metric.proofs.Laws.Columns.{columns_within}
 use Rattle.steps.specs.Laws.Next.{RightEnds}
 use Rattle.steps.specs.Laws.Calls.{nexts_known}
 use Rattle.options.specs.Options.{move_in}
-use Rattle.options.specs.Laws.Options.{move_known}
+use Rattle.options.proofs.Laws.Options.{move_known}
 use Rattle.route.proofs.LegLaws.{step_nearer, leg_stops, leg_delivers}
 use Rattle.route.proofs.ProgressLaws.{Playing, playing_starts, playing_uses, playing_on, playing_ends}
 use Rattle.route.proofs.play.leg.Statement.{statement}

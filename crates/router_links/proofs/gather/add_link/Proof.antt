@@ -5,51 +5,51 @@ use borrow.Author.Rules.{rules}
 use Rattle.router_links.proofs.gather.add_link.Statement.{statement}
 use Rattle.router_links.proofs.gather.add_link.Tie as tie
 
+returns-then-metric-eq0 : tie.Need-returns-then-metric-eq0
+returns-then-metric-eq0 c = λ held h. nothing_added held _ _ (no_out _ _ _ _ c.if-metric-eq0.true) h
+
+returns-then-other-eq0 : tie.Need-returns-then-other-eq0
+returns-then-other-eq0 c = λ held h. nothing_added held _ _ (no_back _ _ _ _ c.if-other-eq0.true) h
+
+returns-then-count-ge128 : tie.Need-returns-then-count-ge128
+returns-then-count-ge128 c = λ held h. full_more held _ _ _ _ _ c.if-metric-eq0.false c.if-other-eq0.false c.if-count-ge128.true h
+
+bounds-from-count : tie.Need-bounds-from-count
+bounds-from-count c = search rules
+
+bounds-to-count : tie.Need-bounds-to-count
+bounds-to-count c = search rules
+
+offset_bounds-out-count : tie.Need-offset_bounds-out-count
+offset_bounds-out-count c = search rules
+
+bounds-out-count : tie.Need-bounds-out-count
+bounds-out-count c = search rules
+
+offset_bounds-back-count : tie.Need-offset_bounds-back-count
+offset_bounds-back-count c = search rules
+
+bounds-back-count : tie.Need-bounds-back-count
+bounds-back-count c = search rules
+
+overflow_add-result : tie.Need-overflow_add-result
+overflow_add-result c = search rules
+
 returns : tie.Need-returns
-returns c = λ held h. nothing_added held _ _ (no_out _ _ _ _ c.if1.true) h
-
-returns-2 : tie.Need-returns-2
-returns-2 c = λ held h. nothing_added held _ _ (no_back _ _ _ _ c.if2.true) h
-
-returns-3 : tie.Need-returns-3
-returns-3 c = λ held h. full_more held _ _ _ _ _ c.before.before.before.before.before.before.if1.false c.before.before.before.before.before.if2.false c.if3.true h
-
-array-write-from : tie.Need-array-write-from
-array-write-from c = search rules
-
-array-write-to : tie.Need-array-write-to
-array-write-to c = search rules
-
-mul-out : tie.Need-overflow-mul-out
-mul-out c = search rules
-
-array-write-out : tie.Need-array-write-out
-array-write-out c = search rules
-
-mul-back : tie.Need-overflow-mul-back
-mul-back c = search rules
-
-array-write-back : tie.Need-array-write-back
-array-write-back c = search rules
-
-add-t20 : tie.Need-overflow-add-t20
-add-t20 c = search rules
-
-returns-4 : tie.Need-returns-4
-returns-4 c = λ held h. put_more held _ _ _ _ _ c.before.before.before.before.before.before.if1.false c.before.before.before.before.before.if2.false c.if3.false h
+returns c = λ held h. put_more held _ _ _ _ _ c.if-metric-eq0.false c.if-other-eq0.false c.if-count-ge128.false h
 
 pub add_link_spec : {M : Type 1} → statement M
 add_link_spec =
     tie.close
     (tie.spec
-    returns
-    returns-2
-    returns-3
-    array-write-from
-    array-write-to
-    mul-out
-    array-write-out
-    mul-back
-    array-write-back
-    add-t20
-    returns-4)
+    returns-then-metric-eq0
+    returns-then-other-eq0
+    returns-then-count-ge128
+    bounds-from-count
+    bounds-to-count
+    offset_bounds-out-count
+    bounds-out-count
+    offset_bounds-back-count
+    bounds-back-count
+    overflow_add-result
+    returns)

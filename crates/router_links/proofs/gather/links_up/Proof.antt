@@ -11,110 +11,110 @@ use Rattle.router_links.proofs.JoinLaws.{up_to, stands_at, up_starts, up_next, u
 use Rattle.router_links.proofs.gather.links_up.Statement.{statement}
 use Rattle.router_links.proofs.gather.links_up.Tie as tie
 
-abbrev invariant-loop : tie.invariant-loop
-invariant-loop run n a id at all₀ b₀ all b = (a + 1 ≤ b) × (b ≤ n) × ((held : List Link) → LinksHeld held all₀ → LinksHeld (held ++ up_to run n a (b - (a + 1))) all)
+abbrev invariant-loop-b : tie.invariant-loop-b
+invariant-loop-b run n a id at all₀ b₀ all b = (a + 1 ≤ b) × (b ≤ n) × ((held : List Link) → LinksHeld held all₀ → LinksHeld (held ++ up_to run n a (b - (a + 1))) all)
 
-abbrev decreases-loop : tie.decreases-loop
-decreases-loop run n a id at all₀ b₀ all b = n - b
+abbrev decreases-loop-b : tie.decreases-loop-b
+decreases-loop-b run n a id at all₀ b₀ all b = n - b
 
-add-b : tie.Need-overflow-add-b invariant-loop decreases-loop
-add-b c = search rules
+overflow_add-b : tie.Need-overflow_add-b invariant-loop-b decreases-loop-b
+overflow_add-b c = search rules
 
-loop-holds : tie.Need-loop-init invariant-loop decreases-loop
-loop-holds c = (omega arith, omega (arith, c.before.before.before.requires.3), λ held h. up_starts _ _ _ held _ h)
+loop-b-init : tie.Need-loop-b-init invariant-loop-b decreases-loop-b
+loop-b-init c = (omega arith, omega (arith, c.requires.3), λ held h. up_starts _ _ _ held _ h)
 
-mul-lsa-metric : tie.Need-overflow-mul-lsa-metric invariant-loop decreases-loop
-mul-lsa-metric c = search rules
+offset_bounds-at-a : tie.Need-offset_bounds-at-a invariant-loop-b decreases-loop-b
+offset_bounds-at-a c = search rules
 
-array-read-lsa-metric : tie.Need-array-read-lsa-metric invariant-loop decreases-loop
-array-read-lsa-metric c = search rules
+bounds-at-a : tie.Need-bounds-at-a invariant-loop-b decreases-loop-b
+bounds-at-a c = search rules
 
-mul-lsa-metric-2 : tie.Need-overflow-mul-lsa-metric-2 invariant-loop decreases-loop
-mul-lsa-metric-2 c = search rules
+offset_bounds-id-b : tie.Need-offset_bounds-id-b invariant-loop-b decreases-loop-b
+offset_bounds-id-b c = search rules
 
-array-read-lsa-metric-2 : tie.Need-array-read-lsa-metric-2 invariant-loop decreases-loop
-array-read-lsa-metric-2 c = search rules
+bounds-id-b : tie.Need-bounds-id-b invariant-loop-b decreases-loop-b
+bounds-id-b c = search rules
 
-lsa-metric-requires : tie.Need-lsa-metric-requires invariant-loop decreases-loop
-lsa-metric-requires c κs =
+lsa_metric-metric-requires : tie.Need-lsa_metric-metric-requires invariant-loop-b decreases-loop-b
+lsa_metric-metric-requires c κs =
     let start = c.before.before.before.before.before in
-    let bytes : AreBytes start.args.run.now = record { small = λ i. omega (arith, c.before.before.before.before.shared-slice-known.given i) } in
+    let bytes : AreBytes start.args.run.now = record { small = λ i. omega (arith, c.shared_slice_known-1.given i) } in
     stands_at _ bytes _ start.requires.0 _ start.requires.1 start.requires.2 start.args.a start.requires.3
 
-mul-lsa-metric-3 : tie.Need-overflow-mul-lsa-metric-3 invariant-loop decreases-loop
-mul-lsa-metric-3 c = search rules
+offset_bounds-at-b : tie.Need-offset_bounds-at-b invariant-loop-b decreases-loop-b
+offset_bounds-at-b c = search rules
 
-array-read-lsa-metric-3 : tie.Need-array-read-lsa-metric-3 invariant-loop decreases-loop
-array-read-lsa-metric-3 c = search rules
+bounds-at-b : tie.Need-bounds-at-b invariant-loop-b decreases-loop-b
+bounds-at-b c = search rules
 
-mul-lsa-metric-4 : tie.Need-overflow-mul-lsa-metric-4 invariant-loop decreases-loop
-mul-lsa-metric-4 c = search rules
+offset_bounds-id-a : tie.Need-offset_bounds-id-a invariant-loop-b decreases-loop-b
+offset_bounds-id-a c = search rules
 
-array-read-lsa-metric-4 : tie.Need-array-read-lsa-metric-4 invariant-loop decreases-loop
-array-read-lsa-metric-4 c = search rules
+bounds-id-a : tie.Need-bounds-id-a invariant-loop-b decreases-loop-b
+bounds-id-a c = search rules
 
-lsa-metric-requires-2 : tie.Need-lsa-metric-requires-2 invariant-loop decreases-loop
-lsa-metric-requires-2 c κs =
+lsa_metric-other-requires : tie.Need-lsa_metric-other-requires invariant-loop-b decreases-loop-b
+lsa_metric-other-requires c κs =
     let start = c.before.before.before.before.before.before in
-    let bytes : AreBytes start.args.run.now = record { small = λ i. omega (arith, c.before.before.before.before.before.shared-slice-known.given i) } in
-    stands_at _ bytes _ start.requires.0 _ start.requires.1 start.requires.2 c.before.before.loop.b c.before.loop-test.true
+    let bytes : AreBytes start.args.run.now = record { small = λ i. omega (arith, c.shared_slice_known-1.given i) } in
+    stands_at _ bytes _ start.requires.0 _ start.requires.1 start.requires.2 c.loop-b.b c.loop-b-test.true
 
-cast-add-link : tie.Need-overflow-cast-add-link invariant-loop decreases-loop
-cast-add-link c = search rules
+overflow_cast-a : tie.Need-overflow_cast-a invariant-loop-b decreases-loop-b
+overflow_cast-a c = search rules
 
-cast-add-link-2 : tie.Need-overflow-cast-add-link-2 invariant-loop decreases-loop
-cast-add-link-2 c = search rules
+overflow_cast-b : tie.Need-overflow_cast-b invariant-loop-b decreases-loop-b
+overflow_cast-b c = search rules
 
-add-link-requires : tie.Need-add-link-requires invariant-loop decreases-loop
-add-link-requires c κs = search rules
+add_link-all-requires : tie.Need-add_link-all-requires invariant-loop-b decreases-loop-b
+add_link-all-requires c κs = search rules
 
-add-b-2 : tie.Need-overflow-add-b-2 invariant-loop decreases-loop
-add-b-2 c = search rules
+overflow_add-b-in-loop-b : tie.Need-overflow_add-b-in-loop-b invariant-loop-b decreases-loop-b
+overflow_add-b-in-loop-b c = search rules
 
-loop-less : tie.Need-loop-smaller invariant-loop decreases-loop
-loop-less c = search rules
+loop-b-smaller : tie.Need-loop-b-smaller invariant-loop-b decreases-loop-b
+loop-b-smaller c = search rules
 
-loop-again : tie.Need-loop-preserved invariant-loop decreases-loop
-loop-again c =
+loop-b-preserved : tie.Need-loop-b-preserved invariant-loop-b decreases-loop-b
+loop-b-preserved c =
     let l = c.before.before.before.before in
     let start = l.before.before.before.before in
-    let bytes : AreBytes start.args.run.now = record { small = λ i. omega (arith, l.before.before.before.shared-slice-known.given i) } in (
+    let bytes : AreBytes start.args.run.now = record { small = λ i. omega (arith, l.shared_slice_known-1.given i) } in (
       omega arith,
       omega arith,
       λ held h.
-          up_next _ bytes _ start.requires.0 _ start.requires.1 start.requires.2 start.args.a l.loop.b _ _ held _ (omega (arith, l.loop.invariant.0)) c.before.before.before.loop-test.true
-          c.before.before.lsa-metric.ensures c.before.lsa-metric2.ensures (c.add-link.ensures (held ++ up_to _ _ _ _) (l.loop.invariant.2 held h)),
+          up_next _ bytes _ start.requires.0 _ start.requires.1 start.requires.2 start.args.a l.loop-b.b _ _ held _ (omega (arith, l.loop-b.invariant.0)) c.loop-b-test.true
+          c.lsa_metric-metric.ensures c.lsa_metric-other.ensures (c.add_link-all.ensures (held ++ up_to _ _ _ _) (l.loop-b.invariant.2 held h)),
     )
 
-returns : tie.Need-returns invariant-loop decreases-loop
+returns : tie.Need-returns invariant-loop-b decreases-loop-b
 returns c =
     let l = c.before in
     let start = l.before.before.before.before in
-    let bytes : AreBytes start.args.run.now = record { small = λ i. omega (arith, l.before.before.before.shared-slice-known.given i) } in
-    λ held h. up_done _ bytes _ start.requires.0 _ start.requires.1 start.requires.2 start.args.a l.loop.b held _ l.loop.invariant.1 c.loop-test.false (l.loop.invariant.2 held h)
+    let bytes : AreBytes start.args.run.now = record { small = λ i. omega (arith, l.shared_slice_known-1.given i) } in
+    λ held h. up_done _ bytes _ start.requires.0 _ start.requires.1 start.requires.2 start.args.a l.loop-b.b held _ l.loop-b.invariant.1 c.loop-b-test.false (l.loop-b.invariant.2 held h)
 
 pub links_up_spec : {M : Type 1} → statement M
 links_up_spec =
     tie.close
     (tie.spec
-    invariant-loop
-    decreases-loop
-    add-b
-    loop-holds
-    mul-lsa-metric
-    array-read-lsa-metric
-    mul-lsa-metric-2
-    array-read-lsa-metric-2
-    lsa-metric-requires
-    mul-lsa-metric-3
-    array-read-lsa-metric-3
-    mul-lsa-metric-4
-    array-read-lsa-metric-4
-    lsa-metric-requires-2
-    cast-add-link
-    cast-add-link-2
-    add-link-requires
-    add-b-2
-    loop-less
-    loop-again
+    invariant-loop-b
+    decreases-loop-b
+    overflow_add-b
+    loop-b-init
+    offset_bounds-at-a
+    bounds-at-a
+    offset_bounds-id-b
+    bounds-id-b
+    lsa_metric-metric-requires
+    offset_bounds-at-b
+    bounds-at-b
+    offset_bounds-id-a
+    bounds-id-a
+    lsa_metric-other-requires
+    overflow_cast-a
+    overflow_cast-b
+    add_link-all-requires
+    overflow_add-b-in-loop-b
+    loop-b-smaller
+    loop-b-preserved
     returns)

@@ -3,7 +3,7 @@
 use borrow.Author.Tests.{not-true, not-false}
 use Rattle.lfa.specs.Lists.{every_below}
 use Rattle.ospf.specs.Lsa.{entry_good}
-use Rattle.metric.specs.Laws.List.{every_fails}
+use Rattle.metric.proofs.Laws.List.{every_fails}
 use Rattle.router_lsa.proofs.EveryLaws.{every_starts, every_more, every_ends}
 use mathlib.Core.Path.{◌≡◌, sym, ◌∙◌}
 use mathlib.Core.Bool.{true}

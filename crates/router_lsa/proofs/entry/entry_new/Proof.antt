@@ -3,7 +3,7 @@
 use Rattle.lfa.specs.Lists.{every_below}
 use mathlib.Core.Bool.{not}
 use Rattle.ospf.specs.Lsa.{entry_at, same_neighbour, entry_new}
-use Rattle.metric.specs.Laws.List.{every_fails}
+use Rattle.metric.proofs.Laws.List.{every_fails}
 use Rattle.router_lsa.proofs.EveryLaws.{every_starts, every_more, every_ends}
 use mathlib.Core.Path.{◌≡◌, sym, ap, ◌∙◌}
 use mathlib.Core.Bool.{true}

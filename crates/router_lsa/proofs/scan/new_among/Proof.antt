@@ -9,7 +9,7 @@ use lib.Dec.{eqb}
 use lib.ListN.{get_or}
 use borrow.Author.Tests.{eq-eqb, ne_eqb}
 use Rattle.lfa.specs.Lists.{every_below}
-use Rattle.metric.specs.Laws.List.{every_fails}
+use Rattle.metric.proofs.Laws.List.{every_fails}
 use Rattle.router_lsa.specs.Scan.{new_among}
 use Rattle.router_lsa.proofs.EveryLaws.{every_starts, every_more, every_ends}
 use Rattle.router_lsa.proofs.scan.new_among.Statement.{statement}

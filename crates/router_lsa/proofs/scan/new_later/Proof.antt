@@ -6,7 +6,7 @@ use mathlib.Core.Path.{◌≡◌, sym}
 use mathlib.Core.Bool.{true}
 use native.Mathlib.Omega.{arith}
 use Rattle.ospf.specs.Run.{begin_of}
-use Rattle.ospf.specs.Laws.Reading.{passed_fields, passed_next}
+use Rattle.ospf.proofs.Laws.Reading.{passed_fields, passed_next}
 use Rattle.router_lsa.specs.Scan.{new_router}
 use Rattle.router_lsa.proofs.EveryLaws.{every_more, every_ends}
 use Rattle.router_lsa.proofs.NewLaws.{is_named, not_named}

@@ -6,7 +6,7 @@ use mathlib.Core.Bool.{true}
 use native.Mathlib.Omega.{arith}
 use borrow.Author.Tests.{eq-eqb}
 use borrow.Author.Rules.{rules}
-use Rattle.metric.specs.Laws.List.{every_more}
+use Rattle.metric.proofs.Laws.List.{every_more}
 use Rattle.rows.proofs.RankLaws.{once, wrong_length, not_once, each_once}
 use Rattle.rows.proofs.ranks.arranged.Statement.{statement}
 use Rattle.rows.proofs.ranks.arranged.Tie as tie

@@ -2,7 +2,6 @@
 -- Assumes nothing.
 use mathlib.Core.Path.{sym, ◌∙◌}
 use native.Mathlib.Omega.{arith}
-use borrow.Author.Tests.{not-true, not-false}
 use Rattle.search.proofs.HopLaws.{first_put, other_left}
 use borrow.Author.Rules.{rules}
 use Rattle.search.proofs.hops.put_first.Statement.{statement}
@@ -11,22 +10,22 @@ use Rattle.search.proofs.hops.put_first.Tie as tie
 leaves-requires : tie.Need-leaves-requires
 leaves-requires c κs = search rules
 
+returns-then-not-leaves : tie.Need-returns-then-not-leaves
+returns-then-not-leaves c =
+    let a = c.args in
+    rw (sym c.leaves.ensures ∙ c.if-not-leaves.true) (other_left a.arc a.count a.arcs.now)
+
+bounds-arcs-count : tie.Need-bounds-arcs-count
+bounds-arcs-count c = search rules
+
+overflow_add-result : tie.Need-overflow_add-result
+overflow_add-result c = search rules
+
 returns : tie.Need-returns
 returns c =
-    let a = c.before.before.args in
-    rw (sym c.before.leaves.ensures ∙ c.if1.true) (other_left a.arc a.count a.arcs.now)
-
-element-write-arcs : tie.Need-element-write-arcs
-element-write-arcs c = search rules
-
-add-result : tie.Need-overflow-add-result
-add-result c = search rules
-
-returns-2 : tie.Need-returns-2
-returns-2 c =
-    let a = c.before.before.args in
-    rw (sym c.before.leaves.ensures ∙ c.if1.false) (first_put a.arc a.count a.arcs.now (omega (arith, c.before.before.requires)))
+    let a = c.args in
+    rw (sym c.leaves.ensures ∙ c.if-not-leaves.false) (first_put a.arc a.count a.arcs.now (omega (arith, c.requires)))
 
 pub put_first_spec : {M : Type 1} → statement M
 put_first_spec =
-    tie.close (tie.spec leaves-requires returns element-write-arcs add-result returns-2)
+    tie.close (tie.spec leaves-requires returns-then-not-leaves bounds-arcs-count overflow_add-result returns)

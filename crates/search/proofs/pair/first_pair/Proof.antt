@@ -7,11 +7,11 @@ use borrow.Author.Rules.{rules}
 use Rattle.search.proofs.pair.first_pair.Statement.{statement}
 use Rattle.search.proofs.pair.first_pair.Tie as tie
 
-first-hops-requires : tie.Need-first-hops-requires
-first-hops-requires c κs = search rules
+first_hops-hops-requires : tie.Need-first_hops-hops-requires
+first_hops-hops-requires c κs = search rules
 
-reached-requires : tie.Need-reached-requires
-reached-requires c κs = search rules
+reached-extended-requires : tie.Need-reached-extended-requires
+reached-extended-requires c κs = search rules
 
 search-requires : tie.Need-search-requires
 search-requires c κs = search rules
@@ -19,11 +19,10 @@ search-requires c κs = search rules
 returns : tie.Need-returns
 unfolding first_serving space_for
 returns c =
-    let hops = c.before.before.before.before.before in
-    let a = c.before.before.before.before.before.before.before.before.args in
-    let firsts = listed_hops _ _ _ _ _ _ _ _ hops.first-hops.ensures in
-    let extended = rw firsts at (c.before.before.before.reached.ensures.all a.out.now a.back.now) in
+    let a = c.args in
+    let firsts = listed_hops _ _ _ _ _ _ _ _ c.first_hops-hops.ensures in
+    let extended = rw firsts at (c.reached-extended.ensures.all a.out.now a.back.now) in
     rw (extended, firsts) at c.search.ensures
 
 pub first_pair_spec : {M : Type 1} → statement M
-first_pair_spec = tie.close (tie.spec first-hops-requires reached-requires search-requires returns)
+first_pair_spec = tie.close (tie.spec first_hops-hops-requires reached-extended-requires search-requires returns)

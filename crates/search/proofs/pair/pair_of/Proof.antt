@@ -6,26 +6,26 @@ use Rattle.search.proofs.ChoiceLaws.{bit_read}
 use Rattle.search.proofs.pair.pair_of.Statement.{statement}
 use Rattle.search.proofs.pair.pair_of.Tie as tie
 
-shr-protects : tie.Need-overflow-shr-protects
-shr-protects c = search rules
+overflow_shr-protects : tie.Need-overflow_shr-protects
+overflow_shr-protects c = search rules
 
-mul-class-of : tie.Need-overflow-mul-class-of
-mul-class-of c = search rules
+offset_bounds-target-endpoint : tie.Need-offset_bounds-target-endpoint
+offset_bounds-target-endpoint c = search rules
 
-element-copy-out-class-of : tie.Need-element-copy-out-class-of
-element-copy-out-class-of c = search rules
+bounds-target-endpoint : tie.Need-bounds-target-endpoint
+bounds-target-endpoint c = search rules
 
-mul-class-of-2 : tie.Need-overflow-mul-class-of-2
-mul-class-of-2 c = search rules
+offset_bounds-target-near : tie.Need-offset_bounds-target-near
+offset_bounds-target-near c = search rules
 
-element-copy-out-class-of-2 : tie.Need-element-copy-out-class-of-2
-element-copy-out-class-of-2 c = search rules
+bounds-target-near : tie.Need-bounds-target-near
+bounds-target-near c = search rules
 
-class-of-requires : tie.Need-class-of-requires
-class-of-requires c κs = search rules
+class_of-class-requires : tie.Need-class_of-class-requires
+class_of-class-requires c κs = search rules
 
-rank-of-requires : tie.Need-rank-of-requires
-rank-of-requires c κs = search rules
+rank_of-rank-requires : tie.Need-rank_of-rank-requires
+rank_of-rank-requires c κs = search rules
 
 cell-requires : tie.Need-cell-requires
 cell-requires c κs = search rules
@@ -40,20 +40,20 @@ returns : tie.Need-returns
 unfolding ordered_at
 returns c =
     let class = c.before.before.before.before in
-    let a = class.before.before.before.before.before.args in
-    rw (c.add.ensures, c.before.cell2.ensures, c.before.before.cell.ensures, c.before.before.before.rank-of.ensures, class.class_of.ensures, bit_read a.protecting a.endpoint)
+    let a = class.args in
+    rw (c.add.ensures, c.cell-2.ensures, c.cell.ensures, c.rank_of-rank.ensures, class.class_of-class.ensures, bit_read a.protecting a.endpoint)
 
 pub pair_of_spec : {M : Type 1} → statement M
 pair_of_spec =
     tie.close
     (tie.spec
-    shr-protects
-    mul-class-of
-    element-copy-out-class-of
-    mul-class-of-2
-    element-copy-out-class-of-2
-    class-of-requires
-    rank-of-requires
+    overflow_shr-protects
+    offset_bounds-target-endpoint
+    bounds-target-endpoint
+    offset_bounds-target-near
+    bounds-target-near
+    class_of-class-requires
+    rank_of-rank-requires
     cell-requires
     cell-requires-2
     add-requires

@@ -9,16 +9,16 @@ use Rattle.search.proofs.ChoiceLaws.{none_common}
 use Rattle.search.proofs.pair.protecting_from.Statement.{statement}
 use Rattle.search.proofs.pair.protecting_from.Tie as tie
 
+returns-then-missing-eq0 : tie.Need-returns-then-missing-eq0
+returns-then-missing-eq0 c =
+    let a = c.args in
+    none_common (missing_from a.n a.far a.dist.now a.first) a.missing c.if-missing-eq0.true
+
+missing_from-requires : tie.Need-missing_from-requires
+missing_from-requires c κs = search rules
+
 returns : tie.Need-returns
-returns c =
-    let a = c.before.before.args in
-    none_common (missing_from a.n a.far a.dist.now a.first) a.missing c.if1.true
-
-missing-from-requires : tie.Need-missing-from-requires
-missing-from-requires c κs = search rules
-
-returns-2 : tie.Need-returns-2
-returns-2 c = ap (λ (s : ℕ). bit_and s c.before.before.before.args.missing) c.missing_from_lem.ensures
+returns c = ap (λ (s : ℕ). bit_and s c.args.missing) c.missing_from.ensures
 
 pub protecting_from_spec : {M : Type 1} → statement M
-protecting_from_spec = tie.close (tie.spec returns missing-from-requires returns-2)
+protecting_from_spec = tie.close (tie.spec returns-then-missing-eq0 missing_from-requires returns)

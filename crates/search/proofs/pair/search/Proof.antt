@@ -13,78 +13,74 @@ use Rattle.search.proofs.ChoiceLaws.{none_tried, hop_tried}
 use Rattle.search.proofs.pair.search.Statement.{statement}
 use Rattle.search.proofs.pair.search.Tie as tie
 
-abbrev invariant-loop : tie.invariant-loop
-invariant-loop ranks dist n from to out back protected target sets kept hops far keys best₀ i₀ best i = (i ≤ hops.count) × (earliest_in best ≡ first_of none (pairs_tried ranks n (asked protected) dist target kept (hops_in from to out back i hops.arcs)))
+abbrev invariant-loop-i : tie.invariant-loop-i
+invariant-loop-i ranks dist n from to out back protected target sets kept hops far keys best₀ i₀ best i = (i ≤ hops.count) × (earliest_in best ≡ first_of none (pairs_tried ranks n (asked protected) dist target kept (hops_in from to out back i hops.arcs)))
 
-abbrev decreases-loop : tie.decreases-loop
-decreases-loop ranks dist n from to out back protected target sets kept hops far keys best₀ i₀ best i = hops.count - i
+abbrev decreases-loop-i : tie.decreases-loop-i
+decreases-loop-i ranks dist n from to out back protected target sets kept hops far keys best₀ i₀ best i = hops.count - i
 
-rank-keys-requires : tie.Need-rank-keys-requires invariant-loop decreases-loop
-rank-keys-requires c κs = search rules
+rank_keys-keys-requires : tie.Need-rank_keys-keys-requires invariant-loop-i decreases-loop-i
+rank_keys-keys-requires c κs = search rules
 
-loop-holds : tie.Need-loop-init invariant-loop decreases-loop
-loop-holds c = (omega arith, none_tried _ _ _ _ _ _ _ _ _ _ _)
+loop-i-init : tie.Need-loop-i-init invariant-loop-i decreases-loop-i
+loop-i-init c = (omega arith, none_tried _ _ _ _ _ _ _ _ _ _ _)
 
-element-copy-out-hop-of : tie.Need-element-copy-out-hop-of invariant-loop decreases-loop
-element-copy-out-hop-of c = search rules
+bounds-hops-i : tie.Need-bounds-hops-i invariant-loop-i decreases-loop-i
+bounds-hops-i c = search rules
 
-hop-of-requires : tie.Need-hop-of-requires invariant-loop decreases-loop
-hop-of-requires c κs = search rules
+hop_of-hop-requires : tie.Need-hop_of-hop-requires invariant-loop-i decreases-loop-i
+hop_of-hop-requires c κs = search rules
 
-mul-endpoints : tie.Need-overflow-mul-endpoints invariant-loop decreases-loop
-mul-endpoints c = search rules
+offset_bounds-sets-i : tie.Need-offset_bounds-sets-i invariant-loop-i decreases-loop-i
+offset_bounds-sets-i c = search rules
 
-element-copy-out-endpoints : tie.Need-element-copy-out-endpoints invariant-loop decreases-loop
-element-copy-out-endpoints c = search rules
+bounds-sets-i : tie.Need-bounds-sets-i invariant-loop-i decreases-loop-i
+bounds-sets-i c = search rules
 
-protecting-from-requires : tie.Need-protecting-from-requires invariant-loop decreases-loop
-protecting-from-requires c κs = search rules
+protecting_from-protecting-requires : tie.Need-protecting_from-protecting-requires invariant-loop-i decreases-loop-i
+protecting_from-protecting-requires c κs = search rules
 
-over-hop-requires : tie.Need-over-hop-requires invariant-loop decreases-loop
-over-hop-requires c κs =
-    let keys = c.before.before.before.before.before.before.before.before in
-    let p = keys.before.before.before.requires in
-    (p.0, p.1, keys.rank-keys.ensures)
+over_hop-best-requires : tie.Need-over_hop-best-requires invariant-loop-i decreases-loop-i
+over_hop-best-requires c κs =
+    let p = c.requires in
+    (p.0, p.1, c.rank_keys-keys.ensures)
 
-add-i : tie.Need-overflow-add-i invariant-loop decreases-loop
-add-i c = search rules
+overflow_add-i : tie.Need-overflow_add-i invariant-loop-i decreases-loop-i
+overflow_add-i c = search rules
 
-loop-less : tie.Need-loop-smaller invariant-loop decreases-loop
-loop-less c = search rules
+loop-i-smaller : tie.Need-loop-i-smaller invariant-loop-i decreases-loop-i
+loop-i-smaller c = search rules
 
-loop-again : tie.Need-loop-preserved invariant-loop decreases-loop
-loop-again c =
-    let hop = c.before.before.before.before.before in
-    let at-loop = hop.before.before.before in
-    let start = at-loop.before.before.before.before in
-    let a = start.args in (
+loop-i-preserved : tie.Need-loop-i-preserved invariant-loop-i decreases-loop-i
+loop-i-preserved c =
+    let a = c.args in (
       omega arith,
-      hop_tried a.ranks.now a.n (asked a.protected) a.dist.now a.target.now a.kept a.from.now a.to.now a.out.now a.back.now a.t10.arcs at-loop.loop.i
-          at-loop.loop.invariant.1 hop.hop-of.ensures (start.requires.3 at-loop.loop.i (omega arith)) c.before.before.protecting-from.ensures c.over-hop.ensures,
+      hop_tried a.ranks.now a.n (asked a.protected) a.dist.now a.target.now a.kept a.from.now a.to.now a.out.now a.back.now a.hops.arcs c.loop-i.i
+          c.loop-i.invariant.1 c.hop_of-hop.ensures (c.requires.3 c.loop-i.i (omega arith)) c.protecting_from-protecting.ensures c.over_hop-best.ensures,
     )
 
-returns : tie.Need-returns invariant-loop decreases-loop
+returns : tie.Need-returns invariant-loop-i decreases-loop-i
 returns c =
-    let a = c.before.before.before.before.before.args in
-    let e : c.before.loop.i ≡ a.t10.count = omega arith in
-    c.before.loop.invariant.1
-    ∙ ap (λ (k : ℕ). first_of none (pairs_tried a.ranks.now a.n (asked a.protected) a.dist.now a.target.now a.kept (hops_in a.from.now a.to.now a.out.now a.back.now k a.t10.arcs))) e
+    let a = c.args in
+    let e : c.loop-i.i ≡ a.hops.count = omega arith in
+    c.loop-i.invariant.1
+    ∙ ap (λ (k : ℕ). first_of none (pairs_tried a.ranks.now a.n (asked a.protected) a.dist.now a.target.now a.kept (hops_in a.from.now a.to.now a.out.now a.back.now k a.hops.arcs))) e
 
 pub search_spec : {M : Type 1} → statement M
 search_spec =
     tie.close
     (tie.spec
-    invariant-loop
-    decreases-loop
-    rank-keys-requires
-    loop-holds
-    element-copy-out-hop-of
-    hop-of-requires
-    mul-endpoints
-    element-copy-out-endpoints
-    protecting-from-requires
-    over-hop-requires
-    add-i
-    loop-less
-    loop-again
+    invariant-loop-i
+    decreases-loop-i
+    rank_keys-keys-requires
+    loop-i-init
+    bounds-hops-i
+    hop_of-hop-requires
+    offset_bounds-sets-i
+    bounds-sets-i
+    protecting_from-protecting-requires
+    over_hop-best-requires
+    overflow_add-i
+    loop-i-smaller
+    loop-i-preserved
     returns)

@@ -5,23 +5,23 @@ use Rattle.search.specs.Hops.{protected_in}
 use Rattle.search.proofs.protected.protect.Statement.{statement}
 use Rattle.search.proofs.protected.protect.Tie as tie
 
-element-copy-out-seen : tie.Need-element-copy-out-seen
-element-copy-out-seen c = search rules
+bounds-from-number : tie.Need-bounds-from-number
+bounds-from-number c = search rules
 
-element-copy-out-seen-2 : tie.Need-element-copy-out-seen-2
-element-copy-out-seen-2 c = search rules
+bounds-to-number : tie.Need-bounds-to-number
+bounds-to-number c = search rules
 
-mul-seen : tie.Need-overflow-mul-seen
-mul-seen c = search rules
+offset_bounds-out-number : tie.Need-offset_bounds-out-number
+offset_bounds-out-number c = search rules
 
-element-copy-out-seen-3 : tie.Need-element-copy-out-seen-3
-element-copy-out-seen-3 c = search rules
+bounds-out-number : tie.Need-bounds-out-number
+bounds-out-number c = search rules
 
-mul-seen-2 : tie.Need-overflow-mul-seen-2
-mul-seen-2 c = search rules
+offset_bounds-back-number : tie.Need-offset_bounds-back-number
+offset_bounds-back-number c = search rules
 
-element-copy-out-seen-4 : tie.Need-element-copy-out-seen-4
-element-copy-out-seen-4 c = search rules
+bounds-back-number : tie.Need-bounds-back-number
+bounds-back-number c = search rules
 
 seen-requires : tie.Need-seen-requires
 seen-requires c κs = search rules
@@ -34,11 +34,11 @@ pub protect_spec : {M : Type 1} → statement M
 protect_spec =
     tie.close
     (tie.spec
-    element-copy-out-seen
-    element-copy-out-seen-2
-    mul-seen
-    element-copy-out-seen-3
-    mul-seen-2
-    element-copy-out-seen-4
+    bounds-from-number
+    bounds-to-number
+    offset_bounds-out-number
+    bounds-out-number
+    offset_bounds-back-number
+    bounds-back-number
     seen-requires
     returns)

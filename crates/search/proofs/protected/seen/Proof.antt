@@ -17,45 +17,45 @@ other_end l (suc e) a b ab ba h = refl
 wide-requires : tie.Need-wide-requires
 wide-requires c κs = search rules
 
+wide-requires-then-end-eq0 : tie.Need-wide-requires-then-end-eq0
+wide-requires-then-end-eq0 c κs = search rules
+
+cost_of-requires : tie.Need-cost_of-requires
+cost_of-requires c κs = search rules
+
+cost_of-requires-then-end-eq0 : tie.Need-cost_of-requires-then-end-eq0
+cost_of-requires-then-end-eq0 c κs = search rules
+
+returns-then-end-eq0 : tie.Need-returns-then-end-eq0
+unfolding protected_by
+returns-then-end-eq0 c = rw (c.if-end-eq0.true, c.wide.ensures, c.wide-then-end-eq0.ensures, c.cost_of.ensures, c.cost_of-then-end-eq0.ensures, protected_by)
+
 wide-requires-2 : tie.Need-wide-requires-2
 wide-requires-2 c κs = search rules
-
-cost-of-requires : tie.Need-cost-of-requires
-cost-of-requires c κs = search rules
-
-cost-of-requires-2 : tie.Need-cost-of-requires-2
-cost-of-requires-2 c κs = search rules
-
-returns : tie.Need-returns
-unfolding protected_by
-returns c = rw (c.before.before.before.before.if1.true, c.before.before.before.wide.ensures, c.before.before.wide2.ensures, c.before.cost-of.ensures, c.cost-of2.ensures, protected_by)
 
 wide-requires-3 : tie.Need-wide-requires-3
 wide-requires-3 c κs = search rules
 
-wide-requires-4 : tie.Need-wide-requires-4
-wide-requires-4 c κs = search rules
+cost_of-requires-2 : tie.Need-cost_of-requires-2
+cost_of-requires-2 c κs = search rules
 
-cost-of-requires-3 : tie.Need-cost-of-requires-3
-cost-of-requires-3 c κs = search rules
+cost_of-requires-3 : tie.Need-cost_of-requires-3
+cost_of-requires-3 c κs = search rules
 
-cost-of-requires-4 : tie.Need-cost-of-requires-4
-cost-of-requires-4 c κs = search rules
-
-returns-2 : tie.Need-returns-2
-returns-2 c = rw (c.before.before.before.wide3.ensures, c.before.before.wide4.ensures, c.before.cost-of3.ensures, c.cost-of4.ensures) (other_end _ _ _ _ _ _ c.before.before.before.before.if1.false)
+returns : tie.Need-returns
+returns c = rw (c.wide-2.ensures, c.wide-3.ensures, c.cost_of-2.ensures, c.cost_of-3.ensures) (other_end _ _ _ _ _ _ c.if-end-eq0.false)
 
 pub seen_spec : {M : Type 1} → statement M
 seen_spec =
     tie.close
     (tie.spec
     wide-requires
+    wide-requires-then-end-eq0
+    cost_of-requires
+    cost_of-requires-then-end-eq0
+    returns-then-end-eq0
     wide-requires-2
-    cost-of-requires
-    cost-of-requires-2
-    returns
     wide-requires-3
-    wide-requires-4
-    cost-of-requires-3
-    cost-of-requires-4
-    returns-2)
+    cost_of-requires-2
+    cost_of-requires-3
+    returns)

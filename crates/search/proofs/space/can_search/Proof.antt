@@ -6,16 +6,16 @@ use borrow.Author.Rules.{rules}
 use Rattle.search.proofs.space.can_search.Statement.{statement}
 use Rattle.search.proofs.space.can_search.Tie as tie
 
-can-read-requires : tie.Need-can-read-requires
-can-read-requires c κs = search rules
+can_read-requires : tie.Need-can_read-requires
+can_read-requires c κs = search rules
 
-returns : tie.Need-returns
+returns-then-links-le128 : tie.Need-returns-then-links-le128
 unfolding searchable
-returns c = rw (le-leb _ _ c.before.if1.true) c.can_read.ensures
+returns-then-links-le128 c = rw (le-leb _ _ c.if-links-le128.true) c.can_read.ensures
 
-returns-2 : tie.Need-returns-2
+returns-else-links-le128 : tie.Need-returns-else-links-le128
 unfolding searchable
-returns-2 c = rw (lt-leb _ _ c.if1.false)
+returns-else-links-le128 c = rw (lt-leb _ _ c.if-links-le128.false)
 
 pub can_search_spec : {M : Type 1} → statement M
-can_search_spec = tie.close (tie.spec can-read-requires returns returns-2)
+can_search_spec = tie.close (tie.spec can_read-requires returns-then-links-le128 returns-else-links-le128)

@@ -11,65 +11,64 @@ use Rattle.search.proofs.SpaceLaws.{none_reached, hop_reached}
 use Rattle.search.proofs.space.reached.Statement.{statement}
 use Rattle.search.proofs.space.reached.Tie as tie
 
-abbrev invariant-loop : tie.invariant-loop
-invariant-loop dist n from to protected sets₀ hops set₀ i₀ sets set i = (i ≤ hops.count) × (lib.ListN.length sets ≡ 256) × Reached n (asked protected) dist from to i hops.arcs sets set
+abbrev invariant-loop-i : tie.invariant-loop-i
+invariant-loop-i dist n from to protected sets₀ hops set₀ i₀ sets set i = (i ≤ hops.count) × (lib.ListN.length sets ≡ 256) × Reached n (asked protected) dist from to i hops.arcs sets set
 
-abbrev decreases-loop : tie.decreases-loop
-decreases-loop dist n from to protected sets₀ hops set₀ i₀ sets set i = hops.count - i
+abbrev decreases-loop-i : tie.decreases-loop-i
+decreases-loop-i dist n from to protected sets₀ hops set₀ i₀ sets set i = hops.count - i
 
-loop-holds : tie.Need-loop-init invariant-loop decreases-loop
-loop-holds c = (omega arith, c.before.requires.1, none_reached _ _ _ _ _ _ _)
+loop-i-init : tie.Need-loop-i-init invariant-loop-i decreases-loop-i
+loop-i-init c = (omega arith, c.requires.1, none_reached _ _ _ _ _ _ _)
 
-element-copy-out-head-of : tie.Need-element-copy-out-head-of invariant-loop decreases-loop
-element-copy-out-head-of c = search rules
+bounds-hops-i : tie.Need-bounds-hops-i invariant-loop-i decreases-loop-i
+bounds-hops-i c = search rules
 
-head-of-requires : tie.Need-head-of-requires invariant-loop decreases-loop
-head-of-requires c κs = search rules
+head_of-hop-requires : tie.Need-head_of-hop-requires invariant-loop-i decreases-loop-i
+head_of-hop-requires c κs = search rules
 
-avoiding-from-requires : tie.Need-avoiding-from-requires invariant-loop decreases-loop
-avoiding-from-requires c κs = search rules
+avoiding_from-one-requires : tie.Need-avoiding_from-one-requires invariant-loop-i decreases-loop-i
+avoiding_from-one-requires c κs = search rules
 
-mul-sets : tie.Need-overflow-mul-sets invariant-loop decreases-loop
-mul-sets c = search rules
+offset_bounds-sets-i : tie.Need-offset_bounds-sets-i invariant-loop-i decreases-loop-i
+offset_bounds-sets-i c = search rules
 
-element-write-sets : tie.Need-element-write-sets invariant-loop decreases-loop
-element-write-sets c = search rules
+bounds-sets-i : tie.Need-bounds-sets-i invariant-loop-i decreases-loop-i
+bounds-sets-i c = search rules
 
-add-i : tie.Need-overflow-add-i invariant-loop decreases-loop
-add-i c = search rules
+overflow_add-i : tie.Need-overflow_add-i invariant-loop-i decreases-loop-i
+overflow_add-i c = search rules
 
-loop-less : tie.Need-loop-smaller invariant-loop decreases-loop
-loop-less c = search rules
+loop-i-smaller : tie.Need-loop-i-smaller invariant-loop-i decreases-loop-i
+loop-i-smaller c = search rules
 
-loop-again : tie.Need-loop-preserved invariant-loop decreases-loop
-loop-again c =
-    let at-loop = c.before.before.before.before in
-    let a = at-loop.before.before.args in
-    let l = at-loop.loop in (
+loop-i-preserved : tie.Need-loop-i-preserved invariant-loop-i decreases-loop-i
+loop-i-preserved c =
+    let a = c.args in
+    let l = c.loop-i in (
       omega arith,
       simp length-set l.invariant.1,
-      hop_reached a.n (asked a.protected) a.dist.now a.from.now a.to.now a.t6.arcs l.i c.before.head_of.ensures c.avoiding_from_lem.ensures l.sets (omega arith) l.invariant.2,
+      hop_reached a.n (asked a.protected) a.dist.now a.from.now a.to.now a.hops.arcs l.i c.head_of-hop.ensures c.avoiding_from-one.ensures l.sets (omega arith) l.invariant.2,
     )
 
-returns : tie.Need-returns invariant-loop decreases-loop
+returns : tie.Need-returns invariant-loop-i decreases-loop-i
 returns c =
-    let a = c.before.before.before.args in
-    let e : c.before.loop.i ≡ a.t6.count = omega arith in
-    rw e at c.before.loop.invariant.2
+    let a = c.args in
+    let e : c.loop-i.i ≡ a.hops.count = omega arith in
+    rw e at c.loop-i.invariant.2
 
 pub reached_spec : {M : Type 1} → statement M
 reached_spec =
     tie.close
     (tie.spec
-    invariant-loop
-    decreases-loop
-    loop-holds
-    element-copy-out-head-of
-    head-of-requires
-    avoiding-from-requires
-    mul-sets
-    element-write-sets
-    add-i
-    loop-less
-    loop-again
+    invariant-loop-i
+    decreases-loop-i
+    loop-i-init
+    bounds-hops-i
+    head_of-hop-requires
+    avoiding_from-one-requires
+    offset_bounds-sets-i
+    bounds-sets-i
+    overflow_add-i
+    loop-i-smaller
+    loop-i-preserved
     returns)

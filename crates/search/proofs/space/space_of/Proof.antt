@@ -4,84 +4,77 @@ use mathlib.Core.Path.{◌≡◌, sym, ◌∙◌}
 use Prim.Native.Nat.{ℕ}
 use mathlib.Core.Bool.{Bool, true}
 use mathlib.Core.List.{List}
-use lib.ListN.{length}
 use Rattle.lfa.specs.Network.{Arc}
 use Rattle.lfa.specs.Space.{Protected, Space, p_space, extended_p, q_space}
-use Rattle.avoid.specs.Avoiding.{asked}
-use borrow.Author.Tests.{not-true, not-false}
 use Rattle.search.specs.Spaces.{space_for}
-use Rattle.search.specs.Calls.{searchable, space_if}
+use Rattle.search.specs.Calls.{space_if}
 use Rattle.search.proofs.HopLaws.{listed_hops}
 use Rattle.search.proofs.SpaceLaws.{can_search}
 use borrow.Author.Rules.{rules}
 use Rattle.search.proofs.space.space_of.Statement.{statement}
 use Rattle.search.proofs.space.space_of.Tie as tie
 
-can-search-requires : tie.Need-can-search-requires
-can-search-requires c κs = search rules
+can_search-requires : tie.Need-can_search-requires
+can_search-requires c κs = search rules
 
 -- where the question is searched for, the set is that of the space
 searched : {passes : Bool} {set : ℕ} (s : Space) (n : ℕ) (hops : List Arc) (q : Protected) (area : List ℕ) → passes ≡ true → set ≡ space_for s n hops q area → set ≡ space_if passes s n hops q area
 unfolding space_if
 searched s n hops q area e f = rw (e, space_if) f
 
--- it is
-passes : (c : tie.Else1) → let a = c.before.before.before.args in searchable a.n a.links (asked a.protected) (length a.dist.now) ≡ true
-passes c = sym c.before.can_search.ensures ∙ c.if1.false
-
-returns : tie.Need-returns
+returns-then-not-can_search : tie.Need-returns-then-not-can_search
 unfolding space_if
-returns c = rw (sym c.before.can_search.ensures ∙ c.if1.true)
+returns-then-not-can_search c = rw (sym c.can_search.ensures ∙ c.if-not-can_search.true)
 
-enum_told : tie.Need-enum-told
-enum_told c = search rules
+enum_told-1 : tie.Need-enum_told-1
+enum_told-1 c = search rules
 
-avoiding-from-requires : tie.Need-avoiding-from-requires
-avoiding-from-requires c κs = search rules
+avoiding_from-requires : tie.Need-avoiding_from-requires
+avoiding_from-requires c κs = search rules
 
-enum-told-2 : tie.Need-enum-told-2
-enum-told-2 c = search rules
+enum_told-in-ExtendedP : tie.Need-enum_told-in-ExtendedP
+enum_told-in-ExtendedP c = search rules
 
-first-hops-requires : tie.Need-first-hops-requires
-first-hops-requires c κs =
-    (can_search _ _ _ _ (passes c.before.before)).3
+first_hops-requires : tie.Need-first_hops-requires
+first_hops-requires c κs =
+    (can_search _ _ _ _ (sym c.can_search.ensures ∙ c.if-not-can_search.false)).3
 
-extended-p-requires : tie.Need-extended-p-requires
-extended-p-requires c κs = c.first-hops.ensures.few
+extended_p-requires : tie.Need-extended_p-requires
+extended_p-requires c κs = c.first_hops.ensures.few
 
-enum-told-3 : tie.Need-enum-told-3
-enum-told-3 c = search rules
+enum_told-in-Q : tie.Need-enum_told-in-Q
+enum_told-in-Q c = search rules
 
-q-space-requires : tie.Need-q-space-requires
-q-space-requires c κs = search rules
+q_space-requires : tie.Need-q_space-requires
+q_space-requires c κs = search rules
 
-returns-2 : tie.Need-returns-2
+returns-in-P : tie.Need-returns-in-P
 unfolding space_for
-returns-2 c = rw c.before.enum_told.given.1 (searched p_space _ _ _ _ (passes c.before.before.before) c.avoiding_from_lem.ensures)
+returns-in-P c = rw c.in-P.is (searched p_space _ _ _ _ (sym c.can_search.ensures ∙ c.if-not-can_search.false) c.avoiding_from.ensures)
 
-returns-3 : tie.Need-returns-3
+returns-in-ExtendedP : tie.Need-returns-in-ExtendedP
 unfolding space_for
-returns-3 c =
-    let firsts = listed_hops _ _ _ _ _ _ _ _ c.before.first-hops.ensures in
-    rw c.before.before.enum-told2.given.1 (searched extended_p _ _ _ _ (passes c.before.before.before.before) (rw (← firsts) (c.extended-p.ensures _ _)))
+returns-in-ExtendedP c =
+    let firsts = listed_hops _ _ _ _ _ _ _ _ c.first_hops.ensures in
+    rw c.in-ExtendedP.is (searched extended_p _ _ _ _ (sym c.can_search.ensures ∙ c.if-not-can_search.false) (rw (← firsts) (c.extended_p.ensures _ _)))
 
-returns-4 : tie.Need-returns-4
+returns-in-Q : tie.Need-returns-in-Q
 unfolding space_for
-returns-4 c = rw c.before.enum-told3.given.1 (searched q_space _ _ _ _ (passes c.before.before.before) c.q-space.ensures)
+returns-in-Q c = rw c.in-Q.is (searched q_space _ _ _ _ (sym c.can_search.ensures ∙ c.if-not-can_search.false) c.q_space.ensures)
 
 pub space_of_spec : {M : Type 1} → statement M
 space_of_spec =
     tie.close
     (tie.spec
-    can-search-requires
-    returns
-    enum_told
-    avoiding-from-requires
-    enum-told-2
-    first-hops-requires
-    extended-p-requires
-    enum-told-3
-    q-space-requires
-    returns-2
-    returns-3
-    returns-4)
+    can_search-requires
+    returns-then-not-can_search
+    enum_told-1
+    avoiding_from-requires
+    enum_told-in-ExtendedP
+    first_hops-requires
+    extended_p-requires
+    enum_told-in-Q
+    q_space-requires
+    returns-in-P
+    returns-in-ExtendedP
+    returns-in-Q)

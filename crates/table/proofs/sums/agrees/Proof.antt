@@ -2,7 +2,7 @@
 -- Assumes nothing.
 use native.Mathlib.Omega.{arith}
 use native.Mathlib.Nat.{mul-le-mul}
-use Rattle.metric.specs.Laws.Columns.{columns_within}
+use Rattle.metric.proofs.Laws.Columns.{columns_within}
 use Rattle.table.proofs.CellLaws.{sized32, summands_limited, summands_copied}
 use Rattle.table.proofs.SumLaws.{cleared_limited}
 use Rattle.table.proofs.TestLaws.{same_tested}

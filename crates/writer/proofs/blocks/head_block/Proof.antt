@@ -5,38 +5,34 @@ use borrow.Author.Rules.{rules}
 use Rattle.writer.proofs.blocks.head_block.Statement.{statement}
 use Rattle.writer.proofs.blocks.head_block.Tie as tie
 
-put-four-requires : tie.Need-put-four-requires
-put-four-requires c κs = search rules
+put_four-requires : tie.Need-put_four-requires
+put_four-requires c κs = search rules
 
-put-four-requires-2 : tie.Need-put-four-requires-2
-put-four-requires-2 c κs = search rules
+put_four-requires-2 : tie.Need-put_four-requires-2
+put_four-requires-2 c κs = search rules
 
-put-word-requires : tie.Need-put-word-requires
-put-word-requires c κs = search rules
+put_word-requires : tie.Need-put_word-requires
+put_word-requires c κs = search rules
 
 seal-requires : tie.Need-seal-requires
 seal-requires c κs = search rules
 
-same_length : tie.Need-same-length
-same_length c = search rules
+shape_of-block : tie.Need-shape_of-block
+shape_of-block c = search rules
 
 returns : tie.Need-returns
 returns c =
-    let word = c.before.before.before.before.before.before in
-    let second = word.before.before.before.before in
-    let first = second.before.before.before.before in
-    let start = first.before.before.before in
-    let a = start.args in
-    head_put a.routers a.links a.prefixes a.block.now _ _ _ _ start.requires first.put_four.ensures
-    second.put-four2.ensures word.put_word.ensures c.before.before.seal.ensures
+    let a = c.args in
+    head_put a.routers a.links a.prefixes a.block.now _ _ _ _ c.requires c.put_four.ensures
+    c.put_four-2.ensures c.put_word.ensures c.seal.ensures
 
 pub head_block_spec : {M : Type 1} → statement M
 head_block_spec =
     tie.close
     (tie.spec
-    put-four-requires
-    put-four-requires-2
-    put-word-requires
+    put_four-requires
+    put_four-requires-2
+    put_word-requires
     seal-requires
-    same_length
+    shape_of-block
     returns)

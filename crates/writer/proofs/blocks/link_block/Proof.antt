@@ -6,44 +6,42 @@ use borrow.Author.Rules.{rules}
 use Rattle.writer.proofs.blocks.link_block.Statement.{statement}
 use Rattle.writer.proofs.blocks.link_block.Tie as tie
 
-mul-first : tie.Need-overflow-mul-first
-mul-first c = search rules
+overflow_mul-first : tie.Need-overflow_mul-first
+overflow_mul-first c = search rules
 
-entries-from-requires : tie.Need-entries-from-requires
-entries-from-requires c κs = search rules
+entries_from-count-requires : tie.Need-entries_from-count-requires
+entries_from-count-requires c κs = search rules
 
-add-number : tie.Need-overflow-add-number
-add-number c = search rules
+overflow_add-number : tie.Need-overflow_add-number
+overflow_add-number c = search rules
 
-cast-number : tie.Need-overflow-cast-number
-cast-number c = search rules
+overflow_cast-number : tie.Need-overflow_cast-number
+overflow_cast-number c = search rules
 
-link-entries-requires : tie.Need-link-entries-requires
-link-entries-requires c κs = search rules
+link_entries-requires : tie.Need-link_entries-requires
+link_entries-requires c κs = search rules
 
 seal-requires : tie.Need-seal-requires
 seal-requires c κs = search rules
 
-same_length : tie.Need-same-length
-same_length c = search rules
+shape_of-block : tie.Need-shape_of-block
+shape_of-block c = search rules
 
 returns : tie.Need-returns
 returns c =
-    let filled = c.before.before.before.before.before.before in
-    let start = filled.before.before.before.before in
-    let a = start.args in
+    let a = c.args in
     link_block_made a.from.now a.to.now a.out.now a.back.now a.links a.j _ _ _ _ refl
-    filled.before.before.entries_from.ensures filled.link-entries.ensures c.before.before.seal.ensures
+    c.entries_from-count.ensures c.link_entries.ensures c.seal.ensures
 
 pub link_block_spec : {M : Type 1} → statement M
 link_block_spec =
     tie.close
     (tie.spec
-    mul-first
-    entries-from-requires
-    add-number
-    cast-number
-    link-entries-requires
+    overflow_mul-first
+    entries_from-count-requires
+    overflow_add-number
+    overflow_cast-number
+    link_entries-requires
     seal-requires
-    same_length
+    shape_of-block
     returns)

@@ -9,78 +9,75 @@ use Rattle.writer.proofs.TurnLaws.{Begun, labelled, link_entered}
 use Rattle.writer.proofs.blocks.link_entries.Statement.{statement}
 use Rattle.writer.proofs.blocks.link_entries.Tie as tie
 
-abbrev invariant-loop : tie.invariant-loop
-invariant-loop from to out back first count number block₀ i₀ block i = (i ≤ count) × Begun 2 count number
+abbrev invariant-loop-i : tie.invariant-loop-i
+invariant-loop-i from to out back first count number block₀ i₀ block i = (i ≤ count) × Begun 2 count number
     (link_entry_in from to out back first) i block
 
-abbrev decreases-loop : tie.decreases-loop
-decreases-loop from to out back first count number block₀ i₀ block i = count - i
+abbrev decreases-loop-i : tie.decreases-loop-i
+decreases-loop-i from to out back first count number block₀ i₀ block i = count - i
 
-cast-put-four : tie.Need-overflow-cast-put-four invariant-loop decreases-loop
-cast-put-four c = search rules
+overflow_cast-count : tie.Need-overflow_cast-count invariant-loop-i decreases-loop-i
+overflow_cast-count c = search rules
 
-put-four-requires : tie.Need-put-four-requires invariant-loop decreases-loop
-put-four-requires c κs = search rules
+put_four-requires : tie.Need-put_four-requires invariant-loop-i decreases-loop-i
+put_four-requires c κs = search rules
 
-loop-holds : tie.Need-loop-init invariant-loop decreases-loop
-loop-holds c =
-    let start = c.before.before.before.before.before in
-    (omega arith, labelled _ _ _ _ start.args.block.now _ start.requires.0 c.before.before.put_four.ensures)
+loop-i-init : tie.Need-loop-i-init invariant-loop-i decreases-loop-i
+loop-i-init c =
+    (omega arith, labelled _ _ _ _ c.args.block.now _ c.requires.0 c.put_four.ensures)
 
-add-k : tie.Need-overflow-add-k invariant-loop decreases-loop
-add-k c = search rules
+overflow_add-k : tie.Need-overflow_add-k invariant-loop-i decreases-loop-i
+overflow_add-k c = search rules
 
-mul-put-link : tie.Need-overflow-mul-put-link invariant-loop decreases-loop
-mul-put-link c = search rules
+overflow_mul-i : tie.Need-overflow_mul-i invariant-loop-i decreases-loop-i
+overflow_mul-i c = search rules
 
-add-put-link : tie.Need-overflow-add-put-link invariant-loop decreases-loop
-add-put-link c = search rules
+overflow_add-i : tie.Need-overflow_add-i invariant-loop-i decreases-loop-i
+overflow_add-i c = search rules
 
-element-copy-out-put-link : tie.Need-element-copy-out-put-link invariant-loop decreases-loop
-element-copy-out-put-link c = search rules
+bounds-from-k : tie.Need-bounds-from-k invariant-loop-i decreases-loop-i
+bounds-from-k c = search rules
 
-element-copy-out-put-link-2 : tie.Need-element-copy-out-put-link-2 invariant-loop decreases-loop
-element-copy-out-put-link-2 c = search rules
+bounds-to-k : tie.Need-bounds-to-k invariant-loop-i decreases-loop-i
+bounds-to-k c = search rules
 
-mul-put-link-2 : tie.Need-overflow-mul-put-link-2 invariant-loop decreases-loop
-mul-put-link-2 c = search rules
+offset_bounds-out-k : tie.Need-offset_bounds-out-k invariant-loop-i decreases-loop-i
+offset_bounds-out-k c = search rules
 
-element-copy-out-put-link-3 : tie.Need-element-copy-out-put-link-3 invariant-loop decreases-loop
-element-copy-out-put-link-3 c = search rules
+bounds-out-k : tie.Need-bounds-out-k invariant-loop-i decreases-loop-i
+bounds-out-k c = search rules
 
-mul-put-link-3 : tie.Need-overflow-mul-put-link-3 invariant-loop decreases-loop
-mul-put-link-3 c = search rules
+offset_bounds-back-k : tie.Need-offset_bounds-back-k invariant-loop-i decreases-loop-i
+offset_bounds-back-k c = search rules
 
-element-copy-out-put-link-4 : tie.Need-element-copy-out-put-link-4 invariant-loop decreases-loop
-element-copy-out-put-link-4 c = search rules
+bounds-back-k : tie.Need-bounds-back-k invariant-loop-i decreases-loop-i
+bounds-back-k c = search rules
 
-put-link-requires : tie.Need-put-link-requires invariant-loop decreases-loop
-put-link-requires c κs = search rules
+put_link-requires : tie.Need-put_link-requires invariant-loop-i decreases-loop-i
+put_link-requires c κs = search rules
 
-add-i : tie.Need-overflow-add-i invariant-loop decreases-loop
-add-i c = search rules
+overflow_add-i-in-loop-i : tie.Need-overflow_add-i-in-loop-i invariant-loop-i decreases-loop-i
+overflow_add-i-in-loop-i c = search rules
 
-loop-less : tie.Need-loop-smaller invariant-loop decreases-loop
-loop-less c = search rules
+loop-i-smaller : tie.Need-loop-i-smaller invariant-loop-i decreases-loop-i
+loop-i-smaller c = search rules
 
-loop-again : tie.Need-loop-preserved invariant-loop decreases-loop
-loop-again c =
-    let turn = c.before.before.before.before.before.before.before.before in
-    let l = turn.before.loop in
-    let start = turn.before.before.before.before.before.before.before in
-    let a = start.args in (
+loop-i-preserved : tie.Need-loop-i-preserved invariant-loop-i decreases-loop-i
+loop-i-preserved c =
+    let l = c.loop-i in
+    let a = c.args in (
       omega arith,
-      link_entered a.from.now a.to.now a.out.now a.back.now a.first _ _ l.i _ _ turn.loop-test.true
-          start.requires.2 l.invariant.1 c.before.before.put-link.ensures,
+      link_entered a.from.now a.to.now a.out.now a.back.now a.first _ _ l.i _ _ c.loop-i-test.true
+          c.requires.2 l.invariant.1 c.put_link.ensures,
     )
 
-same_length : tie.Need-same-length invariant-loop decreases-loop
-same_length c = search rules
+shape_of-block : tie.Need-shape_of-block invariant-loop-i decreases-loop-i
+shape_of-block c = search rules
 
-returns : tie.Need-returns invariant-loop decreases-loop
+returns : tie.Need-returns invariant-loop-i decreases-loop-i
 returns c =
-    let l = c.before.loop in
-    let a = c.before.before.before.before.before.before.before.args in
+    let l = c.loop-i in
+    let a = c.args in
     let e : l.i ≡ a.count = omega arith in
     rw e at l.invariant.1.1
 
@@ -88,23 +85,23 @@ pub link_entries_spec : {M : Type 1} → statement M
 link_entries_spec =
     tie.close
     (tie.spec
-    invariant-loop
-    decreases-loop
-    cast-put-four
-    put-four-requires
-    loop-holds
-    add-k
-    mul-put-link
-    add-put-link
-    element-copy-out-put-link
-    element-copy-out-put-link-2
-    mul-put-link-2
-    element-copy-out-put-link-3
-    mul-put-link-3
-    element-copy-out-put-link-4
-    put-link-requires
-    add-i
-    loop-less
-    loop-again
-    same_length
+    invariant-loop-i
+    decreases-loop-i
+    overflow_cast-count
+    put_four-requires
+    loop-i-init
+    overflow_add-k
+    overflow_mul-i
+    overflow_add-i
+    bounds-from-k
+    bounds-to-k
+    offset_bounds-out-k
+    bounds-out-k
+    offset_bounds-back-k
+    bounds-back-k
+    put_link-requires
+    overflow_add-i-in-loop-i
+    loop-i-smaller
+    loop-i-preserved
+    shape_of-block
     returns)

@@ -7,48 +7,44 @@ use borrow.Author.Rules.{rules}
 use Rattle.writer.proofs.blocks.prefix_block.Statement.{statement}
 use Rattle.writer.proofs.blocks.prefix_block.Tie as tie
 
-mul-first : tie.Need-overflow-mul-first
-mul-first c = search rules
+overflow_mul-first : tie.Need-overflow_mul-first
+overflow_mul-first c = search rules
 
-entries-from-requires : tie.Need-entries-from-requires
-entries-from-requires c κs = search rules
+entries_from-count-requires : tie.Need-entries_from-count-requires
+entries_from-count-requires c κs = search rules
 
-add-number : tie.Need-overflow-add-number
-add-number c = search rules
+overflow_add-number : tie.Need-overflow_add-number
+overflow_add-number c = search rules
 
-cast-number : tie.Need-overflow-cast-number
-cast-number c = search rules
+overflow_cast-number : tie.Need-overflow_cast-number
+overflow_cast-number c = search rules
 
-prefix-entries-requires : tie.Need-prefix-entries-requires
-prefix-entries-requires c κs =
-    let counted = c.before in
-    let start = counted.before.before in
-    let h = counted.entries_from.ensures in
-    (start.requires.0, omega (arith, start.requires.1, start.requires.2), omega arith, λ p l. start.requires.4 p (omega (arith, start.requires.2)))
+prefix_entries-requires : tie.Need-prefix_entries-requires
+prefix_entries-requires c κs =
+    let h = c.entries_from-count.ensures in
+    (c.requires.0, omega (arith, c.requires.1, c.requires.2), omega arith, λ p l. c.requires.4 p (omega (arith, c.requires.2)))
 
 seal-requires : tie.Need-seal-requires
 seal-requires c κs = search rules
 
-same_length : tie.Need-same-length
-same_length c = search rules
+shape_of-block : tie.Need-shape_of-block
+shape_of-block c = search rules
 
 returns : tie.Need-returns
 returns c =
-    let filled = c.before.before.before.before.before.before in
-    let start = filled.before.before.before.before in
-    let a = start.args in
+    let a = c.args in
     prefix_block_made a.attached.now a.routers.now a.costs.now a.prefixes a.ahead a.j _ _ _ _ refl
-    filled.before.before.entries_from.ensures start.requires.4 filled.prefix-entries.ensures c.before.before.seal.ensures
+    c.entries_from-count.ensures c.requires.4 c.prefix_entries.ensures c.seal.ensures
 
 pub prefix_block_spec : {M : Type 1} → statement M
 prefix_block_spec =
     tie.close
     (tie.spec
-    mul-first
-    entries-from-requires
-    add-number
-    cast-number
-    prefix-entries-requires
+    overflow_mul-first
+    entries_from-count-requires
+    overflow_add-number
+    overflow_cast-number
+    prefix_entries-requires
     seal-requires
-    same_length
+    shape_of-block
     returns)

@@ -8,21 +8,20 @@ use borrow.Author.Rules.{rules}
 use Rattle.writer.proofs.blocks.seal.Statement.{statement}
 use Rattle.writer.proofs.blocks.seal.Tie as tie
 
-check-of-requires : tie.Need-check-of-requires
-check-of-requires c κs = search rules
+check_of-check-requires : tie.Need-check_of-check-requires
+check_of-check-requires c κs = search rules
 
-put-word-requires : tie.Need-put-word-requires
-put-word-requires c κs = search rules
+put_word-requires : tie.Need-put_word-requires
+put_word-requires c κs = search rules
 
-same_length : tie.Need-same-length
-same_length c = search rules
+shape_of-block : tie.Need-shape_of-block
+shape_of-block c = search rules
 
 returns : tie.Need-returns
 returns c =
-    let start = c.before.before.before.before.before.before.before in
-    let block = start.args.block.now in
-    let check = c.before.before.before.before.check-of.ensures ∙ whole block start.requires in
-    c.before.before.put_word.ensures ∙ ap (λ w. put_at 510 (word_bytes w) block) check
+    let block = c.args.block.now in
+    let check = c.check_of-check.ensures ∙ whole block c.requires in
+    c.put_word.ensures ∙ ap (λ w. put_at 510 (word_bytes w) block) check
 
 pub seal_spec : {M : Type 1} → statement M
-seal_spec = tie.close (tie.spec check-of-requires put-word-requires same_length returns)
+seal_spec = tie.close (tie.spec check_of-check-requires put_word-requires shape_of-block returns)

@@ -9,66 +9,63 @@ use lib.ListN.{get_or}
 use borrow.Author.Tests.{le-leb, lt-leb}
 use borrow.Author.Rules.{rules}
 use Rattle.lfa.proofs.Laws.List.{every_make}
-use Rattle.metric.specs.Laws.List.{every_fails, every_more}
+use Rattle.metric.proofs.Laws.List.{every_fails, every_more}
 use Rattle.writer.proofs.counts.entries_fit.Statement.{statement}
 use Rattle.writer.proofs.counts.entries_fit.Tie as tie
 
-abbrev invariant-loop : tie.invariant-loop
-invariant-loop attached prefixes p₀ p = (p ≤ prefixes) × ((k : ℕ) → k < p → leb (get_or attached k 0) 8 ≡ true)
+abbrev invariant-loop-p : tie.invariant-loop-p
+invariant-loop-p attached prefixes p₀ p = (p ≤ prefixes) × ((k : ℕ) → k < p → leb (get_or attached k 0) 8 ≡ true)
 
-abbrev decreases-loop : tie.decreases-loop
-decreases-loop attached prefixes p₀ p = prefixes - p
+abbrev decreases-loop-p : tie.decreases-loop-p
+decreases-loop-p attached prefixes p₀ p = prefixes - p
 
-loop-holds : tie.Need-loop-init invariant-loop decreases-loop
-loop-holds c = (omega arith, λ k h. absurd (omega arith))
+loop-p-init : tie.Need-loop-p-init invariant-loop-p decreases-loop-p
+loop-p-init c = (omega arith, λ k h. absurd (omega arith))
 
-element-copy-out-wide : tie.Need-element-copy-out-wide invariant-loop decreases-loop
-element-copy-out-wide c = search rules
+bounds-attached-p : tie.Need-bounds-attached-p invariant-loop-p decreases-loop-p
+bounds-attached-p c = search rules
 
-wide-requires : tie.Need-wide-requires invariant-loop decreases-loop
+wide-requires : tie.Need-wide-requires invariant-loop-p decreases-loop-p
 wide-requires c κs = search rules
 
-returns : tie.Need-returns invariant-loop decreases-loop
-returns c =
-    let read = c.before in
-    let turn = read.before.before in
-    let l = turn.before.loop in
-    let attached = turn.before.before.args.attached.now in
-    sym (every_fails _ _ l.p turn.loop-test.true
-    (lt-leb (get_or attached l.p 0) 8 (omega (arith, c.if1.true, read.wide.ensures))))
+returns-then-wide-gt8 : tie.Need-returns-then-wide-gt8 invariant-loop-p decreases-loop-p
+returns-then-wide-gt8 c =
+    let l = c.loop-p in
+    let attached = c.args.attached.now in
+    sym (every_fails _ _ l.p c.loop-p-test.true
+    (lt-leb (get_or attached l.p 0) 8 (omega (arith, c.if-wide-gt8.true, c.wide.ensures))))
 
-add-p : tie.Need-overflow-add-p invariant-loop decreases-loop
-add-p c = search rules
+overflow_add-p : tie.Need-overflow_add-p invariant-loop-p decreases-loop-p
+overflow_add-p c = search rules
 
-loop-less : tie.Need-loop-smaller invariant-loop decreases-loop
-loop-less c = search rules
+loop-p-smaller : tie.Need-loop-p-smaller invariant-loop-p decreases-loop-p
+loop-p-smaller c = search rules
 
-loop-again : tie.Need-loop-preserved invariant-loop decreases-loop
-loop-again c =
-    let read = c.before in
-    let l = read.before.before.before.loop in
-    let attached = read.before.before.before.before.args.attached.now in (
+loop-p-preserved : tie.Need-loop-p-preserved invariant-loop-p decreases-loop-p
+loop-p-preserved c =
+    let l = c.loop-p in
+    let attached = c.args.attached.now in (
       omega arith,
       every_more (λ k. leb (get_or attached k 0) 8) l.p l.invariant.1
-          (le-leb (get_or attached l.p 0) 8 (omega (arith, c.if1.false, read.wide.ensures))),
+          (le-leb (get_or attached l.p 0) 8 (omega (arith, c.if-wide-gt8.false, c.wide.ensures))),
     )
 
-returns-2 : tie.Need-returns-2 invariant-loop decreases-loop
-returns-2 c =
-    let l = c.before.loop in
+returns : tie.Need-returns invariant-loop-p decreases-loop-p
+returns c =
+    let l = c.loop-p in
     sym (every_make _ _ (λ k h. l.invariant.1 k (omega arith)))
 
 pub entries_fit_spec : {M : Type 1} → statement M
 entries_fit_spec =
     tie.close
     (tie.spec
-    invariant-loop
-    decreases-loop
-    loop-holds
-    element-copy-out-wide
+    invariant-loop-p
+    decreases-loop-p
+    loop-p-init
+    bounds-attached-p
     wide-requires
-    returns
-    add-p
-    loop-less
-    loop-again
-    returns-2)
+    returns-then-wide-gt8
+    overflow_add-p
+    loop-p-smaller
+    loop-p-preserved
+    returns)

@@ -7,72 +7,61 @@ use borrow.Author.Rules.{rules}
 use Rattle.writer.proofs.file.compose.Statement.{statement}
 use Rattle.writer.proofs.file.compose.Tie as tie
 
-put-head-requires : tie.Need-put-head-requires
-put-head-requires c κs = search rules
+put_head-requires : tie.Need-put_head-requires
+put_head-requires c κs = search rules
 
 -- the head and the link blocks are at most 3
-ahead : (c : tie.After-put-link-blocks) → 1 + c.put-link-blocks.result ≤ 3
+ahead : (c : tie.After-put_link_blocks-first) → 1 + c.put_link_blocks-first.result ≤ 3
 ahead c =
-    let start = c.before.before.before.before.before.before.before.before.before.before.before.before in
-    let done = c.put-link-blocks.ensures in
-    few_ahead start.args.t1 start.requires.0 _
-    c.before.before.before.before.before.before.before.before.before.put-head.ensures _ _ done.0 done.1
+    let done = c.put_link_blocks-first.ensures in
+    few_ahead c.args.network c.requires.0 _
+    c.put_head.ensures _ _ done.0 done.1
 
-put-link-blocks-requires : tie.Need-put-link-blocks-requires
-put-link-blocks-requires c κs =
-    let headed = c.before.before.before.before.before.before.before.before in
-    let start = headed.before.before.before in
-    (start.requires.0.few_links, after_head start.args.t1 start.requires.0 _ headed.put-head.ensures)
+put_link_blocks-first-requires : tie.Need-put_link_blocks-first-requires
+put_link_blocks-first-requires c κs =
+    (c.requires.0.few_links, after_head c.args.network c.requires.0 _ c.put_head.ensures)
 
-add-first : tie.Need-overflow-add-first
-add-first c = omega (arith, ahead c.before.before)
+overflow_add-first : tie.Need-overflow_add-first
+overflow_add-first c = omega (arith, ahead c.before.before)
 
-put-prefix-blocks-requires : tie.Need-put-prefix-blocks-requires
-put-prefix-blocks-requires c κs =
-    let linked = c.before.before.before.before.before.before.before in
-    let start = linked.before.before.before.before.before.before.before.before.before.before.before.before in
-    let done = linked.put-link-blocks.ensures in
-    let headed = linked.before.before.before.before.before.before.before.before.before.put-head.ensures in (
-      start.requires.0.few_prefixes,
-      ahead linked,
-      after_links start.args.t1 start.requires.0 _ headed _ _ done.0
+put_prefix_blocks-more-requires : tie.Need-put_prefix_blocks-more-requires
+put_prefix_blocks-more-requires c κs =
+    let done = c.put_link_blocks-first.ensures in
+    let headed = c.put_head.ensures in (
+      c.requires.0.few_prefixes,
+      ahead c.before.before.before.before.before.before,
+      after_links c.args.network c.requires.0 _ headed _ _ done.0
           done.1,
-      start.requires.0.few_attached,
+      c.requires.0.few_attached,
     )
 
-add-result : tie.Need-overflow-add-result
-add-result c =
-    let linked = c.before.before.before.before.before.before.before.before.before.before in
-    let start = linked.before.before.before.before.before.before.before.before.before.before.before.before in
-    omega (arith, ahead linked, few_blocks _ start.requires.0 _ c.before.before.put-prefix-blocks.ensures.0)
+overflow_add-result : tie.Need-overflow_add-result
+overflow_add-result c =
+    omega (arith, ahead c.before.before.before.before.before.before.before.before.before, few_blocks _ c.requires.0 _ c.put_prefix_blocks-more.ensures.0)
 
-mul-result : tie.Need-overflow-mul-result
-mul-result c =
-    let linked = c.before.before.before.before.before.before.before.before.before.before in
-    let start = linked.before.before.before.before.before.before.before.before.before.before.before.before in
-    omega (arith, ahead linked, few_blocks _ start.requires.0 _ c.before.before.put-prefix-blocks.ensures.0)
+overflow_mul-result : tie.Need-overflow_mul-result
+overflow_mul-result c =
+    omega (arith, ahead c.before.before.before.before.before.before.before.before.before, few_blocks _ c.requires.0 _ c.put_prefix_blocks-more.ensures.0)
 
-same_length : tie.Need-same-length
-same_length c = search rules
+shape_of-file : tie.Need-shape_of-file
+shape_of-file c = search rules
 
 returns : tie.Need-returns
 returns c =
-    let linked = c.before.before.before.before.before.before.before.before.before.before in
-    let start = linked.before.before.before.before.before.before.before.before.before.before.before.before in
-    let done = linked.put-link-blocks.ensures in
-    let headed = linked.before.before.before.before.before.before.before.before.before.put-head.ensures in
-    let last = c.before.before.put-prefix-blocks.ensures in
-    composed start.args.t1 start.requires.0 _ headed _ _ done.0 done.1 _ _ last.0 last.1
+    let done = c.put_link_blocks-first.ensures in
+    let headed = c.put_head.ensures in
+    let last = c.put_prefix_blocks-more.ensures in
+    composed c.args.network c.requires.0 _ headed _ _ done.0 done.1 _ _ last.0 last.1
 
 pub compose_spec : {M : Type 1} → statement M
 compose_spec =
     tie.close
     (tie.spec
-    put-head-requires
-    put-link-blocks-requires
-    add-first
-    put-prefix-blocks-requires
-    add-result
-    mul-result
-    same_length
+    put_head-requires
+    put_link_blocks-first-requires
+    overflow_add-first
+    put_prefix_blocks-more-requires
+    overflow_add-result
+    overflow_mul-result
+    shape_of-file
     returns)

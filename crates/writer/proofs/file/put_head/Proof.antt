@@ -8,46 +8,45 @@ use borrow.Author.Rules.{rules}
 use Rattle.writer.proofs.file.put_head.Statement.{statement}
 use Rattle.writer.proofs.file.put_head.Tie as tie
 
-cast-head-block : tie.Need-overflow-cast-head-block
-cast-head-block c = search rules
+overflow_cast-routers : tie.Need-overflow_cast-routers
+overflow_cast-routers c = search rules
 
-cast-head-block-2 : tie.Need-overflow-cast-head-block-2
-cast-head-block-2 c = search rules
+overflow_cast-links : tie.Need-overflow_cast-links
+overflow_cast-links c = search rules
 
-cast-head-block-3 : tie.Need-overflow-cast-head-block-3
-cast-head-block-3 c = search rules
+overflow_cast-prefixes : tie.Need-overflow_cast-prefixes
+overflow_cast-prefixes c = search rules
 
-sub-head-block : tie.Need-overflow-sub-head-block
-sub-head-block c = search rules
+slice_bounds-head_block-count : tie.Need-slice_bounds-head_block-count
+slice_bounds-head_block-count c = search rules
 
-part-head-block-start : tie.Need-slice-bounds-head-block-start
-part-head-block-start c = search rules
+slice_bounds-head_block-start : tie.Need-slice_bounds-head_block-start
+slice_bounds-head_block-start c = search rules
 
-part-head-block-end : tie.Need-slice-bounds-head-block-end
-part-head-block-end c = search rules
+slice_bounds-head_block-end : tie.Need-slice_bounds-head_block-end
+slice_bounds-head_block-end c = search rules
 
-head-block-requires : tie.Need-head-block-requires
-head-block-requires c κs = let start = c.before.before in zero_part [] start.args.file.now 0 512 start.requires.3 refl refl
+head_block-requires : tie.Need-head_block-requires
+head_block-requires c κs = zero_part [] c.args.file.now 0 512 c.requires.3 refl refl
     (omega arith)
 
-same_length : tie.Need-same-length
-same_length c = search rules
+shape_of-file : tie.Need-shape_of-file
+shape_of-file c = search rules
 
 returns : tie.Need-returns
 returns c =
-    let start = c.before.before.before.before.before in
-    first_put _ start.args.file.now _ start.requires.3 c.before.before.head-block.ensures c.before.file.given.0
+    first_put _ c.args.file.now _ c.requires.3 c.head_block.ensures c.file-1.given.0
 
 pub put_head_spec : {M : Type 1} → statement M
 put_head_spec =
     tie.close
     (tie.spec
-    cast-head-block
-    cast-head-block-2
-    cast-head-block-3
-    sub-head-block
-    part-head-block-start
-    part-head-block-end
-    head-block-requires
-    same_length
+    overflow_cast-routers
+    overflow_cast-links
+    overflow_cast-prefixes
+    slice_bounds-head_block-count
+    slice_bounds-head_block-start
+    slice_bounds-head_block-end
+    head_block-requires
+    shape_of-file
     returns)

@@ -10,44 +10,42 @@ use borrow.Author.Rules.{rules}
 use Rattle.writer.proofs.put.put_four.Statement.{statement}
 use Rattle.writer.proofs.put.put_four.Tie as tie
 
-slice-write-bytes : tie.Need-slice-write-bytes
-slice-write-bytes c = search rules
+bounds-bytes-at : tie.Need-bounds-bytes-at
+bounds-bytes-at c = search rules
 
-add-bytes : tie.Need-overflow-add-bytes
-add-bytes c = search rules
+overflow_add-bytes : tie.Need-overflow_add-bytes
+overflow_add-bytes c = search rules
 
-slice-write-bytes-2 : tie.Need-slice-write-bytes-2
-slice-write-bytes-2 c = simp length-set (omega arith)
+bounds-bytes-at-2 : tie.Need-bounds-bytes-at-2
+bounds-bytes-at-2 c = simp length-set (omega arith)
 
-add-put-word : tie.Need-overflow-add-put-word
-add-put-word c = search rules
+overflow_add-at : tie.Need-overflow_add-at
+overflow_add-at c = search rules
 
-put-word-requires : tie.Need-put-word-requires
-put-word-requires c κs = simp length-set (omega (arith, c.before.before.requires))
+put_word-requires : tie.Need-put_word-requires
+put_word-requires c κs = simp length-set (omega (arith, c.requires))
 
 returns : tie.Need-returns
 unfolding word_bytes
 returns c =
-    let start = c.before.before.before.before.before in
-    let a = start.args in
-    c.before.before.put_word.ensures ∙ put_two_more a.at a.first a.second (word_bytes a.word) a.bytes.now
-    (omega (arith, start.requires))
+    let a = c.args in
+    c.put_word.ensures ∙ put_two_more a.at a.first a.second (word_bytes a.word) a.bytes.now
+    (omega (arith, c.requires))
 
-same_length : tie.Need-same-length
+shape_of-bytes : tie.Need-shape_of-bytes
 unfolding word_bytes
-same_length c =
-    let start = c.before.before.before.before.before in
-    let a = start.args in
-    ap length (returns c) ∙ put_length a.at (a.first ∷ a.second ∷ word_bytes a.word) a.bytes.now start.requires
+shape_of-bytes c =
+    let a = c.args in
+    ap length (returns c) ∙ put_length a.at (a.first ∷ a.second ∷ word_bytes a.word) a.bytes.now c.requires
 
 pub put_four_spec : {M : Type 1} → statement M
 put_four_spec =
     tie.close
     (tie.spec
-    slice-write-bytes
-    add-bytes
-    slice-write-bytes-2
-    add-put-word
-    put-word-requires
-    same_length
+    bounds-bytes-at
+    overflow_add-bytes
+    bounds-bytes-at-2
+    overflow_add-at
+    put_word-requires
+    shape_of-bytes
     returns)

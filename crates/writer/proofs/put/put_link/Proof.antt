@@ -11,28 +11,27 @@ use borrow.Author.Rules.{rules}
 use Rattle.writer.proofs.put.put_link.Statement.{statement}
 use Rattle.writer.proofs.put.put_link.Tie as tie
 
-put-four-requires : tie.Need-put-four-requires
-put-four-requires c κs = search rules
+put_four-requires : tie.Need-put_four-requires
+put_four-requires c κs = search rules
 
-add-put-word : tie.Need-overflow-add-put-word
-add-put-word c = search rules
+overflow_add-at : tie.Need-overflow_add-at
+overflow_add-at c = search rules
 
-put-word-requires : tie.Need-put-word-requires
-put-word-requires c κs = search rules
+put_word-requires : tie.Need-put_word-requires
+put_word-requires c κs = search rules
 
-same_length : tie.Need-same-length
-same_length c = search rules
+shape_of-bytes : tie.Need-shape_of-bytes
+shape_of-bytes c = search rules
 
 returns : tie.Need-returns
 unfolding link_bytes word_bytes
 returns c =
-    let start = c.before.before.before.before.before.before.before.before.before in
-    let a = start.args in
+    let a = c.args in
     let two = a.a ∷ a.b ∷ word_bytes a.out in
-    c.before.before.put_word.ensures ∙ ap (put_at (a.at + 4) (word_bytes a.back))
-    c.before.before.before.before.before.before.put_four.ensures
-    ∙ put_after a.at (a.at + 4) two (word_bytes a.back) a.bytes.now refl (omega (arith, start.requires))
+    c.put_word.ensures ∙ ap (put_at (a.at + 4) (word_bytes a.back))
+    c.put_four.ensures
+    ∙ put_after a.at (a.at + 4) two (word_bytes a.back) a.bytes.now refl (omega (arith, c.requires))
 
 pub put_link_spec : {M : Type 1} → statement M
 put_link_spec =
-    tie.close (tie.spec put-four-requires add-put-word put-word-requires same_length returns)
+    tie.close (tie.spec put_four-requires overflow_add-at put_word-requires shape_of-bytes returns)

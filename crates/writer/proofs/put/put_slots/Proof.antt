@@ -14,80 +14,78 @@ use Rattle.writer.proofs.TurnLaws.{no_slots, slot_more}
 use Rattle.writer.proofs.put.put_slots.Statement.{statement}
 use Rattle.writer.proofs.put.put_slots.Tie as tie
 
-abbrev invariant-loop : tie.invariant-loop
-invariant-loop bytes₀ at routers costs slot count s₀ bytes s = (s ≤ count) × (length bytes ≡ length bytes₀) ×
+abbrev invariant-loop-s : tie.invariant-loop-s
+invariant-loop-s bytes₀ at routers costs slot count s₀ bytes s = (s ≤ count) × (length bytes ≡ length bytes₀) ×
     (bytes ≡ put_at at (flat (map slot_bytes (slots_in routers costs slot s))) bytes₀)
 
-abbrev decreases-loop : tie.decreases-loop
-decreases-loop bytes₀ at routers costs slot count s₀ bytes s = count - s
+abbrev decreases-loop-s : tie.decreases-loop-s
+decreases-loop-s bytes₀ at routers costs slot count s₀ bytes s = count - s
 
-loop-holds : tie.Need-loop-init invariant-loop decreases-loop
-loop-holds c = let a = c.before.args in (omega arith, refl, no_slots a.routers.now a.costs.now a.slot a.at a.bytes.now)
+loop-s-init : tie.Need-loop-s-init invariant-loop-s decreases-loop-s
+loop-s-init c = let a = c.args in (omega arith, refl, no_slots a.routers.now a.costs.now a.slot a.at a.bytes.now)
 
-add-k : tie.Need-overflow-add-k invariant-loop decreases-loop
-add-k c = search rules
+overflow_add-k : tie.Need-overflow_add-k invariant-loop-s decreases-loop-s
+overflow_add-k c = search rules
 
-mul-put-four : tie.Need-overflow-mul-put-four invariant-loop decreases-loop
-mul-put-four c = search rules
+overflow_mul-s : tie.Need-overflow_mul-s invariant-loop-s decreases-loop-s
+overflow_mul-s c = search rules
 
-add-put-four : tie.Need-overflow-add-put-four invariant-loop decreases-loop
-add-put-four c = search rules
+overflow_add-at : tie.Need-overflow_add-at invariant-loop-s decreases-loop-s
+overflow_add-at c = search rules
 
-element-copy-out-put-four : tie.Need-element-copy-out-put-four invariant-loop decreases-loop
-element-copy-out-put-four c = search rules
+bounds-routers-k : tie.Need-bounds-routers-k invariant-loop-s decreases-loop-s
+bounds-routers-k c = search rules
 
-mul-put-four-2 : tie.Need-overflow-mul-put-four-2 invariant-loop decreases-loop
-mul-put-four-2 c = search rules
+offset_bounds-costs-k : tie.Need-offset_bounds-costs-k invariant-loop-s decreases-loop-s
+offset_bounds-costs-k c = search rules
 
-element-copy-out-put-four-2 : tie.Need-element-copy-out-put-four-2 invariant-loop decreases-loop
-element-copy-out-put-four-2 c = search rules
+bounds-costs-k : tie.Need-bounds-costs-k invariant-loop-s decreases-loop-s
+bounds-costs-k c = search rules
 
-put-four-requires : tie.Need-put-four-requires invariant-loop decreases-loop
-put-four-requires c κs = search rules
+put_four-requires : tie.Need-put_four-requires invariant-loop-s decreases-loop-s
+put_four-requires c κs = search rules
 
-add-s : tie.Need-overflow-add-s invariant-loop decreases-loop
-add-s c = search rules
+overflow_add-s : tie.Need-overflow_add-s invariant-loop-s decreases-loop-s
+overflow_add-s c = search rules
 
-loop-less : tie.Need-loop-smaller invariant-loop decreases-loop
-loop-less c = search rules
+loop-s-smaller : tie.Need-loop-s-smaller invariant-loop-s decreases-loop-s
+loop-s-smaller c = search rules
 
-loop-again : tie.Need-loop-preserved invariant-loop decreases-loop
-loop-again c =
-    let turn = c.before.before.before.before.before.before in
-    let l = turn.before.loop in
-    let start = turn.before.before.before in
-    let a = start.args in (
+loop-s-preserved : tie.Need-loop-s-preserved invariant-loop-s decreases-loop-s
+loop-s-preserved c =
+    let l = c.loop-s in
+    let a = c.args in (
       omega arith,
       search rules,
       slot_more a.routers.now a.costs.now a.slot a.at a.bytes.now l.s _ _
-          (omega (arith, turn.loop-test.true, start.requires.0)) l.invariant.2 c.before.before.put_four.ensures,
+          (omega (arith, c.loop-s-test.true, c.requires.0)) l.invariant.2 c.put_four.ensures,
     )
 
-same_length : tie.Need-same-length invariant-loop decreases-loop
-same_length c = search rules
+shape_of-bytes : tie.Need-shape_of-bytes invariant-loop-s decreases-loop-s
+shape_of-bytes c = search rules
 
-returns : tie.Need-returns invariant-loop decreases-loop
+returns : tie.Need-returns invariant-loop-s decreases-loop-s
 returns c =
-    let l = c.before.loop in
-    let e : l.s ≡ c.before.before.before.args.count = omega arith in
+    let l = c.loop-s in
+    let e : l.s ≡ c.args.count = omega arith in
     rw e at l.invariant.2
 
 pub put_slots_spec : {M : Type 1} → statement M
 put_slots_spec =
     tie.close
     (tie.spec
-    invariant-loop
-    decreases-loop
-    loop-holds
-    add-k
-    mul-put-four
-    add-put-four
-    element-copy-out-put-four
-    mul-put-four-2
-    element-copy-out-put-four-2
-    put-four-requires
-    add-s
-    loop-less
-    loop-again
-    same_length
+    invariant-loop-s
+    decreases-loop-s
+    loop-s-init
+    overflow_add-k
+    overflow_mul-s
+    overflow_add-at
+    bounds-routers-k
+    offset_bounds-costs-k
+    bounds-costs-k
+    put_four-requires
+    overflow_add-s
+    loop-s-smaller
+    loop-s-preserved
+    shape_of-bytes
     returns)

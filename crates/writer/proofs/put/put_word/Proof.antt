@@ -8,23 +8,23 @@ use borrow.Author.Rules.{rules}
 use Rattle.writer.proofs.put.put_word.Statement.{statement}
 use Rattle.writer.proofs.put.put_word.Tie as tie
 
-cast-bytes : tie.Need-overflow-cast-bytes
-cast-bytes c = search rules
+overflow_cast-bytes : tie.Need-overflow_cast-bytes
+overflow_cast-bytes c = search rules
 
-slice-write-bytes : tie.Need-slice-write-bytes
-slice-write-bytes c = search rules
+bounds-bytes-at : tie.Need-bounds-bytes-at
+bounds-bytes-at c = search rules
 
-cast-bytes-2 : tie.Need-overflow-cast-bytes-2
-cast-bytes-2 c = search rules
+overflow_cast-bytes-2 : tie.Need-overflow_cast-bytes-2
+overflow_cast-bytes-2 c = search rules
 
-add-bytes : tie.Need-overflow-add-bytes
-add-bytes c = search rules
+overflow_add-bytes : tie.Need-overflow_add-bytes
+overflow_add-bytes c = search rules
 
-slice-write-bytes-2 : tie.Need-slice-write-bytes-2
-slice-write-bytes-2 c = simp length-set (omega arith)
+bounds-bytes-at-2 : tie.Need-bounds-bytes-at-2
+bounds-bytes-at-2 c = simp length-set (omega arith)
 
-same_length : tie.Need-same-length
-same_length c = search rules
+shape_of-bytes : tie.Need-shape_of-bytes
+shape_of-bytes c = search rules
 
 returns : tie.Need-returns
 unfolding word_bytes
@@ -34,10 +34,10 @@ pub put_word_spec : {M : Type 1} → statement M
 put_word_spec =
     tie.close
     (tie.spec
-    cast-bytes
-    slice-write-bytes
-    cast-bytes-2
-    add-bytes
-    slice-write-bytes-2
-    same_length
+    overflow_cast-bytes
+    bounds-bytes-at
+    overflow_cast-bytes-2
+    overflow_add-bytes
+    bounds-bytes-at-2
+    shape_of-bytes
     returns)

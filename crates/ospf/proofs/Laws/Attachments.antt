@@ -13,8 +13,8 @@ use Rattle.ospf.specs.Lsa.{Lsa}
 use Rattle.ospf.specs.Run.{SoundRun}
 use Rattle.ospf.specs.Means.{Name, AttachmentBefore, LeastStub, Attaches}
 use Rattle.ospf.specs.Network.{stubs_of, least_of, attachment, attached}
-use Rattle.ospf.specs.Laws.Order.{flat_ascending}
-use Rattle.ospf.specs.Laws.Said.{stubs_gives, stubs_make}
+use Rattle.ospf.proofs.Laws.Order.{flat_ascending}
+use Rattle.ospf.proofs.Laws.Said.{stubs_gives, stubs_make}
 
 -- ---- the least of some metrics
 

@@ -14,8 +14,8 @@ use Rattle.ospf.specs.Lsa.{Lsa}
 use Rattle.ospf.specs.Run.{SoundRun}
 use Rattle.ospf.specs.Means.{LinkBefore, Joins}
 use Rattle.ospf.specs.Network.{towards, pair_up, joining, links_up}
-use Rattle.ospf.specs.Laws.Order.{flat_ascending}
-use Rattle.ospf.specs.Laws.Said.{AtMostOne, no_element, one_element, towards_most, towards_gives, towards_make}
+use Rattle.ospf.proofs.Laws.Order.{flat_ascending}
+use Rattle.ospf.proofs.Laws.Said.{AtMostOne, no_element, one_element, towards_most, towards_gives, towards_make}
 
 -- ---- two lists of metrics, paired
 

@@ -12,7 +12,7 @@ use Rattle.lfa.specs.Distance.{unreachable, distances, distance_in, filled}
 use Rattle.lfa.proofs.Laws.Table.{cell_out}
 use Rattle.lfa.proofs.Laws.Work.{stage_table, work_cell, later_cell, work_length}
 use Rattle.metric.specs.Area.{area_cell, held, cell_in}
-use Rattle.metric.specs.Laws.Fit.{cells_fit_lem}
+use Rattle.metric.proofs.Laws.Fit.{cells_fit_lem}
 
 -- ---- the area
 

@@ -14,7 +14,7 @@ use Rattle.lfa.proofs.Laws.Local.{Local, local_distances, distances_local, dista
 use Rattle.lfa.proofs.Laws.Work.{work_cell}
 use Rattle.metric.specs.RightTable.{RightTable}
 use Rattle.metric.specs.Area.{area_cell, held}
-use Rattle.metric.specs.Laws.Area.{held_cell, area_filled_lem}
+use Rattle.metric.proofs.Laws.Area.{held_cell, area_filled_lem}
 
 module _ (n : ℕ) (area : List ℕ) (x t : ℕ) where
   outside : (n ≤ x) ⊎ (n ≤ t) → (ltb x n && ltb t n) ≡ false

@@ -7,7 +7,7 @@ use Rattle.std.proofs.Math.Bool.{true, false}
 use mathlib.Core.List.{List, [], ◌∷◌, ◌++◌, map, append_assoc, map-append, Memᴰ}
 use Rattle.lfa.proofs.Laws.Test.{and_left, and_right, and_make, same_test}
 use Rattle.lfa.specs.Lists.{keepIf, select, flat}
-use Rattle.metric.specs.Laws.List.{select_append}
+use Rattle.metric.proofs.Laws.List.{select_append}
 
 -- ---- lists, one element more
 

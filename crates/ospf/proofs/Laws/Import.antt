@@ -15,9 +15,9 @@ use Rattle.ospf.specs.Run.{FirstBad, WholeRun, Scanned, bad_at, whole, scan, lsa
 use Rattle.ospf.specs.Network.{network_from}
 use Rattle.ospf.specs.Import.{ImportRow, bad_lsa, unwritten, import_number, import_rows, first_bad, good_lsas, network_of, import_returned, import_refusal, ImportAnswer, refused, written, answer_by, import_answer}
 use Rattle.ospf.specs.Promises.{RunMeans}
-use Rattle.ospf.specs.Laws.Run.{Found, scanned, whole_scanned}
-use Rattle.ospf.specs.Laws.SoundRun.{run_sound}
-use Rattle.ospf.specs.Laws.Means.{network_means, means_unique}
+use Rattle.ospf.proofs.Laws.Run.{Found, scanned, whole_scanned}
+use Rattle.ospf.proofs.Laws.SoundRun.{run_sound}
+use Rattle.ospf.proofs.Laws.Means.{network_means, means_unique}
 
 -- ---- the network of a whole run is the one that it means
 

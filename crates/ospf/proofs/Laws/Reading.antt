@@ -5,7 +5,8 @@ use Rattle.std.proofs.Common.{sym, ap, ◌∙◌, arith, add-one, length-take, l
 use Rattle.lfa.specs.File.{Bytes, byte_at, part_of}
 use Rattle.ospf.specs.Lsa.{be16, be32, length_field, router_field}
 use Rattle.ospf.specs.Run.{begin_of, lsa_bytes, GoodLsa}
-use Rattle.ospf.specs.Laws.Run.{Passed, good_long, begin_more}
+use Rattle.ospf.proofs.Laws.Run.{good_long, begin_more}
+use Rattle.ospf.specs.Run.{Passed}
 
 -- ---- fields of a part of the bytes
 

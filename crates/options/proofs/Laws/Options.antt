@@ -18,8 +18,8 @@ use Rattle.lfa.proofs.Laws.Test.{and_right}
 use Rattle.lfa.proofs.Laws.List.{any_gives, below_mem, from_counted}
 use Rattle.lfa.proofs.Laws.Arrive.{Within}
 use Rattle.metric.specs.Column.{column}
-use Rattle.metric.specs.Laws.List.{select_append, select_same}
-use Rattle.metric.specs.Laws.Column.{column_at}
+use Rattle.metric.proofs.Laws.List.{select_append, select_same}
+use Rattle.metric.proofs.Laws.Column.{column_at}
 use Rattle.steps.specs.Laws.Next.{RightNexts, RightEnds}
 use Rattle.options.specs.Options.{delivers_by, members_of, move_by}
 

@@ -23,8 +23,8 @@ use Rattle.avoid.specs.Laws.Known.{can_read}
 use Rattle.steps.specs.Laws.Next.{RightEnds}
 use Rattle.steps.specs.Laws.Crossing as by-steps
 use Rattle.search.specs.Calls.{searchable, space_if, link_for, link_if, prefix_if, hops_of, protected_of, searches, ends_to, space_by, link_by, prefix_by}
-use Rattle.search.specs.Laws.Known.{far_in, avoiding_known, space_known, none_misses, set_misses}
-use Rattle.search.specs.Laws.Pairs.{pair_known, prefix_known}
+use Rattle.search.proofs.Laws.Known.{far_in, avoiding_known, space_known, none_misses, set_misses}
+use Rattle.search.proofs.Laws.Pairs.{pair_known, prefix_known}
 
 -- the columns hold a network and the area its distances, and an end of one of its links is named
 pub record Asking (columns : Links) (l e : ℕ) (area : List ℕ) : Type 0 where

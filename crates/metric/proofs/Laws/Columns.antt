@@ -11,7 +11,7 @@ use Rattle.lfa.specs.Lists.{below}
 use Rattle.lfa.specs.FileOf.{WithinLimits}
 use Rattle.lfa.proofs.Laws.List.{get_d_in}
 use Rattle.lfa.proofs.Laws.Counting.{length_map_below, map_below_at}
-use Rattle.metric.specs.Laws.List.{map_below_more}
+use Rattle.metric.proofs.Laws.List.{map_below_more}
 use Rattle.metric.specs.Fit.{ColumnsWithin}
 use Rattle.metric.specs.Columns.{links_in, arcs_in, InColumns}
 

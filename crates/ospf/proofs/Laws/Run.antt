@@ -15,8 +15,8 @@ use Rattle.lfa.specs.File.{Bytes, byte_at, part_of}
 use Rattle.lfa.proofs.Laws.Test.{decide}
 use Rattle.lfa.proofs.Laws.File.Parts.{part_none, parts_join, part_whole}
 use Rattle.ospf.specs.Lsa.{be16, length_field}
-use Rattle.ospf.specs.Run.{begin_of, lsa_bytes, lsa_good, GoodLsa, FirstBad, WholeRun, Scanned, bad_at, whole, scan_from, scan}
-use Rattle.ospf.specs.Laws.Lsa.{good_gives, good_make}
+use Rattle.ospf.specs.Run.{Passed, begin_of, lsa_bytes, lsa_good, GoodLsa, FirstBad, WholeRun, Scanned, bad_at, whole, scan_from, scan}
+use Rattle.ospf.proofs.Laws.Lsa.{good_gives, good_make}
 
 -- ---- where the next LSA begins
 
@@ -49,17 +49,11 @@ module _ (b : Bytes) where
   unfolding begin_of
   begin_more i = refl
 
-  -- after i good LSAs
-  pub record Passed (i : ℕ) : Type 0 where
-    pub good : (j : ℕ) → j < i → GoodLsa b j
-    pub far : i ≤ begin_of b i
-    pub inside : begin_of b i ≤ length b
-
-  pub passed_none : Passed 0
+  pub passed_none : Passed b 0
   unfolding begin_of
   passed_none = record { good = λ j h. absurd (not-suc-le-zero h); far = omega arith; inside = omega arith }
 
-  pub passed_more : (i : ℕ) → Passed i → GoodLsa b i → Passed (suc i)
+  pub passed_more : (i : ℕ) → Passed b i → GoodLsa b i → Passed b (suc i)
   passed_more i p g =
       let l = good_long i g in
       let m = begin_more i in
@@ -73,12 +67,12 @@ module _ (b : Bytes) where
       go j (inl e) = rw e g
       go j (inr h) = p.good j h
 
-  passed_to : (i : ℕ) → ((j : ℕ) → j < i → GoodLsa b j) → Passed i
+  passed_to : (i : ℕ) → ((j : ℕ) → j < i → GoodLsa b j) → Passed b i
   passed_to zero good = passed_none
   passed_to (suc i) good = passed_more i (passed_to i (λ j h. good j (omega arith))) (good i (omega arith))
 
   -- a run without bad LSAs has been passed
-  pub whole_passed : (n : ℕ) → WholeRun b n → Passed n
+  pub whole_passed : (n : ℕ) → WholeRun b n → Passed b n
   whole_passed n w = passed_to n w.good
 
   -- what a scan tells
@@ -86,12 +80,12 @@ module _ (b : Bytes) where
   Found (bad_at k) = FirstBad b k
   Found (whole n) = WholeRun b n
 
-  scan_found : (i most : ℕ) → Passed i → length b ≤ i + most → Found (scan_from b i most)
+  scan_found : (i most : ℕ) → Passed b i → length b ≤ i + most → Found (scan_from b i most)
   unfolding scan_from
   scan_found i zero p h = record { good = p.good; ends = omega (arith, p.far, p.inside) }
   scan_found i (suc most) p h = go (leb (length b) (begin_of b i)) refl (lsa_good b i) refl (λ q. scan_found (suc i) most q (omega arith))
     where
-      go : (e : Bool) → leb (length b) (begin_of b i) ≡ e → (g : Bool) → lsa_good b i ≡ g → (Passed (suc i) → Found (scan_from b (suc i) most)) →
+      go : (e : Bool) → leb (length b) (begin_of b i) ≡ e → (g : Bool) → lsa_good b i ≡ g → (Passed b (suc i) → Found (scan_from b (suc i) most)) →
           Found (elim e as (λ _. Scanned) [ true ↦ whole i | false ↦ elim g as (λ _. Scanned) [ true ↦ scan_from b (suc i) most | false ↦ bad_at i ] ])
       go true s g t rest = record { good = p.good; ends = omega (arith, leb-true (length b) (begin_of b i) s, p.inside) }
       go false s true t rest = rest (passed_more i p (good_gives b i t))

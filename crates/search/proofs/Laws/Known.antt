@@ -18,8 +18,8 @@ use Rattle.lfa.proofs.Laws.Visit.{visits_make, misses, misses_reached, arrival_v
 use Rattle.lfa.proofs.Laws.Pair.{firsts_give}
 use Rattle.metric.specs.Area.{held}
 use Rattle.metric.specs.Column.{column}
-use Rattle.metric.specs.Laws.Column.{column_at}
-use Rattle.metric.specs.Laws.Set.{or_set_of, set_of_none, has_none}
+use Rattle.metric.proofs.Laws.Column.{column_at}
+use Rattle.metric.proofs.Laws.Set.{or_set_of, set_of_none, has_none}
 use Rattle.column.specs.Laws.Calls.{router_known}
 use Rattle.avoid.specs.Known.{Known}
 use Rattle.avoid.specs.Laws.Known.{can_read, avoiding_to_lem, avoiding_from_lem}

@@ -14,12 +14,12 @@ use Rattle.ospf.specs.Lsa.{Lsa, lsa}
 use Rattle.ospf.specs.Run.{Differ, SoundRun}
 use Rattle.ospf.specs.Means.{Name, NameBefore, LinkBefore, AttachmentBefore, HasLsa, Numbering, Joins, Attaches, Means}
 use Rattle.ospf.specs.Network.{name_less, router_of, stub_names, ids_of, names_of, network_with, network_from}
-use Rattle.ospf.specs.Laws.Order.{ascending_unique}
-use Rattle.ospf.specs.Laws.Sort.{ascend_gives, ascend_make, ascend_ascending, ascend_length}
-use Rattle.ospf.specs.Laws.Before.{below_self, below_trans, below_total, name_self, name_trans, less_gives, less_total, link_self, link_trans, attachment_self, attachment_trans}
-use Rattle.ospf.specs.Laws.Said.{names_gives, names_make}
-use Rattle.ospf.specs.Laws.Links.{links_gives, links_make, links_ascending}
-use Rattle.ospf.specs.Laws.Attachments.{each_attaches}
+use Rattle.ospf.proofs.Laws.Order.{ascending_unique}
+use Rattle.ospf.proofs.Laws.Sort.{ascend_gives, ascend_make, ascend_ascending, ascend_length}
+use Rattle.ospf.proofs.Laws.Before.{below_self, below_trans, below_total, name_self, name_trans, less_gives, less_total, link_self, link_trans, attachment_self, attachment_trans}
+use Rattle.ospf.proofs.Laws.Said.{names_gives, names_make}
+use Rattle.ospf.proofs.Laws.Links.{links_gives, links_make, links_ascending}
+use Rattle.ospf.proofs.Laws.Attachments.{each_attaches}
 
 -- ---- the routers
 

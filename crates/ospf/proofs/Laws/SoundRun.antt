@@ -10,7 +10,7 @@ use Rattle.lfa.proofs.Laws.File.Passes.{AreBytes}
 use Rattle.ospf.specs.Order.{Pairwise}
 use Rattle.ospf.specs.Lsa.{be16, be32, router_field, links_field, entry_at, Entry, lsa, lsa_in, SoundEntry, Apart}
 use Rattle.ospf.specs.Run.{lsa_bytes, lsas_of, WholeRun, Differ, SoundRun}
-use Rattle.ospf.specs.Laws.Order.{below_pairwise}
+use Rattle.ospf.proofs.Laws.Order.{below_pairwise}
 
 -- ---- numbers are as small as their fields
 

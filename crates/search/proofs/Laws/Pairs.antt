@@ -26,9 +26,9 @@ use Rattle.lfa.proofs.Laws.Visit.{misses, misses_reached}
 use Rattle.lfa.proofs.Laws.Pair.{firsts_give}
 use Rattle.metric.specs.Area.{held, cell_in}
 use Rattle.metric.specs.Column.{column}
-use Rattle.metric.specs.Laws.Area.{cell_known}
-use Rattle.metric.specs.Laws.Column.{column_at}
-use Rattle.metric.specs.Laws.List.{select_same}
+use Rattle.metric.proofs.Laws.Area.{cell_known}
+use Rattle.metric.proofs.Laws.Column.{column_at}
+use Rattle.metric.proofs.Laws.List.{select_same}
 use Rattle.order.specs.declared.Ordered.{Ordered}
 use Rattle.avoid.specs.Calls.{missing_from}
 use Rattle.avoid.specs.Known.{Known}
@@ -38,9 +38,9 @@ use Rattle.steps.specs.Crossing.{steps_over}
 use Rattle.search.specs.Spaces.{avoided_from, space_for}
 use Rattle.search.specs.Choice.{outcome_for, first_of, ordered_at, may_end, hop_pairs, protecting_from, pairs_over, pairs_tried, kept_of, first_serving}
 use Rattle.search.specs.Calls.{pair_for, prefix_for}
-use Rattle.metric.specs.Laws.Select.{and_reorder, select_select, select_map, map_same, select_flat, map_flat}
-use Rattle.search.specs.Laws.First.{ordered_for, first_chosen}
-use Rattle.search.specs.Laws.Known.{near_in, far_in, hop_in_lem, avoided_known, space_known}
+use Rattle.metric.proofs.Laws.Select.{and_reorder, select_select, select_map, map_same, select_flat, map_flat}
+use Rattle.search.proofs.Laws.First.{ordered_for, first_chosen}
+use Rattle.search.proofs.Laws.Known.{near_in, far_in, hop_in_lem, avoided_known, space_known}
 
 module _ (ranks : List ℕ) (n : ℕ) (hops : List Arc) (q : Protected) (area : List ℕ) (known : Known n hops q area) (target : Target) (l : List ℕ) (e : l ≡ column n (towards (held n area) target))
     (onward : Onward) (avoiding-is : onward.avoiding ≡ set_of n (avoids n hops (held n area) target q.number))

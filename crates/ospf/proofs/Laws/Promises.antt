@@ -14,8 +14,8 @@ use Rattle.lfa.proofs.Laws.Point13.{point_13}
 use Rattle.ospf.specs.Run.{FirstBad, whole}
 use Rattle.ospf.specs.Import.{network_of, ImportAnswer, refused, written, import_answer, is_written, import_exit}
 use Rattle.ospf.specs.Promises.{RunMeans, count_of, Point6}
-use Rattle.ospf.specs.Laws.Run.{bad_scanned, whole_scanned, run_whole}
-use Rattle.ospf.specs.Laws.Import.{meant_network, Outcome, is_bad, not_written, is_written_lem, answer_for, bad_answer, whole_answer, outcome}
+use Rattle.ospf.proofs.Laws.Run.{bad_scanned, whole_scanned, run_whole}
+use Rattle.ospf.proofs.Laws.Import.{meant_network, Outcome, is_bad, not_written, is_written_lem, answer_for, bad_answer, whole_answer, outcome}
 
 -- ---- whether the file of a network may be written: it is within the limits and its file fits
 
