@@ -48,8 +48,7 @@ fn check_good(file: &[u8], i: usize, words: bool) -> bool
 
 // The first block whose check is not the one that it ends with, or the number of whole blocks: word by word where `words`, by numbers of
 // eight bytes otherwise.
-#[unsafe(no_mangle)]
-pub extern "C" fn check_forms_first_bad(file: &[u8], words: bool) -> usize
+pub fn check_forms_first_bad(file: &[u8], words: bool) -> usize
     ensures { result ≡ first_bad file.now }
 {
     let n = file.len() / 512;

@@ -7,15 +7,12 @@ use mathlib.Core.Option.{some}
 use mathlib.Core.List.{List, [], ◌∷◌}
 use native.Mathlib.Omega.{arith}
 use lib.Dec.{eqb, ltb, leb}
-use types.Run.{OneOf}
-use denote.Enum.Declared.{tag_of}
 use borrow.Author.Tests.{le-ltb, eq-eqb, ne_eqb, le-leb, lt-leb, ltb-true, ltb-false, eqb-true, eqb-false}
 use Rattle.lfa.specs.Repair.{no_later}
 use Rattle.order.specs.declared.Ordered.{Ordered}
 use Rattle.order.specs.declared.Earliest.{Earliest}
 use Rattle.order.specs.declared.Earliest.TheVariants.{Nothing, Found}
 use Rattle.order.specs.Order.{keys_in, earliest_in, earlier_of}
-use Rattle.order.specs.contracts.Earliest.{the_type}
 
 -- ---- lists of keys, compared from the front: the first place at which they differ decides
 

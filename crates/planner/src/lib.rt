@@ -150,12 +150,7 @@ pub fn planner_p_space(file: &[u8], work: &mut [u32], link: usize, end: usize) -
 }
 
 // Extended P space, as a set.
-pub fn planner_extended_p_space(
-    file: &[u8],
-    work: &mut [u32],
-    link: usize,
-    end: usize,
-) -> Numbers
+pub fn planner_extended_p_space(file: &[u8], work: &mut [u32], link: usize, end: usize) -> Numbers
     ensures { Numbered (ask_space extended_p file.now (length work.old) link end) result work.old work.new }
 {
     space_numbers(extended_p_space(file, work, link, end))

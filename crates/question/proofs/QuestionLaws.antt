@@ -86,6 +86,11 @@ checked {b} {links} table {r} e counts columns tested a = held ∙ holds_is (lim
 
 -- ---- the rows
 
+-- a question that is not refused is ready
+pub not_turned : (t : Turned) → ((x : Refusal) → t ≡ Refused x → ⊥) → t ≡ Ready
+not_turned (Refused x) f = absurd (f x refl)
+not_turned Ready f = refl
+
 -- a verdict that refuses nothing accepts
 pub not_refused : (v : Verdict) → ((x : Fault) → v ≡ verdict.Refused x → ⊥) → v ≡ verdict.Accepted
 not_refused (verdict.Refused x) f = absurd (f x refl)

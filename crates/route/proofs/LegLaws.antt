@@ -14,6 +14,8 @@ use Rattle.lfa.proofs.Laws.List.{get_d_in}
 use Rattle.lfa.proofs.Laws.Walk.{Descends, measure, step_lowers}
 use Rattle.lfa.proofs.Laws.Arrive.{Within}
 use Rattle.lfa.proofs.Laws.Options.{options_give, move_next, never_both}
+use Rattle.options.specs.declared.Move as declared
+use Rattle.options.specs.declared.Move.TheVariants.{Deliver, Go}
 use Rattle.route.specs.Leg.{Leg, stopped, delivered, onward}
 
 -- ---- a step that a choice byte takes
@@ -37,6 +39,11 @@ module _ (n : ℕ) (hops : List Arc) (d : ℕ → ℕ → ℕ) (target : Target)
     step_nearer {z} x byte e =
         let s = (taken_step x byte z e).1 in
         (within.to s.joined, step_lowers descends s)
+
+-- a move that goes to no router delivers
+pub not_going : (m : declared.Move) → ((z : ℕ) → m ≡ Go z → ⊥) → m ≡ Deliver
+not_going Deliver f = refl
+not_going (Go z) f = absurd (f z refl)
 
 -- ---- one leg
 

@@ -3,20 +3,18 @@
 -- Assumes nothing.
 use Prim.Native.Nat.{ℕ}
 use mathlib.Core.Path.{◌≡◌, refl, sym, ap, ◌∙◌}
-use mathlib.Core.List.{List, [], ◌∷◌}
+use mathlib.Core.List.{List}
 use native.Mathlib.Omega.{arith}
 use lib.ListN.{length}
-use types.Run.{OneOf, miss}
-use denote.Enum.Declared.{tag_of}
 use Rattle.lfa.specs.Repair.{Told, Outcome, prefix_unreachable, prefix_untouched, none_serves, serving}
 use Rattle.lfa.specs.Question.{Question, Source, route, prefix_found}
 use Rattle.lfa.specs.Refusal.{Row, Decided, decided, Posed}
 use Rattle.lfa.specs.Answer.{Answer, repair, refusal, repair_answer, route_answer, route_for, route_played, computed, answer_to, route_after}
 use Rattle.lfa.proofs.Laws.Asked.{posed_route}
 use Rattle.lfa.proofs.Laws.Replies.{computes}
-use Rattle.answers.specs.contracts.Repair.{the_type}
 use Rattle.question.specs.Turning.{row_of, refusal_answer}
 use Rattle.answers.specs.Answer.{repair_of}
+use Rattle.order.specs.declared.Pair.{Pair}
 use Rattle.answers.specs.declared.Repair.{Repair}
 use Rattle.answers.specs.declared.Repair.TheVariants as answer
 use Rattle.route.specs.Answer.{passed_on}
@@ -35,16 +33,13 @@ never_passed answer.Unreachable e = absurd (let z : ◌≡◌ {A = ℕ} 0 1 = cc
 never_passed answer.Untouched e = absurd (let z : ◌≡◌ {A = ℕ} 0 1 = cc in omega arith)
 never_passed (answer.Pair p) e = absurd (let z : ◌≡◌ {A = ℕ} 0 1 = cc in omega arith)
 
--- where the answer is none of the first three kinds, it has a pair
-pub not_pair : (r : Repair) → OneOf (0 ∷ 1 ∷ 2 ∷ []) (tag_of the_type r) → passed_on r ≡ repair_of r
+-- an answer without a pair is passed on as it is
+pub not_pair : (r : Repair) → ((p : Pair) → r ≡ answer.Pair p → ⊥) → passed_on r ≡ repair_of r
 unfolding passed_on repair_of
-not_pair (answer.Refused x) k = refl
-not_pair answer.Unreachable k = refl
-not_pair answer.Untouched k = refl
-not_pair (answer.Pair p) k = absurd (third k)
-  where
-    third : OneOf (0 ∷ 1 ∷ 2 ∷ []) 3 → ⊥
-    third k = miss (0 ∷ 1 ∷ 2 ∷ []) 3 tt k
+not_pair (answer.Refused x) f = refl
+not_pair answer.Unreachable f = refl
+not_pair answer.Untouched f = refl
+not_pair (answer.Pair p) f = absurd (f p refl)
 
 -- ---- a route question that no row before 14 turns away: what the search finds for the prefix repair
 

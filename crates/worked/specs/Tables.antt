@@ -3,7 +3,7 @@
 -- asked through the definitions that the public contracts cite, from the bytes of its network's file.
 -- Assumes nothing.
 use Rattle.std.specs.Prelude.{ℕ, ◌+◌, ◌^◌, List, [], ◌∷◌}
-use Rattle.lfa.specs.Network.{Network, link, Target, at, router}
+use Rattle.lfa.specs.Network.{Network, link, Target, at}
 use Rattle.lfa.specs.FileOf.{file_of}
 use Rattle.lfa.specs.Ring.{ring_of}
 use Rattle.lfa.specs.Space.{Space, p_space, extended_p, q_space}

@@ -4,14 +4,14 @@ use borrow.Author.Rules.{rules}
 use Rattle.demands.proofs.link_demand.Statement.{statement}
 use Rattle.demands.proofs.link_demand.Tie as tie
 
-link-repair-requires : tie.Need-link-repair-requires
-link-repair-requires c κs = search rules
+link_repair-requires : tie.Need-link_repair-requires
+link_repair-requires c κs = search rules
 
-same_length : tie.Need-same-length
-same_length c = search rules
+shape_of-work : tie.Need-shape_of-work
+shape_of-work c = search rules
 
 returns : tie.Need-returns
-returns c = (answer_meets _ _ c.before.before.link_repair_lem.ensures.answer_is, c.before.before.link_repair_lem.ensures)
+returns c = (answer_meets _ _ c.link_repair.ensures.answer_is, c.link_repair.ensures)
 
 pub link_demand_spec : {M : Type 1} → statement M
-link_demand_spec = tie.close (tie.spec link-repair-requires same_length returns)
+link_demand_spec = tie.close (tie.spec link_repair-requires shape_of-work returns)

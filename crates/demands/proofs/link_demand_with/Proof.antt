@@ -5,11 +5,11 @@ use Rattle.demands.specs.Demand.{answer_meets}
 use Rattle.demands.proofs.link_demand_with.Statement.{statement}
 use Rattle.demands.proofs.link_demand_with.Tie as tie
 
-link-repair-with-requires : tie.Need-link-repair-with-requires
-link-repair-with-requires c κs = search rules
+link_repair_with-requires : tie.Need-link_repair_with-requires
+link_repair_with-requires c κs = search rules
 
 returns : tie.Need-returns
 returns c = (answer_meets _ _ c.link_repair_with.ensures, c.link_repair_with.ensures)
 
 pub link_demand_with_spec : {M : Type 1} → statement M
-link_demand_with_spec = tie.close (tie.spec link-repair-with-requires returns)
+link_demand_with_spec = tie.close (tie.spec link_repair_with-requires returns)

@@ -4,7 +4,6 @@ use Rattle.std.specs.Prelude.{ℕ, ◌<◌, refl, List}
 use Rattle.std.proofs.Math.Path.{◌≡◌, subst}
 use Rattle.std.proofs.Common.{sym, arith}
 use Rattle.std.proofs.Math.Logic.{inl, inr}
-use Rattle.std.proofs.Math.Option.{none}
 use Rattle.lfa.specs.Network.{Arc, Target, router}
 use Rattle.lfa.specs.Distance.{LeastCosts}
 use Rattle.lfa.specs.Space.{Protected}

@@ -1,6 +1,6 @@
 -- Rows tried in order, for any rows: the first that applies decides, rows that do not apply or are not tried are passed over.
 -- Assumes nothing.
-use Rattle.std.specs.Prelude.{ℕ, ◌-◌, ◌⊎◌, Bool}
+use Rattle.std.specs.Prelude.{ℕ, ◌⊎◌, Bool}
 use Rattle.std.proofs.Math.Path.{◌≡◌, refl, ap}
 use Rattle.std.proofs.Common.{sym, ◌∙◌, inl, inr, arith}
 use Rattle.std.proofs.Math.Bool.{true, false}

@@ -11,7 +11,7 @@ use Rattle.lfa.specs.Writing.{has_file, count_written, buffer_written, Written, 
 use Rattle.lfa.proofs.Laws.Test.{and_left, and_right, and_make, and_false, fails_make}
 use Rattle.lfa.proofs.Laws.Writing.{has_limits, limits_have}
 use Rattle.lfa.proofs.Laws.Point13.{point_13}
-use Rattle.ospf.specs.Run.{FirstBad, whole}
+use Rattle.ospf.specs.Run.{FirstBad}
 use Rattle.ospf.specs.Import.{network_of, ImportAnswer, refused, written, import_answer, is_written, import_exit}
 use Rattle.ospf.specs.Promises.{RunMeans, count_of, Point6}
 use Rattle.ospf.proofs.Laws.Run.{bad_scanned, whole_scanned, run_whole}

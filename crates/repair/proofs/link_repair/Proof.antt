@@ -19,43 +19,43 @@ use Rattle.repair.proofs.link_repair.Tie as tie
 arranged-requires : tie.Need-arranged-requires
 arranged-requires c κs = search rules
 
-link-asked-requires : tie.Need-link-asked-requires
-link-asked-requires c κs = search rules
+link_asked-asked-requires : tie.Need-link_asked-asked-requires
+link_asked-asked-requires c κs = search rules
 
-pose-links-requires : tie.Need-pose-links-requires
-pose-links-requires c κs = search rules
+pose_links-judged-requires : tie.Need-pose_links-judged-requires
+pose_links-judged-requires c κs = search rules
 
 -- the question, what `pose_links` tells of it, and its bytes
-abbrev asked : tie.After-pose-links → Question
-asked l = let a = l.before.before.before.before.before.before.before.args in ask_link a.file.now (length a.work.now) a.ranks.now a.link a.end
+abbrev asked : tie.After-pose_links-judged → Question
+asked l = let a = l.args in ask_link a.file.now (length a.work.now) a.ranks.now a.link a.end
 
-posed : (l : tie.After-pose-links) → Poses (asked l) l.pose-links.result.turned l.pose-links.result.links l.before.before.before.before.before.before.before.args.work.now l.pose-links.new.1.1.0
+posed : (l : tie.After-pose_links-judged) → Poses (asked l) l.pose_links-judged.result.turned l.pose_links-judged.result.links l.args.work.now l.pose_links-judged.new.work
 unfolding ask_link question_about call_of source_of work_cells link_numbers
-posed l = let a = l.before.before.before.before.before.before.before.args in poses_numbers a.file.now (work_cells (length a.work.now)) [] [] a.ranks.now l.before.before.link-asked.ensures (sym l.before.before.before.arranged.ensures) l.pose-links.ensures
+posed l = let a = l.args in poses_numbers a.file.now (work_cells (length a.work.now)) [] [] a.ranks.now l.link_asked-asked.ensures (sym l.arranged.ensures) l.pose_links-judged.ensures
 
-bytes : (l : tie.After-pose-links) (i : ℕ) → byte_at (asked l).file i < 256
+bytes : (l : tie.After-pose_links-judged) (i : ℕ) → byte_at (asked l).file i < 256
 unfolding ask_link byte_at
-bytes l i = omega (arith, l.before.before.before.before.before.before.shared-slice-known.given i)
+bytes l i = omega (arith, l.shared_slice_known-1.given i)
 
-link-over-requires : tie.Need-link-over-requires
-link-over-requires c κs = search rules
+link_over-requires : tie.Need-link_over-requires
+link_over-requires c κs = search rules
 
-same_length : tie.Need-same-length
-same_length c = search rules
+shape_of-work : tie.Need-shape_of-work
+shape_of-work c = search rules
 
 returns : tie.Need-returns
 unfolding ask_link
 returns c =
-    let l = c.before.before.before.before in
-    record { answer_is = c.link-over.ensures ∙ link_told (posed l) (bytes l) refl; area_is = area_left (posed l) (bytes l) }
+    let l = c.before.before.before in
+    record { answer_is = c.link_over.ensures ∙ link_told (posed l) (bytes l) refl; area_is = area_left (posed l) (bytes l) }
 
 pub link_repair_spec : {M : Type 1} → statement M
 link_repair_spec =
     tie.close
     (tie.spec
     arranged-requires
-    link-asked-requires
-    pose-links-requires
-    link-over-requires
-    same_length
+    link_asked-asked-requires
+    pose_links-judged-requires
+    link_over-requires
+    shape_of-work
     returns)

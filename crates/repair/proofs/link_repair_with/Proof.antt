@@ -22,35 +22,35 @@ use Rattle.repair.proofs.link_repair_with.Tie as tie
 arranged-requires : tie.Need-arranged-requires
 arranged-requires c κs = search rules
 
-link-asked-requires : tie.Need-link-asked-requires
-link-asked-requires c κs = search rules
+link_asked-asked-requires : tie.Need-link_asked-asked-requires
+link_asked-asked-requires c κs = search rules
 
-pose-links-with-requires : tie.Need-pose-links-with-requires
-pose-links-with-requires c κs = search rules
+pose_links_with-judged-requires : tie.Need-pose_links_with-judged-requires
+pose_links_with-judged-requires c κs = search rules
 
 -- the question, what `pose_links_with` tells of it, and its bytes
-abbrev asked : tie.After-pose-links-with → Question
-asked l = let a = l.before.before.before.before.before.before.args in ask_link_with a.file.now a.table.now a.ranks.now a.link a.end
+abbrev asked : tie.After-pose_links_with-judged → Question
+asked l = let a = l.args in ask_link_with a.file.now a.table.now a.ranks.now a.link a.end
 
-judged : (l : tie.After-pose-links-with) → Judges (asked l) l.pose-links-with.result.turned l.pose-links-with.result.links
+judged : (l : tie.After-pose_links_with-judged) → Judges (asked l) l.pose_links_with-judged.result.turned l.pose_links_with-judged.result.links
 unfolding ask_link_with question_about call_of source_of table_cells link_numbers
-judged l = let a = l.before.before.before.before.before.before.args in
-    judges_numbers a.file.now (table_cells (network_loaded a.file.now) a.table.now) a.table.now [] a.ranks.now l.before.link-asked.ensures (sym l.before.before.arranged.ensures) l.pose-links-with.ensures
+judged l = let a = l.args in
+    judges_numbers a.file.now (table_cells (network_loaded a.file.now) a.table.now) a.table.now [] a.ranks.now l.link_asked-asked.ensures (sym l.arranged.ensures) l.pose_links_with-judged.ensures
 
-bytes : (l : tie.After-pose-links-with) (i : ℕ) → byte_at (asked l).file i < 256
+bytes : (l : tie.After-pose_links_with-judged) (i : ℕ) → byte_at (asked l).file i < 256
 unfolding ask_link_with byte_at
-bytes l i = omega (arith, l.before.before.before.before.before.shared-slice-known.given i)
+bytes l i = omega (arith, l.shared_slice_known-1.given i)
 
-link-over-requires : tie.Need-link-over-requires
-link-over-requires c κs = search rules
+link_over-requires : tie.Need-link_over-requires
+link_over-requires c κs = search rules
 
 returns : tie.Need-returns
 unfolding ask_link_with has_input inputs_of cells_from input_number member_of any_of
 returns c =
     let l = c.before in
-    c.link-over.ensures ∙ link_told (poses_table (judged l) refl (bytes l) refl) (bytes l) refl
+    c.link_over.ensures ∙ link_told (poses_table (judged l) refl (bytes l) refl) (bytes l) refl
 
 pub link_repair_with_spec : {M : Type 1} → statement M
 link_repair_with_spec =
     tie.close
-    (tie.spec arranged-requires link-asked-requires pose-links-with-requires link-over-requires returns)
+    (tie.spec arranged-requires link_asked-asked-requires pose_links_with-judged-requires link_over-requires returns)

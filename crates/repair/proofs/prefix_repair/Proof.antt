@@ -20,43 +20,43 @@ use Rattle.repair.proofs.prefix_repair.Tie as tie
 arranged-requires : tie.Need-arranged-requires
 arranged-requires c κs = search rules
 
-prefix-asked-requires : tie.Need-prefix-asked-requires
-prefix-asked-requires c κs = search rules
+prefix_asked-asked-requires : tie.Need-prefix_asked-asked-requires
+prefix_asked-asked-requires c κs = search rules
 
-pose-requires : tie.Need-pose-requires
-pose-requires c κs = search rules
+pose-judged-requires : tie.Need-pose-judged-requires
+pose-judged-requires c κs = search rules
 
 -- the question, what `pose` tells of it, and its bytes
-abbrev asked : tie.After-pose → Question
-asked l = let a = l.before.before.before.before.before.before.before.args in ask_prefix a.file.now (length a.work.now) a.ranks.now a.link a.end a.prefix
+abbrev asked : tie.After-pose-judged → Question
+asked l = let a = l.args in ask_prefix a.file.now (length a.work.now) a.ranks.now a.link a.end a.prefix
 
-posed : (l : tie.After-pose) → Poses (asked l) l.pose.result.turned (link_part l.pose.result.network) l.before.before.before.before.before.before.before.args.work.now l.pose.new.1.1.0
+posed : (l : tie.After-pose-judged) → Poses (asked l) l.pose-judged.result.turned (link_part l.pose-judged.result.network) l.args.work.now l.pose-judged.new.work
 unfolding ask_prefix question_about call_of source_of work_cells prefix_numbers
-posed l = let a = l.before.before.before.before.before.before.before.args in poses_numbers a.file.now (work_cells (length a.work.now)) [] [] a.ranks.now l.before.before.prefix-asked.ensures (sym l.before.before.before.arranged.ensures) l.pose.ensures.1
+posed l = let a = l.args in poses_numbers a.file.now (work_cells (length a.work.now)) [] [] a.ranks.now l.prefix_asked-asked.ensures (sym l.arranged.ensures) l.pose-judged.ensures.1
 
-bytes : (l : tie.After-pose) (i : ℕ) → byte_at (asked l).file i < 256
+bytes : (l : tie.After-pose-judged) (i : ℕ) → byte_at (asked l).file i < 256
 unfolding ask_prefix byte_at
-bytes l i = omega (arith, l.before.before.before.before.before.before.shared-slice-known.given i)
+bytes l i = omega (arith, l.shared_slice_known-1.given i)
 
-prefix-over-requires : tie.Need-prefix-over-requires
-prefix-over-requires c κs = search rules
+prefix_over-requires : tie.Need-prefix_over-requires
+prefix_over-requires c κs = search rules
 
-same_length : tie.Need-same-length
-same_length c = search rules
+shape_of-work : tie.Need-shape_of-work
+shape_of-work c = search rules
 
 returns : tie.Need-returns
 unfolding ask_prefix
 returns c =
-    let l = c.before.before.before.before in
-    record { answer_is = c.prefix-over.ensures ∙ prefix_told _ (posed l) l.pose.ensures.0 (bytes l) refl; area_is = area_left (posed l) (bytes l) }
+    let l = c.before.before.before in
+    record { answer_is = c.prefix_over.ensures ∙ prefix_told _ (posed l) l.pose-judged.ensures.0 (bytes l) refl; area_is = area_left (posed l) (bytes l) }
 
 pub prefix_repair_spec : {M : Type 1} → statement M
 prefix_repair_spec =
     tie.close
     (tie.spec
     arranged-requires
-    prefix-asked-requires
-    pose-requires
-    prefix-over-requires
-    same_length
+    prefix_asked-asked-requires
+    pose-judged-requires
+    prefix_over-requires
+    shape_of-work
     returns)

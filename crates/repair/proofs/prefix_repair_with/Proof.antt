@@ -23,35 +23,35 @@ use Rattle.repair.proofs.prefix_repair_with.Tie as tie
 arranged-requires : tie.Need-arranged-requires
 arranged-requires c κs = search rules
 
-prefix-asked-requires : tie.Need-prefix-asked-requires
-prefix-asked-requires c κs = search rules
+prefix_asked-asked-requires : tie.Need-prefix_asked-asked-requires
+prefix_asked-asked-requires c κs = search rules
 
-pose-with-requires : tie.Need-pose-with-requires
-pose-with-requires c κs = search rules
+pose_with-judged-requires : tie.Need-pose_with-judged-requires
+pose_with-judged-requires c κs = search rules
 
 -- the question, what `pose_with` tells of it, and its bytes
-abbrev asked : tie.After-pose-with → Question
-asked l = let a = l.before.before.before.before.before.before.args in ask_prefix_with a.file.now a.table.now a.ranks.now a.link a.end a.prefix
+abbrev asked : tie.After-pose_with-judged → Question
+asked l = let a = l.args in ask_prefix_with a.file.now a.table.now a.ranks.now a.link a.end a.prefix
 
-judged : (l : tie.After-pose-with) → Judges (asked l) l.pose-with.result.turned (link_part l.pose-with.result.network)
+judged : (l : tie.After-pose_with-judged) → Judges (asked l) l.pose_with-judged.result.turned (link_part l.pose_with-judged.result.network)
 unfolding ask_prefix_with question_about call_of source_of table_cells prefix_numbers
-judged l = let a = l.before.before.before.before.before.before.args in
-    judges_numbers a.file.now (table_cells (network_loaded a.file.now) a.table.now) a.table.now [] a.ranks.now l.before.prefix-asked.ensures (sym l.before.before.arranged.ensures) l.pose-with.ensures.1
+judged l = let a = l.args in
+    judges_numbers a.file.now (table_cells (network_loaded a.file.now) a.table.now) a.table.now [] a.ranks.now l.prefix_asked-asked.ensures (sym l.arranged.ensures) l.pose_with-judged.ensures.1
 
-bytes : (l : tie.After-pose-with) (i : ℕ) → byte_at (asked l).file i < 256
+bytes : (l : tie.After-pose_with-judged) (i : ℕ) → byte_at (asked l).file i < 256
 unfolding ask_prefix_with byte_at
-bytes l i = omega (arith, l.before.before.before.before.before.shared-slice-known.given i)
+bytes l i = omega (arith, l.shared_slice_known-1.given i)
 
-prefix-over-requires : tie.Need-prefix-over-requires
-prefix-over-requires c κs = search rules
+prefix_over-requires : tie.Need-prefix_over-requires
+prefix_over-requires c κs = search rules
 
 returns : tie.Need-returns
 unfolding ask_prefix_with has_input inputs_of cells_from input_number member_of any_of
 returns c =
     let l = c.before in
-    c.prefix-over.ensures ∙ prefix_told _ (poses_table (judged l) refl (bytes l) refl) l.pose-with.ensures.0 (bytes l) refl
+    c.prefix_over.ensures ∙ prefix_told _ (poses_table (judged l) refl (bytes l) refl) l.pose_with-judged.ensures.0 (bytes l) refl
 
 pub prefix_repair_with_spec : {M : Type 1} → statement M
 prefix_repair_with_spec =
     tie.close
-    (tie.spec arranged-requires prefix-asked-requires pose-with-requires prefix-over-requires returns)
+    (tie.spec arranged-requires prefix_asked-asked-requires pose_with-judged-requires prefix_over-requires returns)

@@ -6,43 +6,43 @@ use Rattle.route.specs.Answer.{played_of, passed_on}
 use Rattle.route.proofs.passed_on.Statement.{statement}
 use Rattle.route.proofs.passed_on.Tie as tie
 
-enum-known-answer : tie.Need-enum-known-answer
-enum-known-answer c = search rules
+enum_known-answer : tie.Need-enum_known-answer
+enum_known-answer c = search rules
 
-enum_told : tie.Need-enum-told
-enum_told c = search rules
+enum_told-1 : tie.Need-enum_told-1
+enum_told-1 c = search rules
 
-enum-told-2 : tie.Need-enum-told-2
-enum-told-2 c = search rules
+enum_told-in-Untouched : tie.Need-enum_told-in-Untouched
+enum_told-in-Untouched c = search rules
 
-enum-told-3 : tie.Need-enum-told-3
-enum-told-3 c = search rules
+enum_told-in-Pair : tie.Need-enum_told-in-Pair
+enum_told-in-Pair c = search rules
 
-returns : tie.Need-returns
+returns-in-Refused : tie.Need-returns-in-Refused
 unfolding played_of passed_on
-returns c = sym (ap passed_on c.before.answer.given.1)
+returns-in-Refused c = sym (ap passed_on c.in-Refused.is)
 
-returns-2 : tie.Need-returns-2
+returns-in-Unreachable : tie.Need-returns-in-Unreachable
 unfolding played_of passed_on
-returns-2 c = search rules
+returns-in-Unreachable c = search rules
 
-returns-3 : tie.Need-returns-3
+returns-in-Untouched : tie.Need-returns-in-Untouched
 unfolding played_of passed_on
-returns-3 c = search rules
+returns-in-Untouched c = search rules
 
-returns-4 : tie.Need-returns-4
+returns-in-Pair : tie.Need-returns-in-Pair
 unfolding played_of passed_on
-returns-4 c = search rules
+returns-in-Pair c = search rules
 
 pub passed_on_spec : {M : Type 1} → statement M
 passed_on_spec =
     tie.close
     (tie.spec
-    enum-known-answer
-    enum_told
-    enum-told-2
-    enum-told-3
-    returns
-    returns-2
-    returns-3
-    returns-4)
+    enum_known-answer
+    enum_told-1
+    enum_told-in-Untouched
+    enum_told-in-Pair
+    returns-in-Refused
+    returns-in-Unreachable
+    returns-in-Untouched
+    returns-in-Pair)

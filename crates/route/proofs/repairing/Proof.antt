@@ -9,18 +9,18 @@ use Rattle.search.specs.Hops.{protected_in}
 use Rattle.route.proofs.repairing.Statement.{statement}
 use Rattle.route.proofs.repairing.Tie as tie
 
-element-copy-out-wide : tie.Need-element-copy-out-wide
-element-copy-out-wide c = search rules
+bounds-from-link : tie.Need-bounds-from-link
+bounds-from-link c = search rules
 
 wide-requires : tie.Need-wide-requires
 wide-requires c κs = search rules
 
-returns : tie.Need-returns
+returns-then-end-eq0 : tie.Need-returns-then-end-eq0
 unfolding protected_in protected_by
-returns c = λ out back. rw (c.before.before.if1.true, protected_by) c.wide.ensures
+returns-then-end-eq0 c = λ out back. rw (c.if-end-eq0.true, protected_by) c.wide.ensures
 
-element-copy-out-wide-2 : tie.Need-element-copy-out-wide-2
-element-copy-out-wide-2 c = search rules
+bounds-to-link : tie.Need-bounds-to-link
+bounds-to-link c = search rules
 
 wide-requires-2 : tie.Need-wide-requires-2
 wide-requires-2 c κs = search rules
@@ -31,17 +31,17 @@ unfolding protected_by
 other_end l zero a b ab ba h = absurd (h refl)
 other_end l (suc e) a b ab ba h = refl
 
-returns-2 : tie.Need-returns-2
+returns : tie.Need-returns
 unfolding protected_in
-returns-2 c = λ out back. c.wide2.ensures ∙ other_end _ _ _ _ _ _ c.before.before.if1.false
+returns c = λ out back. c.wide-2.ensures ∙ other_end _ _ _ _ _ _ c.if-end-eq0.false
 
 pub repairing_spec : {M : Type 1} → statement M
 repairing_spec =
     tie.close
     (tie.spec
-    element-copy-out-wide
+    bounds-from-link
     wide-requires
-    returns
-    element-copy-out-wide-2
+    returns-then-end-eq0
+    bounds-to-link
     wide-requires-2
-    returns-2)
+    returns)

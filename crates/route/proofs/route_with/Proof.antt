@@ -22,50 +22,47 @@ use Rattle.route.proofs.route_with.Tie as tie
 arranged-requires : tie.Need-arranged-requires
 arranged-requires c κs = search rules
 
-route-asked-requires : tie.Need-route-asked-requires
-route-asked-requires c κs = search rules
+route_asked-asked-requires : tie.Need-route_asked-asked-requires
+route_asked-asked-requires c κs = search rules
 
-pose-with-requires : tie.Need-pose-with-requires
-pose-with-requires c κs = search rules
-
-abbrev start : tie.After-pose-with → tie.Start
-start l = l.before.before.before.before.before.before.before.before
+pose_with-judged-requires : tie.Need-pose_with-judged-requires
+pose_with-judged-requires c κs = search rules
 
 -- the rest of the question, and what `pose_with` tells of it
-abbrev rest : tie.After-pose-with → Rest
-rest l = let a = (start l).args in record { from = lent_table; file = a.file.now; cells = length a.table.now; table = a.table.now; before = a.table.now }
+abbrev rest : tie.After-pose_with-judged → Rest
+rest l = let a = l.args in record { from = lent_table; file = a.file.now; cells = length a.table.now; table = a.table.now; before = a.table.now }
 
-bytes : (l : tie.After-pose-with) (i : ℕ) → byte_at (rest l).file i < 256
+bytes : (l : tie.After-pose_with-judged) (i : ℕ) → byte_at (rest l).file i < 256
 unfolding byte_at
-bytes l i = omega (arith, l.before.before.before.before.before.before.before.shared-slice-known.given i)
+bytes l i = omega (arith, l.shared_slice_known-1.given i)
 
-judged : (l : tie.After-pose-with) → let a = (start l).args in
-    Judges (route_question (rest l) (length a.buffer.now) a.ranks.now a.link a.end a.prefix a.choices.now) l.pose-with.result.turned (link_part l.pose-with.result.network)
+judged : (l : tie.After-pose_with-judged) → let a = l.args in
+    Judges (route_question (rest l) (length a.buffer.now) a.ranks.now a.link a.end a.prefix a.choices.now) l.pose_with-judged.result.turned (link_part l.pose_with-judged.result.network)
 unfolding route_question question_about call_of source_of table_cells route_numbers
-judged l = let a = (start l).args in
-    judges_numbers a.file.now (table_cells (network_loaded a.file.now) a.table.now) a.table.now a.choices.now a.ranks.now l.before.route-asked.ensures (sym l.before.before.arranged.ensures) l.pose-with.ensures.1
+judged l = let a = l.args in
+    judges_numbers a.file.now (table_cells (network_loaded a.file.now) a.table.now) a.table.now a.choices.now a.ranks.now l.route_asked-asked.ensures (sym l.arranged.ensures) l.pose_with-judged.ensures.1
 
-put : (l : tie.After-pose-with) → let a = (start l).args in IsPut (rest l) l.pose-with.result.turned l.pose-with.result.network a.table.now (length a.buffer.now) a.ranks.now a.link a.end a.prefix a.choices.now
+put : (l : tie.After-pose_with-judged) → let a = l.args in IsPut (rest l) l.pose_with-judged.result.turned l.pose_with-judged.result.network a.table.now (length a.buffer.now) a.ranks.now a.link a.end a.prefix a.choices.now
 unfolding route_question has_input inputs_of cells_from input_number member_of any_of
-put l = record { bytes = bytes l; poses = poses_table (judged l) refl (bytes l) refl; whole = l.pose-with.ensures.0 }
+put l = record { bytes = bytes l; poses = poses_table (judged l) refl (bytes l) refl; whole = l.pose_with-judged.ensures.0 }
 
-route-over-requires : tie.Need-route-over-requires
-route-over-requires c κs = let l = c.before in (rest l, put l)
+route_over-requires : tie.Need-route_over-requires
+route_over-requires c κs = let l = c.before in (rest l, put l)
 
-same_length : tie.Need-same-length
-same_length c = search rules
+shape_of-buffer : tie.Need-shape_of-buffer
+shape_of-buffer c = search rules
 
 returns : tie.Need-returns
 unfolding ask_route_with route_question
-returns c = let l = c.before.before.before.before in c.before.before.route-over.ensures (rest l) (put l)
+returns c = let l = c.before.before.before.before in c.route_over.ensures (rest l) (put l)
 
 pub route_with_spec : {M : Type 1} → statement M
 route_with_spec =
     tie.close
     (tie.spec
     arranged-requires
-    route-asked-requires
-    pose-with-requires
-    route-over-requires
-    same_length
+    route_asked-asked-requires
+    pose_with-judged-requires
+    route_over-requires
+    shape_of-buffer
     returns)

@@ -16,62 +16,62 @@ use Rattle.route.proofs.play.play.Statement.{statement}
 use Rattle.route.proofs.play.play.Tie as tie
 
 -- S and the first hop fit
-two : (c : tie.Start) → 2 ≤ length c.args.buffer.now
+two : (c : tie.Start) → 2 ≤ length c.args.buffer-1.now
 two c = omega (arith, c.requires.4.2, route_length c.requires.0 _ _ _ _ _ _ c.requires.3 c.requires.4.1)
 
-cast-tunnel : tie.Need-overflow-cast-tunnel
-cast-tunnel c = search rules
+overflow_cast-tunnel : tie.Need-overflow_cast-tunnel
+overflow_cast-tunnel c = search rules
 
-array-write-tunnel : tie.Need-array-write-tunnel
-array-write-tunnel c = search rules
+bounds-tunnel-0 : tie.Need-bounds-tunnel-0
+bounds-tunnel-0 c = search rules
 
-cast-buffer : tie.Need-overflow-cast-buffer
-cast-buffer c = search rules
+overflow_cast-buffer : tie.Need-overflow_cast-buffer
+overflow_cast-buffer c = search rules
 
-slice-write-buffer : tie.Need-slice-write-buffer
-slice-write-buffer c = omega (arith, two c.before.before.before)
+bounds-buffer-0 : tie.Need-bounds-buffer-0
+bounds-buffer-0 c = omega (arith, two c.before.before.before)
 
-cast-buffer-2 : tie.Need-overflow-cast-buffer-2
-cast-buffer-2 c = search rules
+overflow_cast-buffer-2 : tie.Need-overflow_cast-buffer-2
+overflow_cast-buffer-2 c = search rules
 
-slice-write-buffer-2 : tie.Need-slice-write-buffer-2
-slice-write-buffer-2 c = simp length-set (omega (arith, two c.before.before.before))
+bounds-buffer-1 : tie.Need-bounds-buffer-1
+bounds-buffer-1 c = simp length-set (omega (arith, two c.before.before.before))
 
-leg-requires : tie.Need-leg-requires
-leg-requires c κs =
+leg-arrived-requires : tie.Need-leg-arrived-requires
+leg-arrived-requires c κs =
     let s = c.before.before.before.before.before.before in
     let p = s.requires in
     let long = route_length p.0 _ _ _ _ _ _ p.3 p.4.1 in
     let r = p.4.1 in
     let bytes = tunnel_bytes p.0 _ _ _ _ _ _ p.3 r in
-    (tunnel_playable _ p.3 p.0, p.2, (r.tunnel, r.used, tunnel_leg p.0 _ _ _ _ _ _ p.3 r, omega (arith, p.4.3), simp length-set (omega (arith, p.4.2)), omega (arith, p.4.3)))
+    (tunnel_playable _ p.3 p.0, p.2, (r.tunnel-1, r.used, tunnel_leg p.0 _ _ _ _ _ _ p.3 r, omega (arith, p.4.3), simp length-set (omega (arith, p.4.2)), omega (arith, p.4.3)))
 
 -- the buffer after the first leg
-abbrev then : tie.After-leg → List ℕ
-then c = c.leg.new.1.1.1.1.1.1.1.1.1.1.1.1.1.1.1.1.0
+abbrev then : tie.After-leg-arrived → List ℕ
+then c = c.leg-arrived.new.buffer
 
 -- the first leg of the route
-gone : (c : tie.After-leg) →
+gone : (c : tie.After-leg-arrived) →
     let s = c.before.before.before.before.before.before.before in
     let a = s.args in
-    let b = set (set a.buffer.now 0 a.near) 1 a.hop in
+    let b = set (set a.buffer-1.now 0 a.near) 1 a.hop in
     (route : List ℕ) (r : NamedRoute a.n (arcs_in a.from.now a.to.now a.out.now a.back.now a.links) (held a.n a.dist.now) (slots_in a.at.now a.own.now a.slot a.count) a.choices.now a.near a.hop a.endpoint route) →
-    (c.leg.result.used ≡ r.used) × (c.leg.result.written ≡ 2 + length r.tunnel) × (then c ≡ (take 2 b ++ r.tunnel) ++ drop c.leg.result.written b)
-gone c route r = let p = c.before.before.before.before.before.before.before.requires in c.leg.ensures r.tunnel r.used (tunnel_leg p.0 _ _ _ _ _ _ p.3 r)
+    (c.leg-arrived.result.used ≡ r.used) × (c.leg-arrived.result.written ≡ 2 + length r.tunnel) × (then c ≡ (take 2 b ++ r.tunnel) ++ drop c.leg-arrived.result.written b)
+gone c route r = let p = c.requires in c.leg-arrived.ensures r.tunnel r.used (tunnel_leg p.0 _ _ _ _ _ _ p.3 r)
 
 -- it leaves the buffer's length
-kept : (c : tie.After-leg) → length (then c) ≡ length c.before.before.before.before.before.before.before.args.buffer.now
+kept : (c : tie.After-leg-arrived) → length (then c) ≡ length c.args.buffer.now
 kept c =
     let s = c.before.before.before.before.before.before.before in
     let p = s.requires in
     let r = p.4.1 in
-    let b = set (set s.args.buffer.now 0 s.args.near) 1 s.args.hop in
-    let same : length b ≡ length s.args.buffer.now = simp length-set in
+    let b = set (set s.args.buffer-1.now 0 s.args.near) 1 s.args.hop in
+    let same : length b ≡ length s.args.buffer-1.now = simp length-set in
     let went = gone c _ r in
-    leg_long b r.tunnel 2 went.1 (omega (arith, went.1, p.4.2, route_length p.0 _ _ _ _ _ _ p.3 r)) went.2 ∙ same
+    leg_long b r.tunnel-1 2 went.1 (omega (arith, went.1, p.4.2, route_length p.0 _ _ _ _ _ _ p.3 r)) went.2 ∙ same
 
-leg-requires-2 : tie.Need-leg-requires-2
-leg-requires-2 c κs =
+leg-delivered-requires : tie.Need-leg-delivered-requires
+leg-delivered-requires c κs =
     let s = c.before.before.before.before.before.before.before.before.before.before in
     let p = s.requires in
     let r = p.4.1 in
@@ -81,16 +81,16 @@ leg-requires-2 c κs =
     let rest = rest_leg p.0 _ _ _ _ _ _ p.3 r went.0 in
     (p.0, p.3, (r.rest, rest.0, rest.2, omega (arith, p.4.3, rest.1), omega (arith, p.4.2, went.1), omega (arith, p.4.3, went.1)))
 
-same_length : tie.Need-same-length
-same_length c =
+shape_of-buffer : tie.Need-shape_of-buffer
+shape_of-buffer c =
     let s = c.before.before.before.before.before.before.before.before.before.before.before.before.before in
     let p = s.requires in
     let r = p.4.1 in
     let f = c.before.before.before.before.before.before in
     let went = gone f _ r in
     let rest = rest_leg p.0 _ _ _ _ _ _ p.3 r went.0 in
-    let second = c.before.before.leg2.ensures r.rest rest.0 rest.2 in
-    leg_long (then f) r.rest f.leg.result.written second.1 (omega (arith, kept f, second.1, went.1, p.4.2, route_length p.0 _ _ _ _ _ _ p.3 r)) second.2 ∙ kept f
+    let second = c.leg-delivered.ensures r.rest rest.0 rest.2 in
+    leg_long (then f) r.rest f.leg-arrived.result.written second.1 (omega (arith, kept f, second.1, went.1, p.4.2, route_length p.0 _ _ _ _ _ _ p.3 r)) second.2 ∙ kept f
 
 returns : tie.Need-returns
 returns c = λ route r.
@@ -100,22 +100,22 @@ returns c = λ route r.
     let f = c.before.before.before.before.before.before in
     let went = gone f _ r in
     let rest = rest_leg p.0 _ _ _ _ _ _ p.3 r went.0 in
-    let second = c.before.before.leg2.ensures r.rest rest.0 rest.2 in (
+    let second = c.leg-delivered.ensures r.rest rest.0 rest.2 in (
       second.1 ∙ omega (arith, went.1, route_length p.0 _ _ _ _ _ _ p.3 r),
-      written_all a.buffer.now a.near a.hop r.tunnel r.rest (two s) went.1 second.1 went.2 second.2 ∙ ap (λ (l : List ℕ). l ++ drop c.before.before.leg2.result.written a.buffer.now) (sym r.whole),
+      written_all a.buffer.now a.near a.hop r.tunnel r.rest (two s) went.1 second.1 went.2 second.2 ∙ ap (λ (l : List ℕ). l ++ drop c.leg-delivered.result.written a.buffer.now) (sym r.whole),
     )
 
 pub play_spec : {M : Type 1} → statement M
 play_spec =
     tie.close
     (tie.spec
-    cast-tunnel
-    array-write-tunnel
-    cast-buffer
-    slice-write-buffer
-    cast-buffer-2
-    slice-write-buffer-2
-    leg-requires
-    leg-requires-2
-    same_length
+    overflow_cast-tunnel
+    bounds-tunnel-0
+    overflow_cast-buffer
+    bounds-buffer-0
+    overflow_cast-buffer-2
+    bounds-buffer-1
+    leg-arrived-requires
+    leg-delivered-requires
+    shape_of-buffer
     returns)

@@ -4,31 +4,31 @@ use Rattle.std.proofs.Common.{◌-◌, ◌≤◌, rules}
 use Rattle.stored_answers.proofs.reading.print_links.Statement.{statement}
 use Rattle.stored_answers.proofs.reading.print_links.Tie as tie
 
-abbrev invariant-loop : tie.invariant-loop
-invariant-loop network links k₀ k = k ≤ links
+abbrev invariant-loop-k : tie.invariant-loop-k
+invariant-loop-k network links k₀ k = k ≤ links
 
-abbrev decreases-loop : tie.decreases-loop
-decreases-loop network links k₀ k = links - k
+abbrev decreases-loop-k : tie.decreases-loop-k
+decreases-loop-k network links k₀ k = links - k
 
-loop-holds : tie.Need-loop-init invariant-loop decreases-loop
-loop-holds c = search rules
+loop-k-init : tie.Need-loop-k-init invariant-loop-k decreases-loop-k
+loop-k-init c = search rules
 
-print-link-requires : tie.Need-print-link-requires invariant-loop decreases-loop
-print-link-requires c κs = search rules
+print_link-requires : tie.Need-print_link-requires invariant-loop-k decreases-loop-k
+print_link-requires c κs = search rules
 
-add-k : tie.Need-overflow-add-k invariant-loop decreases-loop
-add-k c = search rules
+overflow_add-k : tie.Need-overflow_add-k invariant-loop-k decreases-loop-k
+overflow_add-k c = search rules
 
-loop-less : tie.Need-loop-smaller invariant-loop decreases-loop
-loop-less c = search rules
+loop-k-smaller : tie.Need-loop-k-smaller invariant-loop-k decreases-loop-k
+loop-k-smaller c = search rules
 
-loop-again : tie.Need-loop-preserved invariant-loop decreases-loop
-loop-again c = search rules
+loop-k-preserved : tie.Need-loop-k-preserved invariant-loop-k decreases-loop-k
+loop-k-preserved c = search rules
 
-returns : tie.Need-returns invariant-loop decreases-loop
+returns : tie.Need-returns invariant-loop-k decreases-loop-k
 returns c = search rules
 
 pub print_links_spec : {M : Type 1} → statement M
 print_links_spec =
     tie.close
-    (tie.spec invariant-loop decreases-loop loop-holds print-link-requires add-k loop-less loop-again returns)
+    (tie.spec invariant-loop-k decreases-loop-k loop-k-init print_link-requires overflow_add-k loop-k-smaller loop-k-preserved returns)
