@@ -3,7 +3,6 @@
 use mathlib.Core.Path.{◌≡◌, sym, ◌∙◌}
 use mathlib.Core.Bool.{true}
 use borrow.Author.Rules.{rules}
-use borrow.Author.Tests.{not-true, not-false}
 use Rattle.metric.specs.Fit.{slots_fit}
 use Rattle.metric.proofs.Laws.Fit.{slots_give}
 use Rattle.column.specs.Calls.{attached_set}

@@ -16,7 +16,7 @@ use Rattle.route.proofs.play.play.Statement.{statement}
 use Rattle.route.proofs.play.play.Tie as tie
 
 -- S and the first hop fit
-two : (c : tie.Start) → 2 ≤ length c.args.buffer-1.now
+two : (c : tie.Start) → 2 ≤ length c.args.buffer.now
 two c = omega (arith, c.requires.4.2, route_length c.requires.0 _ _ _ _ _ _ c.requires.3 c.requires.4.1)
 
 overflow_cast-tunnel : tie.Need-overflow_cast-tunnel
@@ -44,7 +44,7 @@ leg-arrived-requires c κs =
     let long = route_length p.0 _ _ _ _ _ _ p.3 p.4.1 in
     let r = p.4.1 in
     let bytes = tunnel_bytes p.0 _ _ _ _ _ _ p.3 r in
-    (tunnel_playable _ p.3 p.0, p.2, (r.tunnel-1, r.used, tunnel_leg p.0 _ _ _ _ _ _ p.3 r, omega (arith, p.4.3), simp length-set (omega (arith, p.4.2)), omega (arith, p.4.3)))
+    (tunnel_playable _ p.3 p.0, p.2, (r.tunnel, r.used, tunnel_leg p.0 _ _ _ _ _ _ p.3 r, omega (arith, p.4.3), simp length-set (omega (arith, p.4.2)), omega (arith, p.4.3)))
 
 -- the buffer after the first leg
 abbrev then : tie.After-leg-arrived → List ℕ
@@ -54,7 +54,7 @@ then c = c.leg-arrived.new.buffer
 gone : (c : tie.After-leg-arrived) →
     let s = c.before.before.before.before.before.before.before in
     let a = s.args in
-    let b = set (set a.buffer-1.now 0 a.near) 1 a.hop in
+    let b = set (set a.buffer.now 0 a.near) 1 a.hop in
     (route : List ℕ) (r : NamedRoute a.n (arcs_in a.from.now a.to.now a.out.now a.back.now a.links) (held a.n a.dist.now) (slots_in a.at.now a.own.now a.slot a.count) a.choices.now a.near a.hop a.endpoint route) →
     (c.leg-arrived.result.used ≡ r.used) × (c.leg-arrived.result.written ≡ 2 + length r.tunnel) × (then c ≡ (take 2 b ++ r.tunnel) ++ drop c.leg-arrived.result.written b)
 gone c route r = let p = c.requires in c.leg-arrived.ensures r.tunnel r.used (tunnel_leg p.0 _ _ _ _ _ _ p.3 r)
@@ -65,10 +65,10 @@ kept c =
     let s = c.before.before.before.before.before.before.before in
     let p = s.requires in
     let r = p.4.1 in
-    let b = set (set s.args.buffer-1.now 0 s.args.near) 1 s.args.hop in
-    let same : length b ≡ length s.args.buffer-1.now = simp length-set in
+    let b = set (set s.args.buffer.now 0 s.args.near) 1 s.args.hop in
+    let same : length b ≡ length s.args.buffer.now = simp length-set in
     let went = gone c _ r in
-    leg_long b r.tunnel-1 2 went.1 (omega (arith, went.1, p.4.2, route_length p.0 _ _ _ _ _ _ p.3 r)) went.2 ∙ same
+    leg_long b r.tunnel 2 went.1 (omega (arith, went.1, p.4.2, route_length p.0 _ _ _ _ _ _ p.3 r)) went.2 ∙ same
 
 leg-delivered-requires : tie.Need-leg-delivered-requires
 leg-delivered-requires c κs =
