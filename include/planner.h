@@ -1,4 +1,4 @@
-/* The repair planner, for programs in C. Link with target/staticlib/libplanner.a, which `rt staticlib planner` writes.
+/* The repair planner, for programs in C. Link with target/staticlib/libplanner.a, which `tools/build` writes.
  *
  * Of every call:
  * - It returns, for all inputs. It keeps nothing between calls, allocates nothing, and reads no clock and no file.

@@ -13,7 +13,7 @@ fn main() {
     println!("cargo::rerun-if-changed=build.rs");
     if !library.is_file() {
         println!(
-            "cargo::error=target/staticlib/libplanner.a is not there: run `rt staticlib planner` \
+            "cargo::error=target/staticlib/libplanner.a is not there: run `tools/build` \
              in the root of the repository first, which proves the planner and writes it"
         );
         return;

@@ -1,5 +1,5 @@
-// The choice supply: the lent choice bytes together with the place of the next one. The borrow checker covers no function over
-// such a struct, so `next` and `choice` are proved by hand; they leave the work to functions on a plain slice and a number.
+// The choice supply: the lent choice bytes together with the place of the next one. `next` leaves the work to functions on a plain slice and
+// a number.
 #![tactic(auto)]
 
 ghost use Rattle.std.specs.Prelude.{◌≡◌};
@@ -38,7 +38,7 @@ impl<'a> Choices<'a> {
     }
 }
 
-// The choice byte at a place, drawn from a supply that stands there. Its parameters are plain, so whoever calls it needs no walk.
+// The choice byte at a place, drawn from a supply that stands there.
 pub fn choice(bytes: &[u8], place: usize) -> u8
     ensures { result ≡ choice_at bytes.now place }
 {

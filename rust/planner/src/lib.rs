@@ -1,5 +1,5 @@
 //! The repair planner for programs in Rust: a safe interface of the proved library, which
-//! `rt staticlib planner` writes.
+//! `tools/build` writes.
 //!
 //! A network file comes as bytes. Every call judges it first and answers with a [`Refusal`] where
 //! the file is not sound or the question asks for what is not there. The calls that compute are

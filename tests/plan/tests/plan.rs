@@ -20,7 +20,7 @@ use std::time::Duration;
 /// Starts the program, with pipes to it and from it.
 fn started() -> Child {
     let program = stored::root().join("target/bin/plan");
-    assert!(program.is_file(), "target/bin/plan is not there: run `rt check plan` first");
+    assert!(program.is_file(), "target/bin/plan is not there: run `tools/build` first");
     Command::new(program)
         .stdin(Stdio::piped())
         .stdout(Stdio::piped())

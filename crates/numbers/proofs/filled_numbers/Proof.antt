@@ -6,33 +6,33 @@ use borrow.Author.Rules.{rules}
 use Rattle.numbers.proofs.filled_numbers.Statement.{statement}
 use Rattle.numbers.proofs.filled_numbers.Tie as tie
 
-enum_told : tie.Need-enum-told
-enum_told c = search rules
+enum_told-1 : tie.Need-enum_told-1
+enum_told-1 c = search rules
 
 plain-requires : tie.Need-plain-requires
 plain-requires c κs = search rules
 
-enum-known-answer : tie.Need-enum-known-answer
-enum-known-answer c = search rules
+enum_known-answer : tie.Need-enum_known-answer
+enum_known-answer c = search rules
 
-refusal-numbers-requires : tie.Need-refusal-numbers-requires
-refusal-numbers-requires c κs = search rules
+refusal_numbers-requires : tie.Need-refusal_numbers-requires
+refusal_numbers-requires c κs = search rules
 
-returns : tie.Need-returns
+returns-in-Done : tie.Need-returns-in-Done
 unfolding numbers_of filled_answer
-returns c = rw c.before.enum_told.given.1 c.plain.ensures
+returns-in-Done c = rw c.in-Done.is c.plain.ensures
 
-returns-2 : tie.Need-returns-2
+returns-in-Refused : tie.Need-returns-in-Refused
 unfolding numbers_of filled_answer
-returns-2 c = rw c.before.before.answer.given.1 c.refusal-numbers.ensures
+returns-in-Refused c = rw c.in-Refused.is c.refusal_numbers.ensures
 
 pub filled_numbers_spec : {M : Type 1} → statement M
 filled_numbers_spec =
     tie.close
     (tie.spec
-    enum_told
+    enum_told-1
     plain-requires
-    enum-known-answer
-    refusal-numbers-requires
-    returns
-    returns-2)
+    enum_known-answer
+    refusal_numbers-requires
+    returns-in-Done
+    returns-in-Refused)

@@ -7,55 +7,55 @@ use borrow.Author.Rules.{rules}
 use Rattle.numbers.proofs.repair_numbers.Statement.{statement}
 use Rattle.numbers.proofs.repair_numbers.Tie as tie
 
-enum-known-answer : tie.Need-enum-known-answer
-enum-known-answer c = search rules
+enum_known-answer : tie.Need-enum_known-answer
+enum_known-answer c = search rules
 
-refusal-numbers-requires : tie.Need-refusal-numbers-requires
-refusal-numbers-requires c κs = search rules
+refusal_numbers-requires : tie.Need-refusal_numbers-requires
+refusal_numbers-requires c κs = search rules
 
-enum_told : tie.Need-enum-told
-enum_told c = search rules
+enum_told-1 : tie.Need-enum_told-1
+enum_told-1 c = search rules
 
 plain-requires : tie.Need-plain-requires
 plain-requires c κs = search rules
 
-enum-told-2 : tie.Need-enum-told-2
-enum-told-2 c = search rules
+enum_told-in-Untouched : tie.Need-enum_told-in-Untouched
+enum_told-in-Untouched c = search rules
 
-plain-requires-2 : tie.Need-plain-requires-2
-plain-requires-2 c κs = search rules
+plain-requires-in-Untouched : tie.Need-plain-requires-in-Untouched
+plain-requires-in-Untouched c κs = search rules
 
-enum-known-answer-2 : tie.Need-enum-known-answer-2
-enum-known-answer-2 c = search rules
+enum_known-answer-in-Pair-1 : tie.Need-enum_known-answer-in-Pair-1
+enum_known-answer-in-Pair-1 c = search rules
 
-returns : tie.Need-returns
+returns-in-Refused : tie.Need-returns-in-Refused
 unfolding numbers_of repair_of
-returns c = rw c.before.before.answer.given.1 c.refusal-numbers.ensures
+returns-in-Refused c = rw c.in-Refused.is c.refusal_numbers.ensures
 
-returns-2 : tie.Need-returns-2
+returns-in-Unreachable : tie.Need-returns-in-Unreachable
 unfolding numbers_of repair_of
-returns-2 c = rw c.before.enum_told.given.1 c.plain.ensures
+returns-in-Unreachable c = rw c.in-Unreachable.is c.plain.ensures
 
-returns-3 : tie.Need-returns-3
+returns-in-Untouched : tie.Need-returns-in-Untouched
 unfolding numbers_of repair_of
-returns-3 c = rw c.before.enum-told2.given.1 c.plain2.ensures
+returns-in-Untouched c = rw c.in-Untouched.is c.plain-in-Untouched.ensures
 
-returns-4 : tie.Need-returns-4
+returns-in-Pair : tie.Need-returns-in-Pair
 unfolding numbers_of repair_of
-returns-4 c = rw c.before.answer2.given.1 refl
+returns-in-Pair c = rw c.in-Pair.is refl
 
 pub repair_numbers_spec : {M : Type 1} → statement M
 repair_numbers_spec =
     tie.close
     (tie.spec
-    enum-known-answer
-    refusal-numbers-requires
-    enum_told
+    enum_known-answer
+    refusal_numbers-requires
+    enum_told-1
     plain-requires
-    enum-told-2
-    plain-requires-2
-    enum-known-answer-2
-    returns
-    returns-2
-    returns-3
-    returns-4)
+    enum_told-in-Untouched
+    plain-requires-in-Untouched
+    enum_known-answer-in-Pair-1
+    returns-in-Refused
+    returns-in-Unreachable
+    returns-in-Untouched
+    returns-in-Pair)

@@ -6,33 +6,33 @@ use borrow.Author.Rules.{rules}
 use Rattle.numbers.proofs.space_numbers.Statement.{statement}
 use Rattle.numbers.proofs.space_numbers.Tie as tie
 
-enum-known-answer : tie.Need-enum-known-answer
-enum-known-answer c = search rules
+enum_known-answer : tie.Need-enum_known-answer
+enum_known-answer c = search rules
 
 plain-requires : tie.Need-plain-requires
 plain-requires c κs = search rules
 
-enum-known-answer-2 : tie.Need-enum-known-answer-2
-enum-known-answer-2 c = search rules
+enum_known-answer-in-Refused-1 : tie.Need-enum_known-answer-in-Refused-1
+enum_known-answer-in-Refused-1 c = search rules
 
-refusal-numbers-requires : tie.Need-refusal-numbers-requires
-refusal-numbers-requires c κs = search rules
+refusal_numbers-requires : tie.Need-refusal_numbers-requires
+refusal_numbers-requires c κs = search rules
 
-returns : tie.Need-returns
+returns-in-Set : tie.Need-returns-in-Set
 unfolding numbers_of space_answer
-returns c = rw c.before.before.answer.given.1 c.plain.ensures
+returns-in-Set c = rw c.in-Set.is c.plain.ensures
 
-returns-2 : tie.Need-returns-2
+returns-in-Refused : tie.Need-returns-in-Refused
 unfolding numbers_of space_answer
-returns-2 c = rw c.before.before.answer2.given.1 c.refusal-numbers.ensures
+returns-in-Refused c = rw c.in-Refused.is c.refusal_numbers.ensures
 
 pub space_numbers_spec : {M : Type 1} → statement M
 space_numbers_spec =
     tie.close
     (tie.spec
-    enum-known-answer
+    enum_known-answer
     plain-requires
-    enum-known-answer-2
-    refusal-numbers-requires
-    returns
-    returns-2)
+    enum_known-answer-in-Refused-1
+    refusal_numbers-requires
+    returns-in-Set
+    returns-in-Refused)

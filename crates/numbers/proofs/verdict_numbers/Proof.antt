@@ -7,37 +7,37 @@ use borrow.Author.Rules.{rules}
 use Rattle.numbers.proofs.verdict_numbers.Statement.{statement}
 use Rattle.numbers.proofs.verdict_numbers.Tie as tie
 
-enum_told : tie.Need-enum-told
-enum_told c = search rules
+enum_told-1 : tie.Need-enum_told-1
+enum_told-1 c = search rules
 
 plain-requires : tie.Need-plain-requires
 plain-requires c κs = search rules
 
-enum-known-verdict : tie.Need-enum-known-verdict
-enum-known-verdict c = search rules
+enum_known-verdict : tie.Need-enum_known-verdict
+enum_known-verdict c = search rules
 
-file-row-requires : tie.Need-file-row-requires
-file-row-requires c κs = search rules
+file_row-requires : tie.Need-file_row-requires
+file_row-requires c κs = search rules
 
-row-numbers-requires : tie.Need-row-numbers-requires
-row-numbers-requires c κs = search rules
+row_numbers-requires : tie.Need-row_numbers-requires
+row_numbers-requires c κs = search rules
 
-returns : tie.Need-returns
+returns-in-Accepted : tie.Need-returns-in-Accepted
 unfolding numbers_of answer_of
-returns c = rw c.before.enum_told.given.1 c.plain.ensures
+returns-in-Accepted c = rw c.in-Accepted.is c.plain.ensures
 
-returns-2 : tie.Need-returns-2
+returns-in-Refused : tie.Need-returns-in-Refused
 unfolding numbers_of answer_of
-returns-2 c = rw c.before.before.before.verdict.given.1 (c.row-numbers.ensures ∙ ap numbers_of c.before.file-row.ensures)
+returns-in-Refused c = rw c.in-Refused.is (c.row_numbers.ensures ∙ ap numbers_of c.file_row.ensures)
 
 pub verdict_numbers_spec : {M : Type 1} → statement M
 verdict_numbers_spec =
     tie.close
     (tie.spec
-    enum_told
+    enum_told-1
     plain-requires
-    enum-known-verdict
-    file-row-requires
-    row-numbers-requires
-    returns
-    returns-2)
+    enum_known-verdict
+    file_row-requires
+    row_numbers-requires
+    returns-in-Accepted
+    returns-in-Refused)

@@ -7,11 +7,11 @@ use Rattle.planner.proofs.planner_drill.Tie as tie
 drill-requires : tie.Need-drill-requires
 drill-requires c κs = search rules
 
-same_length : tie.Need-same-length
-same_length c = search rules
+shape_of-buffer : tie.Need-shape_of-buffer
+shape_of-buffer c = search rules
 
 returns : tie.Need-returns
-returns c = c.before.before.drill.ensures
+returns c = c.drill.ensures
 
 pub planner_drill_spec : {M : Type 1} → statement M
-planner_drill_spec = tie.close (tie.spec drill-requires same_length returns)
+planner_drill_spec = tie.close (tie.spec drill-requires shape_of-buffer returns)

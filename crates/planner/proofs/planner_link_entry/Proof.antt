@@ -8,16 +8,16 @@ use borrow.Author.Rules.{rules}
 use Rattle.planner.proofs.planner_link_entry.Statement.{statement}
 use Rattle.planner.proofs.planner_link_entry.Tie as tie
 
-link-entry-requires : tie.Need-link-entry-requires
-link-entry-requires c κs = search rules
+link_entry-part-requires : tie.Need-link_entry-part-requires
+link_entry-part-requires c κs = search rules
 
-copy-part-requires : tie.Need-copy-part-requires
-copy-part-requires c κs = rw c.before.link-entry.ensures (link_part_short _ _)
+copy_part-requires : tie.Need-copy_part-requires
+copy_part-requires c κs = rw c.link_entry-part.ensures (link_part_short _ _)
 
 returns : tie.Need-returns
 returns c =
-    let part = c.before.before.link-entry.ensures in
-    (c.copy-part.ensures.0 ∙ ap length part, c.copy-part.ensures.1 ∙ ap (copied_to _) part)
+    let part = c.link_entry-part.ensures in
+    (c.copy_part.ensures.0 ∙ ap length part, c.copy_part.ensures.1 ∙ ap (copied_to _) part)
 
 pub planner_link_entry_spec : {M : Type 1} → statement M
-planner_link_entry_spec = tie.close (tie.spec link-entry-requires copy-part-requires returns)
+planner_link_entry_spec = tie.close (tie.spec link_entry-part-requires copy_part-requires returns)

@@ -6,14 +6,14 @@ use borrow.Author.Rules.{rules}
 use Rattle.planner.proofs.planner_link_repair_with.Statement.{statement}
 use Rattle.planner.proofs.planner_link_repair_with.Tie as tie
 
-link-repair-with-requires : tie.Need-link-repair-with-requires
-link-repair-with-requires c κs = search rules
+link_repair_with-requires : tie.Need-link_repair_with-requires
+link_repair_with-requires c κs = search rules
 
-repair-numbers-requires : tie.Need-repair-numbers-requires
-repair-numbers-requires c κs = search rules
+repair_numbers-requires : tie.Need-repair_numbers-requires
+repair_numbers-requires c κs = search rules
 
 returns : tie.Need-returns
-returns c = c.repair-numbers.ensures ∙ ap numbers_of c.before.link_repair_with.ensures
+returns c = c.repair_numbers.ensures ∙ ap numbers_of c.link_repair_with.ensures
 
 pub planner_link_repair_with_spec : {M : Type 1} → statement M
-planner_link_repair_with_spec = tie.close (tie.spec link-repair-with-requires repair-numbers-requires returns)
+planner_link_repair_with_spec = tie.close (tie.spec link_repair_with-requires repair_numbers-requires returns)

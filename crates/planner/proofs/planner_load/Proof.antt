@@ -10,21 +10,21 @@ use borrow.Author.Rules.{rules}
 use Rattle.planner.proofs.planner_load.Statement.{statement}
 use Rattle.planner.proofs.planner_load.Tie as tie
 
-load-requires : tie.Need-load-requires
-load-requires c κs = search rules
+load-loaded-requires : tie.Need-load-loaded-requires
+load-loaded-requires c κs = search rules
 
-verdict-numbers-requires : tie.Need-verdict-numbers-requires
-verdict-numbers-requires c κs = search rules
+verdict_numbers-answer-requires : tie.Need-verdict_numbers-answer-requires
+verdict_numbers-answer-requires c κs = search rules
 
 returns : tie.Need-returns
 unfolding loaded_as
 returns c =
     let numbered = c.before.before.before.before.before.before.before.before in
-    let loaded = numbered.before.load.ensures in
-    let net = numbered.before.load.result.network in
-    let b = numbered.before.before.before.args.file.now in
-    ap (λ (a : Numbers). loaded_as a net) (numbered.verdict-numbers.ensures ∙ ap numbers_of loaded.0)
+    let loaded = numbered.load-loaded.ensures in
+    let net = numbered.load-loaded.result.network in
+    let b = numbered.args.file.now in
+    ap (λ (a : Numbers). loaded_as a net) (numbered.verdict_numbers-answer.ensures ∙ ap numbers_of loaded.0)
     ∙ ap (loaded_as (numbers_of (answer_to (loading b)))) loaded.1
 
 pub planner_load_spec : {M : Type 1} → statement M
-planner_load_spec = tie.close (tie.spec load-requires verdict-numbers-requires returns)
+planner_load_spec = tie.close (tie.spec load-loaded-requires verdict_numbers-answer-requires returns)

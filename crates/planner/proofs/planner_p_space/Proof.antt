@@ -6,18 +6,18 @@ use borrow.Author.Rules.{rules}
 use Rattle.planner.proofs.planner_p_space.Statement.{statement}
 use Rattle.planner.proofs.planner_p_space.Tie as tie
 
-p-space-requires : tie.Need-p-space-requires
-p-space-requires c κs = search rules
+p_space-requires : tie.Need-p_space-requires
+p_space-requires c κs = search rules
 
-space-numbers-requires : tie.Need-space-numbers-requires
-space-numbers-requires c κs = search rules
+space_numbers-requires : tie.Need-space_numbers-requires
+space_numbers-requires c κs = search rules
 
-same_length : tie.Need-same-length
-same_length c = search rules
+shape_of-work : tie.Need-shape_of-work
+shape_of-work c = search rules
 
 returns : tie.Need-returns
-returns c = let answered = c.before.before.before.p-space.ensures in record { numbers_are = c.space-numbers.ensures ∙ ap numbers_of answered.answer_is; area_is = answered.area_is }
+returns c = let answered = c.p_space.ensures in record { numbers_are = c.space_numbers.ensures ∙ ap numbers_of answered.answer_is; area_is = answered.area_is }
 
 pub planner_p_space_spec : {M : Type 1} → statement M
 planner_p_space_spec =
-    tie.close (tie.spec p-space-requires space-numbers-requires same_length returns)
+    tie.close (tie.spec p_space-requires space_numbers-requires shape_of-work returns)

@@ -8,16 +8,16 @@ use borrow.Author.Rules.{rules}
 use Rattle.planner.proofs.planner_prefix_entry.Statement.{statement}
 use Rattle.planner.proofs.planner_prefix_entry.Tie as tie
 
-prefix-entry-requires : tie.Need-prefix-entry-requires
-prefix-entry-requires c κs = search rules
+prefix_entry-part-requires : tie.Need-prefix_entry-part-requires
+prefix_entry-part-requires c κs = search rules
 
-copy-part-requires : tie.Need-copy-part-requires
-copy-part-requires c κs = rw c.before.prefix-entry.ensures (prefix_part_short _ _)
+copy_part-requires : tie.Need-copy_part-requires
+copy_part-requires c κs = rw c.prefix_entry-part.ensures (prefix_part_short _ _)
 
 returns : tie.Need-returns
 returns c =
-    let part = c.before.before.prefix-entry.ensures in
-    (c.copy-part.ensures.0 ∙ ap length part, c.copy-part.ensures.1 ∙ ap (copied_to _) part)
+    let part = c.prefix_entry-part.ensures in
+    (c.copy_part.ensures.0 ∙ ap length part, c.copy_part.ensures.1 ∙ ap (copied_to _) part)
 
 pub planner_prefix_entry_spec : {M : Type 1} → statement M
-planner_prefix_entry_spec = tie.close (tie.spec prefix-entry-requires copy-part-requires returns)
+planner_prefix_entry_spec = tie.close (tie.spec prefix_entry-part-requires copy_part-requires returns)

@@ -6,18 +6,18 @@ use borrow.Author.Rules.{rules}
 use Rattle.planner.proofs.planner_prefix_repair.Statement.{statement}
 use Rattle.planner.proofs.planner_prefix_repair.Tie as tie
 
-prefix-repair-requires : tie.Need-prefix-repair-requires
-prefix-repair-requires c κs = search rules
+prefix_repair-requires : tie.Need-prefix_repair-requires
+prefix_repair-requires c κs = search rules
 
-repair-numbers-requires : tie.Need-repair-numbers-requires
-repair-numbers-requires c κs = search rules
+repair_numbers-requires : tie.Need-repair_numbers-requires
+repair_numbers-requires c κs = search rules
 
-same_length : tie.Need-same-length
-same_length c = search rules
+shape_of-work : tie.Need-shape_of-work
+shape_of-work c = search rules
 
 returns : tie.Need-returns
-returns c = let answered = c.before.before.before.prefix_repair_lem.ensures in record { numbers_are = c.repair-numbers.ensures ∙ ap numbers_of answered.answer_is; area_is = answered.area_is }
+returns c = let answered = c.prefix_repair.ensures in record { numbers_are = c.repair_numbers.ensures ∙ ap numbers_of answered.answer_is; area_is = answered.area_is }
 
 pub planner_prefix_repair_spec : {M : Type 1} → statement M
 planner_prefix_repair_spec =
-    tie.close (tie.spec prefix-repair-requires repair-numbers-requires same_length returns)
+    tie.close (tie.spec prefix_repair-requires repair_numbers-requires shape_of-work returns)

@@ -6,14 +6,14 @@ use borrow.Author.Rules.{rules}
 use Rattle.planner.proofs.planner_prefix_repair_with.Statement.{statement}
 use Rattle.planner.proofs.planner_prefix_repair_with.Tie as tie
 
-prefix-repair-with-requires : tie.Need-prefix-repair-with-requires
-prefix-repair-with-requires c κs = search rules
+prefix_repair_with-requires : tie.Need-prefix_repair_with-requires
+prefix_repair_with-requires c κs = search rules
 
-repair-numbers-requires : tie.Need-repair-numbers-requires
-repair-numbers-requires c κs = search rules
+repair_numbers-requires : tie.Need-repair_numbers-requires
+repair_numbers-requires c κs = search rules
 
 returns : tie.Need-returns
-returns c = c.repair-numbers.ensures ∙ ap numbers_of c.before.prefix_repair_with.ensures
+returns c = c.repair_numbers.ensures ∙ ap numbers_of c.prefix_repair_with.ensures
 
 pub planner_prefix_repair_with_spec : {M : Type 1} → statement M
-planner_prefix_repair_with_spec = tie.close (tie.spec prefix-repair-with-requires repair-numbers-requires returns)
+planner_prefix_repair_with_spec = tie.close (tie.spec prefix_repair_with-requires repair_numbers-requires returns)

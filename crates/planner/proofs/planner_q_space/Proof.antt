@@ -6,18 +6,18 @@ use borrow.Author.Rules.{rules}
 use Rattle.planner.proofs.planner_q_space.Statement.{statement}
 use Rattle.planner.proofs.planner_q_space.Tie as tie
 
-q-space-requires : tie.Need-q-space-requires
-q-space-requires c κs = search rules
+q_space-requires : tie.Need-q_space-requires
+q_space-requires c κs = search rules
 
-space-numbers-requires : tie.Need-space-numbers-requires
-space-numbers-requires c κs = search rules
+space_numbers-requires : tie.Need-space_numbers-requires
+space_numbers-requires c κs = search rules
 
-same_length : tie.Need-same-length
-same_length c = search rules
+shape_of-work : tie.Need-shape_of-work
+shape_of-work c = search rules
 
 returns : tie.Need-returns
-returns c = let answered = c.before.before.before.q-space.ensures in record { numbers_are = c.space-numbers.ensures ∙ ap numbers_of answered.answer_is; area_is = answered.area_is }
+returns c = let answered = c.q_space.ensures in record { numbers_are = c.space_numbers.ensures ∙ ap numbers_of answered.answer_is; area_is = answered.area_is }
 
 pub planner_q_space_spec : {M : Type 1} → statement M
 planner_q_space_spec =
-    tie.close (tie.spec q-space-requires space-numbers-requires same_length returns)
+    tie.close (tie.spec q_space-requires space_numbers-requires shape_of-work returns)

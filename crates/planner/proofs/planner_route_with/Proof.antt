@@ -6,18 +6,18 @@ use borrow.Author.Rules.{rules}
 use Rattle.planner.proofs.planner_route_with.Statement.{statement}
 use Rattle.planner.proofs.planner_route_with.Tie as tie
 
-route-with-requires : tie.Need-route-with-requires
-route-with-requires c κs = search rules
+route_with-requires : tie.Need-route_with-requires
+route_with-requires c κs = search rules
 
-played-numbers-requires : tie.Need-played-numbers-requires
-played-numbers-requires c κs = search rules
+played_numbers-requires : tie.Need-played_numbers-requires
+played_numbers-requires c κs = search rules
 
-same_length : tie.Need-same-length
-same_length c = search rules
+shape_of-buffer : tie.Need-shape_of-buffer
+shape_of-buffer c = search rules
 
 returns : tie.Need-returns
-returns c = let answered = c.before.before.before.route_with.ensures in record { numbers_are = c.played-numbers.ensures ∙ ap numbers_of answered.answer_is; buffer_is = answered.buffer_is }
+returns c = let answered = c.route_with.ensures in record { numbers_are = c.played_numbers.ensures ∙ ap numbers_of answered.answer_is; buffer_is = answered.buffer_is }
 
 pub planner_route_with_spec : {M : Type 1} → statement M
 planner_route_with_spec =
-    tie.close (tie.spec route-with-requires played-numbers-requires same_length returns)
+    tie.close (tie.spec route_with-requires played_numbers-requires shape_of-buffer returns)

@@ -8,12 +8,12 @@ use Rattle.planner.proofs.planner_write.Tie as tie
 write-requires : tie.Need-write-requires
 write-requires c κs = search rules
 
-same_length : tie.Need-same-length
-same_length c = search rules
+shape_of-buffer : tie.Need-shape_of-buffer
+shape_of-buffer c = search rules
 
 returns : tie.Need-returns
 unfolding network_in
-returns c = c.before.before.write.ensures
+returns c = c.write.ensures
 
 pub planner_write_spec : {M : Type 1} → statement M
-planner_write_spec = tie.close (tie.spec write-requires same_length returns)
+planner_write_spec = tie.close (tie.spec write-requires shape_of-buffer returns)

@@ -1,7 +1,6 @@
 -- `question::judge` meets its contract. The file part's verdict decides rows 1 to 9, and the counts of its network the other rows before 14.
 -- Assumes nothing.
 use mathlib.Core.Path.{refl}
-use native.Mathlib.Omega.{arith}
 use Rattle.rows.specs.Rows.{question_about}
 use Rattle.question.proofs.QuestionLaws.{not_refused, fault_early, row_early}
 use borrow.Author.Rules.{rules}

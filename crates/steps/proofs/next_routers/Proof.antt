@@ -3,7 +3,6 @@
 use mathlib.Core.Path.{sym, ◌∙◌}
 use native.Mathlib.Omega.{arith}
 use borrow.Author.Rules.{rules}
-use borrow.Author.Tests.{not-true, not-false}
 use Rattle.metric.proofs.Laws.Fit.{links_give}
 use Rattle.steps.specs.Laws.Calls.{unfit, fitting}
 use Rattle.steps.proofs.next_routers.Statement.{statement}

@@ -1,7 +1,6 @@
 -- `steps::one_if` meets its contract.
 -- Assumes nothing.
 use borrow.Author.Rules.{rules}
-use borrow.Author.Tests.{not-true, not-false}
 use Rattle.steps.proofs.NextLaws.{none_if, one_if}
 use Rattle.steps.proofs.one_if.Statement.{statement}
 use Rattle.steps.proofs.one_if.Tie as tie

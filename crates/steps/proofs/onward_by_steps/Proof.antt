@@ -4,7 +4,6 @@ use mathlib.Core.Path.{◌≡◌, sym, ◌∙◌}
 use mathlib.Core.Bool.{true}
 use native.Mathlib.Omega.{arith}
 use borrow.Author.Rules.{rules}
-use borrow.Author.Tests.{not-true, not-false}
 use Rattle.avoid.specs.Avoiding.{asked}
 use Rattle.steps.specs.Crossing.{numbers_fit}
 use Rattle.steps.specs.Laws.Crossing.{none_onward, found_onward}

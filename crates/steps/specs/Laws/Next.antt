@@ -8,7 +8,7 @@ use mathlib.Core.List.{List, Memᴰ}
 use Rattle.std.proofs.Math.Dec.{eqb, ltb}
 use Rattle.std.proofs.Math.ListN.{get_or}
 use borrow.Author.Tests.{ltb-true, eqb-true, eqb-false, eq-eqb}
-use Rattle.lfa.specs.Lists.{below, any_of}
+use Rattle.lfa.specs.Lists.{any_of}
 use Rattle.lfa.specs.Network.{Arc, arc, Target, is_attached}
 use Rattle.lfa.specs.Distance.{unreachable, towards}
 use Rattle.lfa.specs.Walk.{is_step}

@@ -4,43 +4,43 @@ use Rattle.std.proofs.Common.{◌-◌, ◌≤◌, rules}
 use Rattle.stored_tables.proofs.main.Statement.{statement}
 use Rattle.stored_tables.proofs.main.Tie as tie
 
-abbrev invariant-loop : tie.invariant-loop
-invariant-loop k₀ k = k ≤ 1000
+abbrev invariant-loop-k : tie.invariant-loop-k
+invariant-loop-k k₀ k = k ≤ 1000
 
-abbrev decreases-loop : tie.decreases-loop
-decreases-loop k₀ k = 1000 - k
+abbrev decreases-loop-k : tie.decreases-loop-k
+decreases-loop-k k₀ k = 1000 - k
 
-loop-holds : tie.Need-loop-init invariant-loop decreases-loop
-loop-holds c = search rules
+loop-k-init : tie.Need-loop-k-init invariant-loop-k decreases-loop-k
+loop-k-init c = search rules
 
-run-case-requires : tie.Need-run-case-requires invariant-loop decreases-loop
-run-case-requires c κs = search rules
+run_case-requires : tie.Need-run_case-requires invariant-loop-k decreases-loop-k
+run_case-requires c κs = search rules
 
-returns : tie.Need-returns invariant-loop decreases-loop
+returns-then-not-run_case : tie.Need-returns-then-not-run_case invariant-loop-k decreases-loop-k
+returns-then-not-run_case c = search rules
+
+overflow_add-k : tie.Need-overflow_add-k invariant-loop-k decreases-loop-k
+overflow_add-k c = search rules
+
+loop-k-smaller : tie.Need-loop-k-smaller invariant-loop-k decreases-loop-k
+loop-k-smaller c = search rules
+
+loop-k-preserved : tie.Need-loop-k-preserved invariant-loop-k decreases-loop-k
+loop-k-preserved c = search rules
+
+returns : tie.Need-returns invariant-loop-k decreases-loop-k
 returns c = search rules
-
-add-k : tie.Need-overflow-add-k invariant-loop decreases-loop
-add-k c = search rules
-
-loop-less : tie.Need-loop-smaller invariant-loop decreases-loop
-loop-less c = search rules
-
-loop-again : tie.Need-loop-preserved invariant-loop decreases-loop
-loop-again c = search rules
-
-returns-2 : tie.Need-returns-2 invariant-loop decreases-loop
-returns-2 c = search rules
 
 pub main_spec : {M : Type 1} → statement M
 main_spec =
     tie.close
     (tie.spec
-    invariant-loop
-    decreases-loop
-    loop-holds
-    run-case-requires
-    returns
-    add-k
-    loop-less
-    loop-again
-    returns-2)
+    invariant-loop-k
+    decreases-loop-k
+    loop-k-init
+    run_case-requires
+    returns-then-not-run_case
+    overflow_add-k
+    loop-k-smaller
+    loop-k-preserved
+    returns)

@@ -4,43 +4,43 @@ use Rattle.std.proofs.Common.{arith, length-append, length-take, rules}
 use Rattle.stored_tables.proofs.run_case.Statement.{statement}
 use Rattle.stored_tables.proofs.run_case.Tie as tie
 
-next-length-requires : tie.Need-next-length-requires
-next-length-requires c κs = search rules
+next_length-length-requires : tie.Need-next_length-length-requires
+next_length-length-requires c κs = search rules
+
+returns-then-length-gt8192 : tie.Need-returns-then-length-gt8192
+returns-then-length-gt8192 c = search rules
+
+slice_bounds-file-end : tie.Need-slice_bounds-file-end
+slice_bounds-file-end c = search rules
+
+slice_bounds-read_full-end : tie.Need-slice_bounds-read_full-end
+slice_bounds-read_full-end c = simp length-take (omega arith)
+
+read_full-read-requires : tie.Need-read_full-read-requires
+read_full-read-requires c κs = search rules
+
+slice_bounds-file-end-2 : tie.Need-slice_bounds-file-end-2
+slice_bounds-file-end-2 c = simp length-append (omega arith)
+
+slice_bounds-print_case-end : tie.Need-slice_bounds-print_case-end
+slice_bounds-print_case-end c = simp (length-take, length-append) (omega arith)
+
+print_case-requires : tie.Need-print_case-requires
+print_case-requires c κs = search rules
 
 returns : tie.Need-returns
 returns c = search rules
-
-array-borrow-prefix-file : tie.Need-array-borrow-prefix-file
-array-borrow-prefix-file c = search rules
-
-slice-aggregate-read-full : tie.Need-slice-aggregate-read-full
-slice-aggregate-read-full c = simp length-take (omega arith)
-
-read-full-requires : tie.Need-read-full-requires
-read-full-requires c κs = search rules
-
-array-share-prefix-file : tie.Need-array-share-prefix-file
-array-share-prefix-file c = simp length-append (omega arith)
-
-slice-aggregate-print-case : tie.Need-slice-aggregate-print-case
-slice-aggregate-print-case c = simp (length-take, length-append) (omega arith)
-
-print-case-requires : tie.Need-print-case-requires
-print-case-requires c κs = search rules
-
-returns-2 : tie.Need-returns-2
-returns-2 c = search rules
 
 pub run_case_spec : {M : Type 1} → statement M
 run_case_spec =
     tie.close
     (tie.spec
-    next-length-requires
-    returns
-    array-borrow-prefix-file
-    slice-aggregate-read-full
-    read-full-requires
-    array-share-prefix-file
-    slice-aggregate-print-case
-    print-case-requires
-    returns-2)
+    next_length-length-requires
+    returns-then-length-gt8192
+    slice_bounds-file-end
+    slice_bounds-read_full-end
+    read_full-read-requires
+    slice_bounds-file-end-2
+    slice_bounds-print_case-end
+    print_case-requires
+    returns)

@@ -1,6 +1,5 @@
 -- `entries_good` goes over the links. The invariant: those passed are sound.
 -- Assumes nothing.
-use borrow.Author.Tests.{not-true, not-false}
 use Rattle.lfa.specs.Lists.{every_below}
 use Rattle.ospf.specs.Lsa.{entry_good}
 use Rattle.metric.proofs.Laws.List.{every_fails}

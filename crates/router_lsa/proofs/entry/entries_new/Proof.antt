@@ -1,6 +1,5 @@
 -- `entries_new` goes over the links. The invariant: none of those passed leads to a router that an earlier one leads to.
 -- Assumes nothing.
-use borrow.Author.Tests.{not-true, not-false}
 use Rattle.lfa.specs.Lists.{every_below}
 use Rattle.ospf.specs.Lsa.{entry_new}
 use Rattle.metric.proofs.Laws.List.{every_fails}

@@ -1,6 +1,5 @@
 -- `sound_lsa` tells whether an LSA is sound: each early return is a cause of number 16.
 -- Assumes nothing.
-use borrow.Author.Tests.{not-true, not-false}
 use native.Mathlib.Omega.{arith}
 use Rattle.ospf.specs.Lsa.{links_field, router_field}
 use Rattle.router_lsa.proofs.LsaLaws.{not_filled, other_type_lem, no_checksum, wrong_sums_lem, bad_entries, rest_sound}

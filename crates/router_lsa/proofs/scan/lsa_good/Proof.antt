@@ -1,6 +1,5 @@
 -- `lsa_good` tells whether LSA i is good: each early return is a cause of number 16.
 -- Assumes nothing.
-use borrow.Author.Tests.{not-true, not-false}
 use native.Mathlib.Omega.{arith}
 use Rattle.router_lsa.proofs.RunLaws.{next_short, next_small, next_cut, cut_long, part_uncut, next_unsound, next_named, next_good}
 use borrow.Author.Rules.{rules}

@@ -1,6 +1,5 @@
 -- `router_new` tells whether a router was named before: by the identifiers at hand, then by the LSAs after those.
 -- Assumes nothing.
-use borrow.Author.Tests.{not-true, not-false}
 use Rattle.router_lsa.proofs.NewLaws.{later_ready, named_first}
 use borrow.Author.Rules.{rules}
 use Rattle.router_lsa.proofs.scan.router_new.Statement.{statement}

@@ -5,67 +5,67 @@ use Rattle.std.proofs.Common.{◌-◌, ◌≤◌, length, arith, length-drop, le
 use Rattle.stored_buffers.proofs.distances.print_rows.Statement.{statement}
 use Rattle.stored_buffers.proofs.distances.print_rows.Tie as tie
 
-abbrev invariant-loop : tie.invariant-loop
-invariant-loop n work rest₀ x₀ rest x = (x ≤ n) × (length rest ≤ length work)
+abbrev invariant-loop-x : tie.invariant-loop-x
+invariant-loop-x n work rest₀ x₀ rest x = (x ≤ n) × (length rest ≤ length work)
 
-abbrev decreases-loop : tie.decreases-loop
-decreases-loop n work rest₀ x₀ rest x = n - x
+abbrev decreases-loop-x : tie.decreases-loop-x
+decreases-loop-x n work rest₀ x₀ rest x = n - x
 
-loop-holds : tie.Need-loop-init invariant-loop decreases-loop
-loop-holds c = search rules
+loop-x-init : tie.Need-loop-x-init invariant-loop-x decreases-loop-x
+loop-x-init c = search rules
 
-returns : tie.Need-returns invariant-loop decreases-loop
+returns-then-rest-n : tie.Need-returns-then-rest-n invariant-loop-x decreases-loop-x
+returns-then-rest-n c = search rules
+
+slice_bounds-print_row-end : tie.Need-slice_bounds-print_row-end invariant-loop-x decreases-loop-x
+slice_bounds-print_row-end c = simp length-take (omega arith)
+
+print_row-requires : tie.Need-print_row-requires invariant-loop-x decreases-loop-x
+print_row-requires c κs = search rules
+
+offset_bounds-rest-n : tie.Need-offset_bounds-rest-n invariant-loop-x decreases-loop-x
+offset_bounds-rest-n c = omega arith
+
+slice_bounds-rest-count : tie.Need-slice_bounds-rest-count invariant-loop-x decreases-loop-x
+slice_bounds-rest-count c = search rules
+
+slice_bounds-rest-start : tie.Need-slice_bounds-rest-start invariant-loop-x decreases-loop-x
+slice_bounds-rest-start c = search rules
+
+slice_bounds-rest-end : tie.Need-slice_bounds-rest-end invariant-loop-x decreases-loop-x
+slice_bounds-rest-end c = search rules
+
+overflow_add-x : tie.Need-overflow_add-x invariant-loop-x decreases-loop-x
+overflow_add-x c = search rules
+
+loop-x-smaller : tie.Need-loop-x-smaller invariant-loop-x decreases-loop-x
+loop-x-smaller c = search rules
+
+loop-x-preserved : tie.Need-loop-x-preserved invariant-loop-x decreases-loop-x
+loop-x-preserved c = (omega arith, simp (length-take, length-drop) (omega arith))
+
+print_later-requires : tie.Need-print_later-requires invariant-loop-x decreases-loop-x
+print_later-requires c κs = search rules
+
+returns : tie.Need-returns invariant-loop-x decreases-loop-x
 returns c = search rules
-
-slice-aggregate-print-row : tie.Need-slice-aggregate-print-row invariant-loop decreases-loop
-slice-aggregate-print-row c = simp length-take (omega arith)
-
-print-row-requires : tie.Need-print-row-requires invariant-loop decreases-loop
-print-row-requires c κs = search rules
-
-mul-rest : tie.Need-overflow-mul-rest invariant-loop decreases-loop
-mul-rest c = omega arith
-
-sub-rest : tie.Need-overflow-sub-rest invariant-loop decreases-loop
-sub-rest c = search rules
-
-part-rest-start : tie.Need-slice-bounds-rest-start invariant-loop decreases-loop
-part-rest-start c = search rules
-
-part-rest-end : tie.Need-slice-bounds-rest-end invariant-loop decreases-loop
-part-rest-end c = search rules
-
-add-x : tie.Need-overflow-add-x invariant-loop decreases-loop
-add-x c = search rules
-
-loop-less : tie.Need-loop-smaller invariant-loop decreases-loop
-loop-less c = search rules
-
-loop-again : tie.Need-loop-preserved invariant-loop decreases-loop
-loop-again c = (omega arith, simp (length-take, length-drop) (omega arith))
-
-print-later-requires : tie.Need-print-later-requires invariant-loop decreases-loop
-print-later-requires c κs = search rules
-
-returns-2 : tie.Need-returns-2 invariant-loop decreases-loop
-returns-2 c = search rules
 
 pub print_rows_spec : {M : Type 1} → statement M
 print_rows_spec =
     tie.close
     (tie.spec
-    invariant-loop
-    decreases-loop
-    loop-holds
-    returns
-    slice-aggregate-print-row
-    print-row-requires
-    mul-rest
-    sub-rest
-    part-rest-start
-    part-rest-end
-    add-x
-    loop-less
-    loop-again
-    print-later-requires
-    returns-2)
+    invariant-loop-x
+    decreases-loop-x
+    loop-x-init
+    returns-then-rest-n
+    slice_bounds-print_row-end
+    print_row-requires
+    offset_bounds-rest-n
+    slice_bounds-rest-count
+    slice_bounds-rest-start
+    slice_bounds-rest-end
+    overflow_add-x
+    loop-x-smaller
+    loop-x-preserved
+    print_later-requires
+    returns)

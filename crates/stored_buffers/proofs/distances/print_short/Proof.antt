@@ -4,17 +4,17 @@ use Rattle.std.proofs.Common.{arith, length-take, rules}
 use Rattle.stored_buffers.proofs.distances.print_short.Statement.{statement}
 use Rattle.stored_buffers.proofs.distances.print_short.Tie as tie
 
-too-few-requires : tie.Need-too-few-requires
-too-few-requires c κs = search rules
+too_few-cells-requires : tie.Need-too_few-cells-requires
+too_few-cells-requires c κs = search rules
 
-array-borrow-prefix-work : tie.Need-array-borrow-prefix-work
-array-borrow-prefix-work c = search rules
+slice_bounds-work-end : tie.Need-slice_bounds-work-end
+slice_bounds-work-end c = search rules
 
-slice-aggregate-print-unfilled : tie.Need-slice-aggregate-print-unfilled
-slice-aggregate-print-unfilled c = simp length-take (omega arith)
+slice_bounds-print_unfilled-end : tie.Need-slice_bounds-print_unfilled-end
+slice_bounds-print_unfilled-end c = simp length-take (omega arith)
 
-print-unfilled-requires : tie.Need-print-unfilled-requires
-print-unfilled-requires c κs = search rules
+print_unfilled-requires : tie.Need-print_unfilled-requires
+print_unfilled-requires c κs = search rules
 
 returns : tie.Need-returns
 returns c = search rules
@@ -23,8 +23,8 @@ pub print_short_spec : {M : Type 1} → statement M
 print_short_spec =
     tie.close
     (tie.spec
-    too-few-requires
-    array-borrow-prefix-work
-    slice-aggregate-print-unfilled
-    print-unfilled-requires
+    too_few-cells-requires
+    slice_bounds-work-end
+    slice_bounds-print_unfilled-end
+    print_unfilled-requires
     returns)

@@ -4,20 +4,20 @@ use Rattle.std.proofs.Common.{mul-le-mul, arith, rules}
 use Rattle.stored_buffers.proofs.distances.too_few.Statement.{statement}
 use Rattle.stored_buffers.proofs.distances.too_few.Tie as tie
 
+returns-then-n-gt64 : tie.Need-returns-then-n-gt64
+returns-then-n-gt64 c = search rules
+
+overflow_mul-cells : tie.Need-overflow_mul-cells
+overflow_mul-cells c = omega (arith, mul-le-mul c.if-n-gt64.false c.if-n-gt64.false)
+
+returns-then-cells-eq0 : tie.Need-returns-then-cells-eq0
+returns-then-cells-eq0 c = search rules
+
+overflow_sub-result : tie.Need-overflow_sub-result
+overflow_sub-result c = search rules
+
 returns : tie.Need-returns
-returns c = search rules
-
-mul-cells : tie.Need-overflow-mul-cells
-mul-cells c = omega (arith, mul-le-mul c.if1.false c.if1.false)
-
-returns-2 : tie.Need-returns-2
-returns-2 c = search rules
-
-sub-result : tie.Need-overflow-sub-result
-sub-result c = search rules
-
-returns-3 : tie.Need-returns-3
-returns-3 c = omega (arith, mul-le-mul c.before.if1.false c.before.if1.false)
+returns c = omega (arith, mul-le-mul c.if-n-gt64.false c.if-n-gt64.false)
 
 pub too_few_spec : {M : Type 1} → statement M
-too_few_spec = tie.close (tie.spec returns mul-cells returns-2 sub-result returns-3)
+too_few_spec = tie.close (tie.spec returns-then-n-gt64 overflow_mul-cells returns-then-cells-eq0 overflow_sub-result returns)

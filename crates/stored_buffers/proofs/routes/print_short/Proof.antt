@@ -4,29 +4,29 @@ use Rattle.std.proofs.Common.{arith, length-take, rules}
 use Rattle.stored_buffers.proofs.routes.print_short.Statement.{statement}
 use Rattle.stored_buffers.proofs.routes.print_short.Tie as tie
 
-write-all-requires : tie.Need-write-all-requires
-write-all-requires c κs = search rules
+write_all-requires : tie.Need-write_all-requires
+write_all-requires c κs = search rules
 
-print-question-requires : tie.Need-print-question-requires
-print-question-requires c κs = search rules
+print_question-requires : tie.Need-print_question-requires
+print_question-requires c κs = search rules
 
-too-few-requires : tie.Need-too-few-requires
-too-few-requires c κs = search rules
+too_few-bytes-requires : tie.Need-too_few-bytes-requires
+too_few-bytes-requires c κs = search rules
 
-array-share-prefix-choices : tie.Need-array-share-prefix-choices
-array-share-prefix-choices c = search rules
+slice_bounds-choices-end : tie.Need-slice_bounds-choices-end
+slice_bounds-choices-end c = search rules
 
-slice-aggregate-print-played : tie.Need-slice-aggregate-print-played
-slice-aggregate-print-played c = search rules
+slice_bounds-print_played-end : tie.Need-slice_bounds-print_played-end
+slice_bounds-print_played-end c = search rules
 
-array-borrow-prefix-buffer : tie.Need-array-borrow-prefix-buffer
-array-borrow-prefix-buffer c = search rules
+slice_bounds-buffer-end : tie.Need-slice_bounds-buffer-end
+slice_bounds-buffer-end c = search rules
 
-slice-aggregate-print-played-2 : tie.Need-slice-aggregate-print-played-2
-slice-aggregate-print-played-2 c = simp length-take (omega arith)
+slice_bounds-print_played-end-2 : tie.Need-slice_bounds-print_played-end-2
+slice_bounds-print_played-end-2 c = simp length-take (omega arith)
 
-print-played-requires : tie.Need-print-played-requires
-print-played-requires c κs = search rules
+print_played-requires : tie.Need-print_played-requires
+print_played-requires c κs = search rules
 
 returns : tie.Need-returns
 returns c = search rules
@@ -35,12 +35,12 @@ pub print_short_spec : {M : Type 1} → statement M
 print_short_spec =
     tie.close
     (tie.spec
-    write-all-requires
-    print-question-requires
-    too-few-requires
-    array-share-prefix-choices
-    slice-aggregate-print-played
-    array-borrow-prefix-buffer
-    slice-aggregate-print-played-2
-    print-played-requires
+    write_all-requires
+    print_question-requires
+    too_few-bytes-requires
+    slice_bounds-choices-end
+    slice_bounds-print_played-end
+    slice_bounds-buffer-end
+    slice_bounds-print_played-end-2
+    print_played-requires
     returns)

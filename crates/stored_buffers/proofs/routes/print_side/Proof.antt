@@ -4,39 +4,39 @@ use Rattle.std.proofs.Common.{◌-◌, ◌≤◌, rules}
 use Rattle.stored_buffers.proofs.routes.print_side.Statement.{statement}
 use Rattle.stored_buffers.proofs.routes.print_side.Tie as tie
 
-abbrev invariant-loop : tie.invariant-loop
-invariant-loop file link side prefixes whole prefix₀ prefix = prefix ≤ prefixes
+abbrev invariant-loop-prefix : tie.invariant-loop-prefix
+invariant-loop-prefix file link side prefixes whole prefix₀ prefix = prefix ≤ prefixes
 
-abbrev decreases-loop : tie.decreases-loop
-decreases-loop file link side prefixes whole prefix₀ prefix = prefixes - prefix
+abbrev decreases-loop-prefix : tie.decreases-loop-prefix
+decreases-loop-prefix file link side prefixes whole prefix₀ prefix = prefixes - prefix
 
-loop-holds : tie.Need-loop-init invariant-loop decreases-loop
-loop-holds c = search rules
+loop-prefix-init : tie.Need-loop-prefix-init invariant-loop-prefix decreases-loop-prefix
+loop-prefix-init c = search rules
 
-print-prefix-requires : tie.Need-print-prefix-requires invariant-loop decreases-loop
-print-prefix-requires c κs = search rules
+print_prefix-requires : tie.Need-print_prefix-requires invariant-loop-prefix decreases-loop-prefix
+print_prefix-requires c κs = search rules
 
-add-prefix : tie.Need-overflow-add-prefix invariant-loop decreases-loop
-add-prefix c = search rules
+overflow_add-prefix : tie.Need-overflow_add-prefix invariant-loop-prefix decreases-loop-prefix
+overflow_add-prefix c = search rules
 
-loop-less : tie.Need-loop-smaller invariant-loop decreases-loop
-loop-less c = search rules
+loop-prefix-smaller : tie.Need-loop-prefix-smaller invariant-loop-prefix decreases-loop-prefix
+loop-prefix-smaller c = search rules
 
-loop-again : tie.Need-loop-preserved invariant-loop decreases-loop
-loop-again c = search rules
+loop-prefix-preserved : tie.Need-loop-prefix-preserved invariant-loop-prefix decreases-loop-prefix
+loop-prefix-preserved c = search rules
 
-returns : tie.Need-returns invariant-loop decreases-loop
+returns : tie.Need-returns invariant-loop-prefix decreases-loop-prefix
 returns c = search rules
 
 pub print_side_spec : {M : Type 1} → statement M
 print_side_spec =
     tie.close
     (tie.spec
-    invariant-loop
-    decreases-loop
-    loop-holds
-    print-prefix-requires
-    add-prefix
-    loop-less
-    loop-again
+    invariant-loop-prefix
+    decreases-loop-prefix
+    loop-prefix-init
+    print_prefix-requires
+    overflow_add-prefix
+    loop-prefix-smaller
+    loop-prefix-preserved
     returns)

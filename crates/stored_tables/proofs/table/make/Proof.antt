@@ -4,51 +4,51 @@ use Rattle.std.proofs.Common.{◌≡◌, ◌-◌, ◌≤◌, length, rules}
 use Rattle.stored_tables.proofs.table.make.Statement.{statement}
 use Rattle.stored_tables.proofs.table.make.Tie as tie
 
-abbrev invariant-loop : tie.invariant-loop
-invariant-loop which cells table₀ n i₀ table i = (i ≤ length table₀) × (length table ≡ length table₀)
+abbrev invariant-loop-i : tie.invariant-loop-i
+invariant-loop-i which cells table₀ n i₀ table i = (i ≤ length table₀) × (length table ≡ length table₀)
 
-abbrev decreases-loop : tie.decreases-loop
-decreases-loop which cells table₀ n i₀ table i = length table₀ - i
+abbrev decreases-loop-i : tie.decreases-loop-i
+decreases-loop-i which cells table₀ n i₀ table i = length table₀ - i
 
-loop-holds : tie.Need-loop-init invariant-loop decreases-loop
-loop-holds c = search rules
+loop-i-init : tie.Need-loop-i-init invariant-loop-i decreases-loop-i
+loop-i-init c = search rules
 
-cell-requires : tie.Need-cell-requires invariant-loop decreases-loop
+cell-requires : tie.Need-cell-requires invariant-loop-i decreases-loop-i
 cell-requires c κs = search rules
 
-mul-table : tie.Need-overflow-mul-table invariant-loop decreases-loop
-mul-table c = search rules
+offset_bounds-table-i : tie.Need-offset_bounds-table-i invariant-loop-i decreases-loop-i
+offset_bounds-table-i c = search rules
 
-slice-write-table : tie.Need-slice-write-table invariant-loop decreases-loop
-slice-write-table c = search rules
+bounds-table-i : tie.Need-bounds-table-i invariant-loop-i decreases-loop-i
+bounds-table-i c = search rules
 
-add-i : tie.Need-overflow-add-i invariant-loop decreases-loop
-add-i c = search rules
+overflow_add-i : tie.Need-overflow_add-i invariant-loop-i decreases-loop-i
+overflow_add-i c = search rules
 
-loop-less : tie.Need-loop-smaller invariant-loop decreases-loop
-loop-less c = search rules
+loop-i-smaller : tie.Need-loop-i-smaller invariant-loop-i decreases-loop-i
+loop-i-smaller c = search rules
 
-loop-again : tie.Need-loop-preserved invariant-loop decreases-loop
-loop-again c = search rules
+loop-i-preserved : tie.Need-loop-i-preserved invariant-loop-i decreases-loop-i
+loop-i-preserved c = search rules
 
-same_length : tie.Need-same-length invariant-loop decreases-loop
-same_length c = search rules
+shape_of-table : tie.Need-shape_of-table invariant-loop-i decreases-loop-i
+shape_of-table c = search rules
 
-returns : tie.Need-returns invariant-loop decreases-loop
+returns : tie.Need-returns invariant-loop-i decreases-loop-i
 returns c = search rules
 
 pub make_spec : {M : Type 1} → statement M
 make_spec =
     tie.close
     (tie.spec
-    invariant-loop
-    decreases-loop
-    loop-holds
+    invariant-loop-i
+    decreases-loop-i
+    loop-i-init
     cell-requires
-    mul-table
-    slice-write-table
-    add-i
-    loop-less
-    loop-again
-    same_length
+    offset_bounds-table-i
+    bounds-table-i
+    overflow_add-i
+    loop-i-smaller
+    loop-i-preserved
+    shape_of-table
     returns)

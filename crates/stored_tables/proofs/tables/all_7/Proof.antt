@@ -4,47 +4,47 @@ use Rattle.std.proofs.Common.{◌-◌, ◌≤◌, length, rules}
 use Rattle.stored_tables.proofs.tables.all_7.Statement.{statement}
 use Rattle.stored_tables.proofs.tables.all_7.Tie as tie
 
-abbrev invariant-loop : tie.invariant-loop
-invariant-loop work i₀ i = i ≤ length work
+abbrev invariant-loop-i : tie.invariant-loop-i
+invariant-loop-i work i₀ i = i ≤ length work
 
-abbrev decreases-loop : tie.decreases-loop
-decreases-loop work i₀ i = length work - i
+abbrev decreases-loop-i : tie.decreases-loop-i
+decreases-loop-i work i₀ i = length work - i
 
-loop-holds : tie.Need-loop-init invariant-loop decreases-loop
-loop-holds c = search rules
+loop-i-init : tie.Need-loop-i-init invariant-loop-i decreases-loop-i
+loop-i-init c = search rules
 
-mul-if1 : tie.Need-overflow-mul-if1 invariant-loop decreases-loop
-mul-if1 c = search rules
+offset_bounds-work-i : tie.Need-offset_bounds-work-i invariant-loop-i decreases-loop-i
+offset_bounds-work-i c = search rules
 
-shared-slice-read-if1 : tie.Need-shared-slice-read-if1 invariant-loop decreases-loop
-shared-slice-read-if1 c = search rules
+bounds-work-i : tie.Need-bounds-work-i invariant-loop-i decreases-loop-i
+bounds-work-i c = search rules
 
-returns : tie.Need-returns invariant-loop decreases-loop
+returns-then-work-i-ne7 : tie.Need-returns-then-work-i-ne7 invariant-loop-i decreases-loop-i
+returns-then-work-i-ne7 c = search rules
+
+overflow_add-i : tie.Need-overflow_add-i invariant-loop-i decreases-loop-i
+overflow_add-i c = search rules
+
+loop-i-smaller : tie.Need-loop-i-smaller invariant-loop-i decreases-loop-i
+loop-i-smaller c = search rules
+
+loop-i-preserved : tie.Need-loop-i-preserved invariant-loop-i decreases-loop-i
+loop-i-preserved c = search rules
+
+returns : tie.Need-returns invariant-loop-i decreases-loop-i
 returns c = search rules
-
-add-i : tie.Need-overflow-add-i invariant-loop decreases-loop
-add-i c = search rules
-
-loop-less : tie.Need-loop-smaller invariant-loop decreases-loop
-loop-less c = search rules
-
-loop-again : tie.Need-loop-preserved invariant-loop decreases-loop
-loop-again c = search rules
-
-returns-2 : tie.Need-returns-2 invariant-loop decreases-loop
-returns-2 c = search rules
 
 pub all_7_spec : {M : Type 1} → statement M
 all_7_spec =
     tie.close
     (tie.spec
-    invariant-loop
-    decreases-loop
-    loop-holds
-    mul-if1
-    shared-slice-read-if1
-    returns
-    add-i
-    loop-less
-    loop-again
-    returns-2)
+    invariant-loop-i
+    decreases-loop-i
+    loop-i-init
+    offset_bounds-work-i
+    bounds-work-i
+    returns-then-work-i-ne7
+    overflow_add-i
+    loop-i-smaller
+    loop-i-preserved
+    returns)

@@ -4,47 +4,47 @@ use Rattle.std.proofs.Common.{◌≡◌, ◌-◌, ◌≤◌, length, rules}
 use Rattle.stored_tables.proofs.tables.count_up.Statement.{statement}
 use Rattle.stored_tables.proofs.tables.count_up.Tie as tie
 
-abbrev invariant-loop : tie.invariant-loop
-invariant-loop choices₀ next₀ i₀ choices next i = (i ≤ length choices₀) × (length choices ≡ length choices₀)
+abbrev invariant-loop-i : tie.invariant-loop-i
+invariant-loop-i choices₀ next₀ i₀ choices next i = (i ≤ length choices₀) × (length choices ≡ length choices₀)
 
-abbrev decreases-loop : tie.decreases-loop
-decreases-loop choices₀ next₀ i₀ choices next i = length choices₀ - i
+abbrev decreases-loop-i : tie.decreases-loop-i
+decreases-loop-i choices₀ next₀ i₀ choices next i = length choices₀ - i
 
-loop-holds : tie.Need-loop-init invariant-loop decreases-loop
-loop-holds c = search rules
+loop-i-init : tie.Need-loop-i-init invariant-loop-i decreases-loop-i
+loop-i-init c = search rules
 
-slice-write-choices : tie.Need-slice-write-choices invariant-loop decreases-loop
-slice-write-choices c = search rules
+bounds-choices-i : tie.Need-bounds-choices-i invariant-loop-i decreases-loop-i
+bounds-choices-i c = search rules
 
-wrapping-add-u8-requires : tie.Need-wrapping-add-u8-requires invariant-loop decreases-loop
-wrapping-add-u8-requires c κs = search rules
+wrapping_add_u8-next-requires : tie.Need-wrapping_add_u8-next-requires invariant-loop-i decreases-loop-i
+wrapping_add_u8-next-requires c κs = search rules
 
-add-i : tie.Need-overflow-add-i invariant-loop decreases-loop
-add-i c = search rules
+overflow_add-i : tie.Need-overflow_add-i invariant-loop-i decreases-loop-i
+overflow_add-i c = search rules
 
-loop-less : tie.Need-loop-smaller invariant-loop decreases-loop
-loop-less c = search rules
+loop-i-smaller : tie.Need-loop-i-smaller invariant-loop-i decreases-loop-i
+loop-i-smaller c = search rules
 
-loop-again : tie.Need-loop-preserved invariant-loop decreases-loop
-loop-again c = search rules
+loop-i-preserved : tie.Need-loop-i-preserved invariant-loop-i decreases-loop-i
+loop-i-preserved c = search rules
 
-same_length : tie.Need-same-length invariant-loop decreases-loop
-same_length c = search rules
+shape_of-choices : tie.Need-shape_of-choices invariant-loop-i decreases-loop-i
+shape_of-choices c = search rules
 
-returns : tie.Need-returns invariant-loop decreases-loop
+returns : tie.Need-returns invariant-loop-i decreases-loop-i
 returns c = search rules
 
 pub count_up_spec : {M : Type 1} → statement M
 count_up_spec =
     tie.close
     (tie.spec
-    invariant-loop
-    decreases-loop
-    loop-holds
-    slice-write-choices
-    wrapping-add-u8-requires
-    add-i
-    loop-less
-    loop-again
-    same_length
+    invariant-loop-i
+    decreases-loop-i
+    loop-i-init
+    bounds-choices-i
+    wrapping_add_u8-next-requires
+    overflow_add-i
+    loop-i-smaller
+    loop-i-preserved
+    shape_of-choices
     returns)

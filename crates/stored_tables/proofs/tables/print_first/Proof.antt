@@ -4,29 +4,29 @@ use Rattle.std.proofs.Common.{arith, length-take, rules}
 use Rattle.stored_tables.proofs.tables.print_first.Statement.{statement}
 use Rattle.stored_tables.proofs.tables.print_first.Tie as tie
 
-work-at-requires : tie.Need-work-at-requires
-work-at-requires c κs = search rules
+work_at-count-requires : tie.Need-work_at-count-requires
+work_at-count-requires c κs = search rules
 
-bytes-at-requires : tie.Need-bytes-at-requires
-bytes-at-requires c κs = search rules
+bytes_at-bytes-requires : tie.Need-bytes_at-bytes-requires
+bytes_at-bytes-requires c κs = search rules
 
-link-at-requires : tie.Need-link-at-requires
-link-at-requires c κs = search rules
+link_at-link-requires : tie.Need-link_at-link-requires
+link_at-link-requires c κs = search rules
 
-array-borrow-prefix-work : tie.Need-array-borrow-prefix-work
-array-borrow-prefix-work c = search rules
+slice_bounds-work-end : tie.Need-slice_bounds-work-end
+slice_bounds-work-end c = search rules
 
-slice-aggregate-print-single : tie.Need-slice-aggregate-print-single
-slice-aggregate-print-single c = simp length-take (omega arith)
+slice_bounds-print_single-end : tie.Need-slice_bounds-print_single-end
+slice_bounds-print_single-end c = simp length-take (omega arith)
 
-array-borrow-prefix-buffer : tie.Need-array-borrow-prefix-buffer
-array-borrow-prefix-buffer c = search rules
+slice_bounds-buffer-end : tie.Need-slice_bounds-buffer-end
+slice_bounds-buffer-end c = search rules
 
-slice-aggregate-print-single-2 : tie.Need-slice-aggregate-print-single-2
-slice-aggregate-print-single-2 c = simp length-take (omega arith)
+slice_bounds-print_single-end-2 : tie.Need-slice_bounds-print_single-end-2
+slice_bounds-print_single-end-2 c = simp length-take (omega arith)
 
-print-single-requires : tie.Need-print-single-requires
-print-single-requires c κs = search rules
+print_single-requires : tie.Need-print_single-requires
+print_single-requires c κs = search rules
 
 returns : tie.Need-returns
 returns c = search rules
@@ -35,12 +35,12 @@ pub print_first_spec : {M : Type 1} → statement M
 print_first_spec =
     tie.close
     (tie.spec
-    work-at-requires
-    bytes-at-requires
-    link-at-requires
-    array-borrow-prefix-work
-    slice-aggregate-print-single
-    array-borrow-prefix-buffer
-    slice-aggregate-print-single-2
-    print-single-requires
+    work_at-count-requires
+    bytes_at-bytes-requires
+    link_at-link-requires
+    slice_bounds-work-end
+    slice_bounds-print_single-end
+    slice_bounds-buffer-end
+    slice_bounds-print_single-end-2
+    print_single-requires
     returns)

@@ -4,39 +4,39 @@ use Rattle.std.proofs.Common.{◌-◌, ◌≤◌, rules}
 use Rattle.stored_tables.proofs.tables.print_others.Statement.{statement}
 use Rattle.stored_tables.proofs.tables.print_others.Tie as tie
 
-abbrev invariant-loop : tie.invariant-loop
-invariant-loop file cells n links prefixes which₀ which = which ≤ 10
+abbrev invariant-loop-which : tie.invariant-loop-which
+invariant-loop-which file cells n links prefixes which₀ which = which ≤ 10
 
-abbrev decreases-loop : tie.decreases-loop
-decreases-loop file cells n links prefixes which₀ which = 10 - which
+abbrev decreases-loop-which : tie.decreases-loop-which
+decreases-loop-which file cells n links prefixes which₀ which = 10 - which
 
-loop-holds : tie.Need-loop-init invariant-loop decreases-loop
-loop-holds c = search rules
+loop-which-init : tie.Need-loop-which-init invariant-loop-which decreases-loop-which
+loop-which-init c = search rules
 
-print-table-requires : tie.Need-print-table-requires invariant-loop decreases-loop
-print-table-requires c κs = search rules
+print_table-requires : tie.Need-print_table-requires invariant-loop-which decreases-loop-which
+print_table-requires c κs = search rules
 
-add-which : tie.Need-overflow-add-which invariant-loop decreases-loop
-add-which c = search rules
+overflow_add-which : tie.Need-overflow_add-which invariant-loop-which decreases-loop-which
+overflow_add-which c = search rules
 
-loop-less : tie.Need-loop-smaller invariant-loop decreases-loop
-loop-less c = search rules
+loop-which-smaller : tie.Need-loop-which-smaller invariant-loop-which decreases-loop-which
+loop-which-smaller c = search rules
 
-loop-again : tie.Need-loop-preserved invariant-loop decreases-loop
-loop-again c = search rules
+loop-which-preserved : tie.Need-loop-which-preserved invariant-loop-which decreases-loop-which
+loop-which-preserved c = search rules
 
-returns : tie.Need-returns invariant-loop decreases-loop
+returns : tie.Need-returns invariant-loop-which decreases-loop-which
 returns c = search rules
 
 pub print_others_spec : {M : Type 1} → statement M
 print_others_spec =
     tie.close
     (tie.spec
-    invariant-loop
-    decreases-loop
-    loop-holds
-    print-table-requires
-    add-which
-    loop-less
-    loop-again
+    invariant-loop-which
+    decreases-loop-which
+    loop-which-init
+    print_table-requires
+    overflow_add-which
+    loop-which-smaller
+    loop-which-preserved
     returns)

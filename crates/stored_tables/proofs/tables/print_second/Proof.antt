@@ -4,29 +4,29 @@ use Rattle.std.proofs.Common.{arith, length-take, rules}
 use Rattle.stored_tables.proofs.tables.print_second.Statement.{statement}
 use Rattle.stored_tables.proofs.tables.print_second.Tie as tie
 
-table-at-requires : tie.Need-table-at-requires
-table-at-requires c κs = search rules
+table_at-requires : tie.Need-table_at-requires
+table_at-requires c κs = search rules
 
 make-requires : tie.Need-make-requires
 make-requires c κs = search rules
 
-bytes-at-requires : tie.Need-bytes-at-requires
-bytes-at-requires c κs = search rules
+bytes_at-bytes-requires : tie.Need-bytes_at-bytes-requires
+bytes_at-bytes-requires c κs = search rules
 
-link-at-requires : tie.Need-link-at-requires
-link-at-requires c κs = search rules
+link_at-link-requires : tie.Need-link_at-link-requires
+link_at-link-requires c κs = search rules
 
-array-borrow-prefix-buffer : tie.Need-array-borrow-prefix-buffer
-array-borrow-prefix-buffer c = search rules
+slice_bounds-buffer-end : tie.Need-slice_bounds-buffer-end
+slice_bounds-buffer-end c = search rules
 
-slice-aggregate-print-rows : tie.Need-slice-aggregate-print-rows
-slice-aggregate-print-rows c = simp length-take (omega arith)
+slice_bounds-print_rows-end : tie.Need-slice_bounds-print_rows-end
+slice_bounds-print_rows-end c = simp length-take (omega arith)
 
-print-rows-requires : tie.Need-print-rows-requires
-print-rows-requires c κs = search rules
+print_rows-requires : tie.Need-print_rows-requires
+print_rows-requires c κs = search rules
 
-same_length : tie.Need-same-length
-same_length c = search rules
+shape_of-table : tie.Need-shape_of-table
+shape_of-table c = search rules
 
 returns : tie.Need-returns
 returns c = search rules
@@ -35,12 +35,12 @@ pub print_second_spec : {M : Type 1} → statement M
 print_second_spec =
     tie.close
     (tie.spec
-    table-at-requires
+    table_at-requires
     make-requires
-    bytes-at-requires
-    link-at-requires
-    array-borrow-prefix-buffer
-    slice-aggregate-print-rows
-    print-rows-requires
-    same_length
+    bytes_at-bytes-requires
+    link_at-link-requires
+    slice_bounds-buffer-end
+    slice_bounds-print_rows-end
+    print_rows-requires
+    shape_of-table
     returns)

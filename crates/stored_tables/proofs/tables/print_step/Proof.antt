@@ -4,38 +4,38 @@ use Rattle.std.proofs.Common.{arith, length-take, rules}
 use Rattle.stored_tables.proofs.tables.print_step.Statement.{statement}
 use Rattle.stored_tables.proofs.tables.print_step.Tie as tie
 
-ranks-at-requires : tie.Need-ranks-at-requires
-ranks-at-requires c κs = search rules
+ranks_at-ranked-requires : tie.Need-ranks_at-ranked-requires
+ranks_at-ranked-requires c κs = search rules
 
-table-at-requires : tie.Need-table-at-requires
-table-at-requires c κs = search rules
+table_at-requires : tie.Need-table_at-requires
+table_at-requires c κs = search rules
 
-length-of-requires : tie.Need-length-of-requires
-length-of-requires c κs = search rules
+length_of-length-requires : tie.Need-length_of-length-requires
+length_of-length-requires c κs = search rules
 
-array-share-prefix-ranks : tie.Need-array-share-prefix-ranks
-array-share-prefix-ranks c = search rules
+slice_bounds-ranks-end : tie.Need-slice_bounds-ranks-end
+slice_bounds-ranks-end c = search rules
 
-slice-aggregate-print-second : tie.Need-slice-aggregate-print-second
-slice-aggregate-print-second c = simp length-take (omega arith)
+slice_bounds-print_second-end : tie.Need-slice_bounds-print_second-end
+slice_bounds-print_second-end c = simp length-take (omega arith)
 
-array-borrow-prefix-table : tie.Need-array-borrow-prefix-table
-array-borrow-prefix-table c = search rules
+slice_bounds-table-end : tie.Need-slice_bounds-table-end
+slice_bounds-table-end c = search rules
 
-slice-aggregate-print-second-2 : tie.Need-slice-aggregate-print-second-2
-slice-aggregate-print-second-2 c = simp length-take (omega arith)
+slice_bounds-print_second-end-2 : tie.Need-slice_bounds-print_second-end-2
+slice_bounds-print_second-end-2 c = simp length-take (omega arith)
 
-print-second-requires : tie.Need-print-second-requires
-print-second-requires c κs = search rules
+print_second-requires : tie.Need-print_second-requires
+print_second-requires c κs = search rules
 
-array-share-prefix-ranks-2 : tie.Need-array-share-prefix-ranks-2
-array-share-prefix-ranks-2 c = search rules
+slice_bounds-ranks-end-2 : tie.Need-slice_bounds-ranks-end-2
+slice_bounds-ranks-end-2 c = search rules
 
-slice-aggregate-print-first : tie.Need-slice-aggregate-print-first
-slice-aggregate-print-first c = simp length-take (omega arith)
+slice_bounds-print_first-end : tie.Need-slice_bounds-print_first-end
+slice_bounds-print_first-end c = simp length-take (omega arith)
 
-print-first-requires : tie.Need-print-first-requires
-print-first-requires c κs = search rules
+print_first-requires : tie.Need-print_first-requires
+print_first-requires c κs = search rules
 
 returns : tie.Need-returns
 returns c = search rules
@@ -44,15 +44,15 @@ pub print_step_spec : {M : Type 1} → statement M
 print_step_spec =
     tie.close
     (tie.spec
-    ranks-at-requires
-    table-at-requires
-    length-of-requires
-    array-share-prefix-ranks
-    slice-aggregate-print-second
-    array-borrow-prefix-table
-    slice-aggregate-print-second-2
-    print-second-requires
-    array-share-prefix-ranks-2
-    slice-aggregate-print-first
-    print-first-requires
+    ranks_at-ranked-requires
+    table_at-requires
+    length_of-length-requires
+    slice_bounds-ranks-end
+    slice_bounds-print_second-end
+    slice_bounds-table-end
+    slice_bounds-print_second-end-2
+    print_second-requires
+    slice_bounds-ranks-end-2
+    slice_bounds-print_first-end
+    print_first-requires
     returns)

@@ -4,31 +4,31 @@ use Rattle.std.proofs.Common.{arith, length-take, rules}
 use Rattle.stored_tables.proofs.tables.print_table.Statement.{statement}
 use Rattle.stored_tables.proofs.tables.print_table.Tie as tie
 
-length-of-requires : tie.Need-length-of-requires
-length-of-requires c κs = search rules
+length_of-length-requires : tie.Need-length_of-length-requires
+length_of-length-requires c κs = search rules
 
-array-borrow-prefix-table : tie.Need-array-borrow-prefix-table
-array-borrow-prefix-table c = search rules
+slice_bounds-table-end : tie.Need-slice_bounds-table-end
+slice_bounds-table-end c = search rules
 
-slice-aggregate-print-other : tie.Need-slice-aggregate-print-other
-slice-aggregate-print-other c = simp length-take (omega arith)
+slice_bounds-print_other-end : tie.Need-slice_bounds-print_other-end
+slice_bounds-print_other-end c = simp length-take (omega arith)
 
-print-other-requires : tie.Need-print-other-requires
-print-other-requires c κs = search rules
+print_other-requires : tie.Need-print_other-requires
+print_other-requires c κs = search rules
 
-returns : tie.Need-returns
-returns c = search rules
+returns-then-n-gt1 : tie.Need-returns-then-n-gt1
+returns-then-n-gt1 c = search rules
 
-returns-2 : tie.Need-returns-2
-returns-2 c = search rules
+returns-else-which-ne6 : tie.Need-returns-else-which-ne6
+returns-else-which-ne6 c = search rules
 
 pub print_table_spec : {M : Type 1} → statement M
 print_table_spec =
     tie.close
     (tie.spec
-    length-of-requires
-    array-borrow-prefix-table
-    slice-aggregate-print-other
-    print-other-requires
-    returns
-    returns-2)
+    length_of-length-requires
+    slice_bounds-table-end
+    slice_bounds-print_other-end
+    print_other-requires
+    returns-then-n-gt1
+    returns-else-which-ne6)

@@ -4,41 +4,41 @@ use Rattle.std.proofs.Common.{arith, length-take, rules}
 use Rattle.stored_tables.proofs.tables.print_tables.Statement.{statement}
 use Rattle.stored_tables.proofs.tables.print_tables.Tie as tie
 
-load-requires : tie.Need-load-requires
-load-requires c κs = search rules
+load-loaded-requires : tie.Need-load-loaded-requires
+load-loaded-requires c κs = search rules
 
-at-most-64-requires : tie.Need-at-most-64-requires
-at-most-64-requires c κs = search rules
+at_most_64-n-requires : tie.Need-at_most_64-n-requires
+at_most_64-n-requires c κs = search rules
 
-slice-aggregate-distances : tie.Need-slice-aggregate-distances
-slice-aggregate-distances c = search rules
+slice_bounds-distances-end : tie.Need-slice_bounds-distances-end
+slice_bounds-distances-end c = search rules
 
 distances-requires : tie.Need-distances-requires
 distances-requires c κs = search rules
 
-cells-of-requires : tie.Need-cells-of-requires
-cells-of-requires c κs = search rules
+cells_of-count-requires : tie.Need-cells_of-count-requires
+cells_of-count-requires c κs = search rules
 
-array-share-prefix-cells : tie.Need-array-share-prefix-cells
-array-share-prefix-cells c = search rules
+slice_bounds-cells-end : tie.Need-slice_bounds-cells-end
+slice_bounds-cells-end c = search rules
 
-slice-aggregate-print-right : tie.Need-slice-aggregate-print-right
-slice-aggregate-print-right c = simp length-take (omega arith)
+slice_bounds-print_right-end : tie.Need-slice_bounds-print_right-end
+slice_bounds-print_right-end c = simp length-take (omega arith)
 
-print-right-requires : tie.Need-print-right-requires
-print-right-requires c κs = search rules
+print_right-requires : tie.Need-print_right-requires
+print_right-requires c κs = search rules
 
-slice-aggregate-print-others : tie.Need-slice-aggregate-print-others
-slice-aggregate-print-others c = search rules
+slice_bounds-print_others-end : tie.Need-slice_bounds-print_others-end
+slice_bounds-print_others-end c = search rules
 
-print-others-requires : tie.Need-print-others-requires
-print-others-requires c κs = search rules
+print_others-requires : tie.Need-print_others-requires
+print_others-requires c κs = search rules
 
-slice-aggregate-print-steps : tie.Need-slice-aggregate-print-steps
-slice-aggregate-print-steps c = search rules
+slice_bounds-print_steps-end : tie.Need-slice_bounds-print_steps-end
+slice_bounds-print_steps-end c = search rules
 
-print-steps-requires : tie.Need-print-steps-requires
-print-steps-requires c κs = search rules
+print_steps-requires : tie.Need-print_steps-requires
+print_steps-requires c κs = search rules
 
 returns : tie.Need-returns
 returns c = search rules
@@ -47,16 +47,16 @@ pub print_tables_spec : {M : Type 1} → statement M
 print_tables_spec =
     tie.close
     (tie.spec
-    load-requires
-    at-most-64-requires
-    slice-aggregate-distances
+    load-loaded-requires
+    at_most_64-n-requires
+    slice_bounds-distances-end
     distances-requires
-    cells-of-requires
-    array-share-prefix-cells
-    slice-aggregate-print-right
-    print-right-requires
-    slice-aggregate-print-others
-    print-others-requires
-    slice-aggregate-print-steps
-    print-steps-requires
+    cells_of-count-requires
+    slice_bounds-cells-end
+    slice_bounds-print_right-end
+    print_right-requires
+    slice_bounds-print_others-end
+    print_others-requires
+    slice_bounds-print_steps-end
+    print_steps-requires
     returns)

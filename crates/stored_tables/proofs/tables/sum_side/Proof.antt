@@ -4,67 +4,67 @@ use Rattle.std.proofs.Common.{◌-◌, ◌≤◌, rules}
 use Rattle.stored_tables.proofs.tables.sum_side.Statement.{statement}
 use Rattle.stored_tables.proofs.tables.sum_side.Tie as tie
 
-abbrev invariant-loop : tie.invariant-loop
-invariant-loop file table link side prefixes whole before ranks sum₀ prefix₀ sum prefix = prefix ≤ prefixes
+abbrev invariant-loop-prefix : tie.invariant-loop-prefix
+invariant-loop-prefix file table link side prefixes whole before ranks sum₀ prefix₀ sum prefix = prefix ≤ prefixes
 
-abbrev decreases-loop : tie.decreases-loop
-decreases-loop file table link side prefixes whole before ranks sum₀ prefix₀ sum prefix = prefixes - prefix
+abbrev decreases-loop-prefix : tie.decreases-loop-prefix
+decreases-loop-prefix file table link side prefixes whole before ranks sum₀ prefix₀ sum prefix = prefixes - prefix
 
-slice-aggregate-link-repair-with : tie.Need-slice-aggregate-link-repair-with invariant-loop decreases-loop
-slice-aggregate-link-repair-with c = search rules
+slice_bounds-link_repair_with-end : tie.Need-slice_bounds-link_repair_with-end invariant-loop-prefix decreases-loop-prefix
+slice_bounds-link_repair_with-end c = search rules
 
-link-repair-with-requires : tie.Need-link-repair-with-requires invariant-loop decreases-loop
-link-repair-with-requires c κs = search rules
+link_repair_with-requires : tie.Need-link_repair_with-requires invariant-loop-prefix decreases-loop-prefix
+link_repair_with-requires c κs = search rules
 
-code-requires : tie.Need-code-requires invariant-loop decreases-loop
+code-requires : tie.Need-code-requires invariant-loop-prefix decreases-loop-prefix
 code-requires c κs = search rules
 
-mixed-requires : tie.Need-mixed-requires invariant-loop decreases-loop
-mixed-requires c κs = search rules
+mixed-sum-requires : tie.Need-mixed-sum-requires invariant-loop-prefix decreases-loop-prefix
+mixed-sum-requires c κs = search rules
 
-loop-holds : tie.Need-loop-init invariant-loop decreases-loop
-loop-holds c = search rules
+loop-prefix-init : tie.Need-loop-prefix-init invariant-loop-prefix decreases-loop-prefix
+loop-prefix-init c = search rules
 
-slice-aggregate-prefix-repair-with : tie.Need-slice-aggregate-prefix-repair-with invariant-loop decreases-loop
-slice-aggregate-prefix-repair-with c = search rules
+slice_bounds-prefix_repair_with-end : tie.Need-slice_bounds-prefix_repair_with-end invariant-loop-prefix decreases-loop-prefix
+slice_bounds-prefix_repair_with-end c = search rules
 
-prefix-repair-with-requires : tie.Need-prefix-repair-with-requires invariant-loop decreases-loop
-prefix-repair-with-requires c κs = search rules
+prefix_repair_with-answer-requires : tie.Need-prefix_repair_with-answer-requires invariant-loop-prefix decreases-loop-prefix
+prefix_repair_with-answer-requires c κs = search rules
 
-code-requires-2 : tie.Need-code-requires-2 invariant-loop decreases-loop
-code-requires-2 c κs = search rules
+code-requires-then-whole : tie.Need-code-requires-then-whole invariant-loop-prefix decreases-loop-prefix
+code-requires-then-whole c κs = search rules
 
-mixed-requires-2 : tie.Need-mixed-requires-2 invariant-loop decreases-loop
-mixed-requires-2 c κs = search rules
+mixed-sum-requires-then-whole : tie.Need-mixed-sum-requires-then-whole invariant-loop-prefix decreases-loop-prefix
+mixed-sum-requires-then-whole c κs = search rules
 
-add-prefix : tie.Need-overflow-add-prefix invariant-loop decreases-loop
-add-prefix c = search rules
+overflow_add-prefix : tie.Need-overflow_add-prefix invariant-loop-prefix decreases-loop-prefix
+overflow_add-prefix c = search rules
 
-loop-less : tie.Need-loop-smaller invariant-loop decreases-loop
-loop-less c = search rules
+loop-prefix-smaller : tie.Need-loop-prefix-smaller invariant-loop-prefix decreases-loop-prefix
+loop-prefix-smaller c = search rules
 
-loop-again : tie.Need-loop-preserved invariant-loop decreases-loop
-loop-again c = search rules
+loop-prefix-preserved : tie.Need-loop-prefix-preserved invariant-loop-prefix decreases-loop-prefix
+loop-prefix-preserved c = search rules
 
-returns : tie.Need-returns invariant-loop decreases-loop
+returns : tie.Need-returns invariant-loop-prefix decreases-loop-prefix
 returns c = search rules
 
 pub sum_side_spec : {M : Type 1} → statement M
 sum_side_spec =
     tie.close
     (tie.spec
-    invariant-loop
-    decreases-loop
-    slice-aggregate-link-repair-with
-    link-repair-with-requires
+    invariant-loop-prefix
+    decreases-loop-prefix
+    slice_bounds-link_repair_with-end
+    link_repair_with-requires
     code-requires
-    mixed-requires
-    loop-holds
-    slice-aggregate-prefix-repair-with
-    prefix-repair-with-requires
-    code-requires-2
-    mixed-requires-2
-    add-prefix
-    loop-less
-    loop-again
+    mixed-sum-requires
+    loop-prefix-init
+    slice_bounds-prefix_repair_with-end
+    prefix_repair_with-answer-requires
+    code-requires-then-whole
+    mixed-sum-requires-then-whole
+    overflow_add-prefix
+    loop-prefix-smaller
+    loop-prefix-preserved
     returns)

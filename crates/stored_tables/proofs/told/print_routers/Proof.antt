@@ -4,47 +4,47 @@ use Rattle.std.proofs.Common.{◌-◌, ◌≤◌, length, rules}
 use Rattle.stored_tables.proofs.told.print_routers.Statement.{statement}
 use Rattle.stored_tables.proofs.told.print_routers.Tie as tie
 
-abbrev invariant-loop : tie.invariant-loop
-invariant-loop buffer count i₀ i = i ≤ length buffer
+abbrev invariant-loop-i : tie.invariant-loop-i
+invariant-loop-i buffer count i₀ i = i ≤ length buffer
 
-abbrev decreases-loop : tie.decreases-loop
-decreases-loop buffer count i₀ i = length buffer - i
+abbrev decreases-loop-i : tie.decreases-loop-i
+decreases-loop-i buffer count i₀ i = length buffer - i
 
-loop-holds : tie.Need-loop-init invariant-loop decreases-loop
-loop-holds c = search rules
+loop-i-init : tie.Need-loop-i-init invariant-loop-i decreases-loop-i
+loop-i-init c = search rules
 
-shared-slice-read-left : tie.Need-shared-slice-read-left invariant-loop decreases-loop
-shared-slice-read-left c = search rules
+bounds-buffer-i : tie.Need-bounds-buffer-i invariant-loop-i decreases-loop-i
+bounds-buffer-i c = search rules
 
-byte-requires : tie.Need-byte-requires invariant-loop decreases-loop
+byte-requires : tie.Need-byte-requires invariant-loop-i decreases-loop-i
 byte-requires c κs = search rules
 
-returns : tie.Need-returns invariant-loop decreases-loop
+returns-then-left : tie.Need-returns-then-left invariant-loop-i decreases-loop-i
+returns-then-left c = search rules
+
+overflow_add-i : tie.Need-overflow_add-i invariant-loop-i decreases-loop-i
+overflow_add-i c = search rules
+
+loop-i-smaller : tie.Need-loop-i-smaller invariant-loop-i decreases-loop-i
+loop-i-smaller c = search rules
+
+loop-i-preserved : tie.Need-loop-i-preserved invariant-loop-i decreases-loop-i
+loop-i-preserved c = search rules
+
+returns : tie.Need-returns invariant-loop-i decreases-loop-i
 returns c = search rules
-
-add-i : tie.Need-overflow-add-i invariant-loop decreases-loop
-add-i c = search rules
-
-loop-less : tie.Need-loop-smaller invariant-loop decreases-loop
-loop-less c = search rules
-
-loop-again : tie.Need-loop-preserved invariant-loop decreases-loop
-loop-again c = search rules
-
-returns-2 : tie.Need-returns-2 invariant-loop decreases-loop
-returns-2 c = search rules
 
 pub print_routers_spec : {M : Type 1} → statement M
 print_routers_spec =
     tie.close
     (tie.spec
-    invariant-loop
-    decreases-loop
-    loop-holds
-    shared-slice-read-left
+    invariant-loop-i
+    decreases-loop-i
+    loop-i-init
+    bounds-buffer-i
     byte-requires
-    returns
-    add-i
-    loop-less
-    loop-again
-    returns-2)
+    returns-then-left
+    overflow_add-i
+    loop-i-smaller
+    loop-i-preserved
+    returns)
