@@ -5,8 +5,8 @@
 use print::{end, number};
 use tables::print_tables;
 
+mod made;
 mod print;
-mod table;
 mod tables;
 mod told;
 

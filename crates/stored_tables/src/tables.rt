@@ -1,8 +1,8 @@
 // What the second calls answer for a file. The route buffer holds 255 in every byte before a call.
 ghost use Rattle.std.specs.Prelude.{◌≤◌};
 
+use super::made::{at_most_64, cells_of, length_of, less, make};
 use super::print::{end, number};
-use super::table::{at_most_64, cells_of, length_of, less, make};
 use super::told::{code, print_kept, print_played, print_repair};
 use network_file::load;
 use repair::{distances, link_repair_with, prefix_repair_with};

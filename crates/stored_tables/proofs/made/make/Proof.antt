@@ -1,8 +1,8 @@
 -- The invariant: `i` is at most the length, which a store keeps. The measure is what is left of it.
 -- Assumes nothing.
 use Rattle.std.proofs.Common.{◌≡◌, ◌-◌, ◌≤◌, length, rules}
-use Rattle.stored_tables.proofs.table.make.Statement.{statement}
-use Rattle.stored_tables.proofs.table.make.Tie as tie
+use Rattle.stored_tables.proofs.made.make.Statement.{statement}
+use Rattle.stored_tables.proofs.made.make.Tie as tie
 
 abbrev invariant-loop-i : tie.invariant-loop-i
 invariant-loop-i which cells table₀ n i₀ table i = (i ≤ length table₀) × (length table ≡ length table₀)
