@@ -18,7 +18,9 @@ OTHER = re.compile(r"^(?:ghost )?use ((?:Rattle\.(?:std|core|io|libc)|mathlib|na
 SPLIT = re.compile(r"([\s(){}\[\];,.«»\"]+)")
 DECLARED = re.compile(r"^\s*(?:unfoldable\s+|abbrev\s+)?(?:pub\s+)?((?:[^\s:(){}=.;,\"]+\s+)*[^\s:(){}=.;,\"]+)\s*:(?=\s|$)")
 # Names that would fall together with others, and how they are told apart.
-APART = {}
+APART = {"in-slots": "in_slots_lem"}
+# Own names whose declarations do not look like one: they begin like a reserved word, or are parameters of records.
+ALSO = {"keepIf", "withDistances", "areaAfter", "bufferAfter", "fromNear", "fromFar", "in-slots", "in-slot", "in-folded", "in-column", "in-extended", "in-gives", "in-make"}
 
 
 def antt_files():
@@ -104,7 +106,7 @@ def turn_edit(text, names):
 
 def main():
     tell = "--tell" in sys.argv
-    own = set()
+    own = set(ALSO)
     texts = {f: open(f, encoding="utf-8").read() for f in antt_files()}
     for f, t in texts.items():
         own |= declared(t)

@@ -10,9 +10,9 @@ use Rattle.avoid.specs.declared.Protected as declared
 abbrev pub asked : declared.Protected → Protected
 asked p = record { number = p.number; near = p.near; far = p.far; out = p.out; back = p.back; maintenance = under_maintenance }
 
--- a distance is below the costs over the link in both directions: `near` and `far` lead to S and E, `fromNear` and `fromFar` from there
-abbrev pub below_both : (own near far out back fromNear fromFar : ℕ) → Bool
-below_both own near far out back fromNear fromFar = ltb own (min (near + out + fromFar) unreachable) && ltb own (min (far + back + fromNear) unreachable)
+-- a distance is below the costs over the link in both directions: `near` and `far` lead to S and E, `from_near` and `from_far` from there
+abbrev pub below_both : (own near far out back from_near from_far : ℕ) → Bool
+below_both own near far out back from_near from_far = ltb own (min (near + out + from_far) unreachable) && ltb own (min (far + back + from_near) unreachable)
 
 -- Router x avoids the link on the way to a target, by the distances: `left` gives those to the target on the left side, `target` those
 -- to it in the sums, and `sums` those to S and E. Towards a router this is avoiding; towards a prefix it is only enough for it.

@@ -4,8 +4,7 @@ use Rattle.std.specs.Prelude.{ℕ, ◌*◌, ◌≤◌, List, length}
 use Rattle.lfa.specs.Network.{Arc}
 use Rattle.lfa.specs.Distance.{LeastCosts}
 use Rattle.lfa.specs.Space.{Protected}
-use Rattle.lfa.proofs.Laws.Bound.{Sound}
-use Rattle.lfa.proofs.Laws.Avoid.{Named}
+use Rattle.lfa.specs.Sound.{Sound, Named}
 use Rattle.metric.specs.Area.{held}
 
 -- the area holds the distances of a sound network, in which the arcs over the protected link are its two directions

@@ -7,9 +7,8 @@ use mathlib.Core.List.{List, map, Memᴰ}
 use native.Mathlib.Omega.{arith}
 use Rattle.lfa.specs.Network.{Arc, arc}
 use Rattle.lfa.specs.Distance.{unreachable, RouterPath, stay, via, LeastCosts, stage, distance_in}
-use Rattle.lfa.proofs.Laws.Walk.{Descends, level}
-use Rattle.lfa.proofs.Laws.Arrive.{Within}
-use Rattle.lfa.proofs.Laws.Bound.{Sound, distance_small, path_finite}
+use Rattle.lfa.specs.Sound.{Descends, level, Within, Sound}
+use Rattle.lfa.proofs.Laws.Bound.{distance_small, path_finite}
 use Rattle.lfa.proofs.Laws.Distance.{distances_least}
 use Rattle.lfa.proofs.Laws.List.{map_gives, map_make}
 use Rattle.distance.specs.Cells.{CostsCapped}

@@ -12,7 +12,7 @@ use lib.ListN.{length, get_or}
 use borrow.Author.Tests.{lt-ltb, le-ltb}
 use Rattle.lfa.specs.Network.{Arc, arc}
 use Rattle.lfa.specs.Distance.{unreachable, RouterPath, stay, via, LeastCosts, least, hop_cost}
-use Rattle.lfa.proofs.Laws.Arrive.{Within}
+use Rattle.lfa.specs.Sound.{Within}
 use Rattle.lfa.proofs.Laws.List.{mem_below, map_make}
 use Rattle.lfa.proofs.Laws.Counting.{map_below_gives}
 use Rattle.lfa.proofs.Laws.Hop.{route_append, hop_least, hop_found}

@@ -68,8 +68,8 @@ module _ {seed n i drawn : ℕ} {from to out back : List ℕ} (d : Drawing seed 
     links = λ j k. each j (omega arith) (decide (ltb j i));
   }
     where
-      in-column : i < 128
-      in-column = omega arith
+      in_column : i < 128
+      in_column = omega arith
 
       cells : ℕ → Type 0
       cells j =
@@ -79,20 +79,20 @@ module _ {seed n i drawn : ℕ} {from to out back : List ℕ} (d : Drawing seed 
       earlier : (j : ℕ) → j < i → cells j
       earlier j k =
           rw (
-            set_before from i a d.from_long in-column j k,
-            set_before to i b d.to_long in-column j k,
-            set_before out i ab d.out_long in-column j k,
-            set_before back i ba d.back_long in-column j k,
+            set_before from i a d.from_long in_column j k,
+            set_before to i b d.to_long in_column j k,
+            set_before out i ab d.out_long in_column j k,
+            set_before back i ba d.back_long in_column j k,
           )
           (d.links j k)
 
       here : cells i
       here =
           rw (
-            set_here from i a d.from_long in-column,
-            set_here to i b d.to_long in-column,
-            set_here out i ab d.out_long in-column,
-            set_here back i ba d.back_long in-column,
+            set_here from i a d.from_long in_column,
+            set_here to i b d.to_long in_column,
+            set_here out i ab d.out_long in_column,
+            set_here back i ba d.back_long in_column,
             from_is,
             to_is,
             ab-is ∙ out_is first e,

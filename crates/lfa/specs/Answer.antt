@@ -9,7 +9,7 @@ use Rattle.lfa.specs.Distance.{filled}
 use Rattle.lfa.specs.Space.{space_of}
 use Rattle.lfa.specs.Repair.{Told, Outcome, prefix_unreachable, prefix_untouched, none_serves, serving}
 use Rattle.lfa.specs.Route.{route_of}
-use Rattle.lfa.specs.Question.{Question, Call, load, fill, space, link_repair, prefix_repair, route, Buffer, work_area, route_buffer, network_asked, link_asked, prefix_asked, withDistances, link_found, prefix_found}
+use Rattle.lfa.specs.Question.{Question, Call, load, fill, space, link_repair, prefix_repair, route, Buffer, work_area, route_buffer, network_asked, link_asked, prefix_asked, with_distances, link_found, prefix_found}
 use Rattle.lfa.specs.Refusal.{Row, FileRow, no_pair, Left, as_lent, written, entry_of, Decided, decided, file_refusal, refusal_of, early_refusal}
 
 -- what a call answers, in document 01's numbers and words
@@ -33,7 +33,7 @@ route_for q prefix_unreachable = []
 route_for q prefix_untouched = []
 route_for q none_serves = []
 route_for q (serving t) =
-    withDistances (network_asked q) (λ d. route_of (network_asked q).routers (arcs (network_asked q)) d (prefix_asked q) q.choices (link_asked q).near t.first t.endpoint)
+    with_distances (network_asked q) (λ d. route_of (network_asked q).routers (arcs (network_asked q)) d (prefix_asked q) q.choices (link_asked q).near t.first t.endpoint)
 
 unfoldable pub route_played : Question → List ℕ
 route_played q = route_for q (prefix_found q)
@@ -55,7 +55,7 @@ route_answer (serving t) count = played count
 unfoldable pub computed : Question → Call → Answer
 computed q load = accepted
 computed q fill = done
-computed q (space s) = set (withDistances (network_asked q) (λ d. space_of s (network_asked q).routers (arcs (network_asked q)) d (link_asked q)))
+computed q (space s) = set (with_distances (network_asked q) (λ d. space_of s (network_asked q).routers (arcs (network_asked q)) d (link_asked q)))
 computed q (link_repair f) = repair_answer (link_found q)
 computed q (prefix_repair f) = repair_answer (prefix_found q)
 computed q (route f) = route_answer (prefix_found q) (length (route_played q))

@@ -6,6 +6,7 @@ pub mod Distance
 pub mod Walk
 pub mod Former
 pub mod Space
+pub mod Sound
 pub mod Ranks
 pub mod Repair
 pub mod Route

@@ -13,14 +13,14 @@ unfoldable pub below : ℕ → List ℕ
 below n = count_up 0 n
 
 -- x in front of xs where the test passes
-abbrev pub keepIf {ℓ} : {A : Type ℓ} → Bool → A → List A → List A
-keepIf true x xs = x ∷ xs
-keepIf false x xs = xs
+abbrev pub keep_if {ℓ} : {A : Type ℓ} → Bool → A → List A → List A
+keep_if true x xs = x ∷ xs
+keep_if false x xs = xs
 
 -- the elements that pass a test, in order
 unfoldable pub select {ℓ} : {A : Type ℓ} → (A → Bool) → List A → List A
 select p [] = []
-select p (x ∷ xs) = keepIf (p x) x (select p xs)
+select p (x ∷ xs) = keep_if (p x) x (select p xs)
 
 -- some element passes the test
 unfoldable pub any_of {ℓ} : {A : Type ℓ} → (A → Bool) → List A → Bool

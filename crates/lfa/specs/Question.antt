@@ -214,15 +214,15 @@ unfoldable pub prefix_asked : Question → Target
 prefix_asked q = get_or (network_asked q).prefixes q.prefix []
 
 -- what is computed from the distances of a network
-unfoldable pub withDistances {ℓ} : {A : Type ℓ} → Network → ((ℕ → ℕ → ℕ) → A) → A
-withDistances net compute = let t : Table = distances net in compute (distance_in t)
+unfoldable pub with_distances {ℓ} : {A : Type ℓ} → Network → ((ℕ → ℕ → ℕ) → A) → A
+with_distances net compute = let t : Table = distances net in compute (distance_in t)
 
 -- what a link repair finds, and what a prefix repair or a route call finds
 unfoldable pub link_found : Question → Outcome
-link_found q = withDistances (network_asked q) (λ d. link_outcome q.ranks (network_asked q).routers (arcs (network_asked q)) d (link_asked q))
+link_found q = with_distances (network_asked q) (λ d. link_outcome q.ranks (network_asked q).routers (arcs (network_asked q)) d (link_asked q))
 
 unfoldable pub prefix_found : Question → Outcome
-prefix_found q = withDistances (network_asked q) (λ d. prefix_outcome q.ranks (network_asked q).routers (arcs (network_asked q)) d (link_asked q) (prefix_asked q))
+prefix_found q = with_distances (network_asked q) (λ d. prefix_outcome q.ranks (network_asked q).routers (arcs (network_asked q)) d (link_asked q) (prefix_asked q))
 
 -- what a call's search finds; nothing where the call does not search
 unfoldable pub searched : Question → Call → Option Outcome

@@ -9,7 +9,7 @@ use native.Mathlib.Omega.{arith}
 use lib.ListN.{length, get_or, length-append}
 use lib.Bits.{bit_and}
 use lib.Count.{ones}
-use Rattle.lfa.specs.Lists.{count_up, below, keepIf, select, count, one}
+use Rattle.lfa.specs.Lists.{count_up, below, keep_if, select, count, one}
 use Rattle.lfa.specs.Space.{has, size_of}
 use Rattle.lfa.proofs.Laws.Set.{size_ones}
 use Rattle.metric.proofs.Laws.List.{below_more, select_append}
@@ -40,11 +40,11 @@ from_none set = refl
 module _ (set r : ℕ) (h : r < 64) where
   pub from_member : bit_and (set / 2 ^ r) 1 ≡ 1 → from set r ≡ r ∷ from set (r + 1)
   unfolding select
-  from_member e = ap (select (has set)) (count_front r h) ∙ ap (λ (b : Bool). keepIf b r (from set (r + 1))) (has_bit set r e)
+  from_member e = ap (select (has set)) (count_front r h) ∙ ap (λ (b : Bool). keep_if b r (from set (r + 1))) (has_bit set r e)
 
   pub from_other : (bit_and (set / 2 ^ r) 1 ≡ 1 → ⊥) → from set r ≡ from set (r + 1)
   unfolding select
-  from_other e = ap (select (has set)) (count_front r h) ∙ ap (λ (b : Bool). keepIf b r (from set (r + 1))) (has_no_bit set r e)
+  from_other e = ap (select (has set)) (count_front r h) ∙ ap (λ (b : Bool). keep_if b r (from set (r + 1))) (has_no_bit set r e)
 
   -- the search for the member with `left` members before it
   module _ (left : ℕ) {m : ℕ} (sought : get_or (from set r) left 0 ≡ m) where
@@ -63,7 +63,7 @@ member_none {r} set left e sought = sym (ap (λ (i : ℕ). get_or (from set i) l
 -- ---- how many members there are
 
 -- as many as the test passes
-length_keep : (b : Bool) (x : ℕ) → length (keepIf b x []) ≡ one b
+length_keep : (b : Bool) (x : ℕ) → length (keep_if b x []) ≡ one b
 length_keep true x = refl
 length_keep false x = refl
 

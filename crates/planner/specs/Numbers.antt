@@ -44,14 +44,14 @@ network_in loaded =
     }
 
 -- What a C function owes for a question: its answer as numbers, and what each lent buffer holds at exit.
-pub record Numbered (q : Question) (r : Numbers) (area areaAfter : List ℕ) : Type 0 where
+pub record Numbered (q : Question) (r : Numbers) (area area_after : List ℕ) : Type 0 where
   pub numbers_are : r ≡ numbers_of (answer_to q)
-  pub area_is : areaAfter ≡ exit_of q work_area area
+  pub area_is : area_after ≡ exit_of q work_area area
 
-pub record NumberedRouteWith (q : Question) (r : Numbers) (buffer bufferAfter : List ℕ) : Type 0 where
+pub record NumberedRouteWith (q : Question) (r : Numbers) (buffer buffer_after : List ℕ) : Type 0 where
   pub numbers_are : r ≡ numbers_of (answer_to q)
-  pub buffer_is : bufferAfter ≡ exit_of q route_buffer buffer
+  pub buffer_is : buffer_after ≡ exit_of q route_buffer buffer
 
-pub record NumberedRoute (q : Question) (r : Numbers) (area areaAfter buffer bufferAfter : List ℕ) : Type 0 where
-  pub numbered : Numbered q r area areaAfter
-  pub buffer_is : bufferAfter ≡ exit_of q route_buffer buffer
+pub record NumberedRoute (q : Question) (r : Numbers) (area area_after buffer buffer_after : List ℕ) : Type 0 where
+  pub numbered : Numbered q r area area_after
+  pub buffer_is : buffer_after ≡ exit_of q route_buffer buffer

@@ -11,8 +11,8 @@ use Rattle.lfa.specs.Network.{Arc, Target}
 use Rattle.lfa.specs.Walk.{Step}
 use Rattle.lfa.specs.Route.{Move, deliver, go, options, choice_at, option_taken, Takes, FirstLeg, arrived, onward as first_on, SecondLeg, delivered as second-end, onward as second-on, HasMove}
 use Rattle.lfa.proofs.Laws.List.{get_d_in}
-use Rattle.lfa.proofs.Laws.Walk.{Descends, measure, step_lowers}
-use Rattle.lfa.proofs.Laws.Arrive.{Within}
+use Rattle.lfa.proofs.Laws.Walk.{measure, step_lowers}
+use Rattle.lfa.specs.Sound.{Descends, Within}
 use Rattle.lfa.proofs.Laws.Options.{options_give, move_next, never_both}
 use Rattle.options.specs.declared.Move as declared
 use Rattle.options.specs.declared.Move.TheVariants.{Deliver, Go}

@@ -2,7 +2,7 @@
 -- Assumes nothing.
 use Rattle.std.specs.Prelude.{ℕ, suc, ◌*◌, ◌≤◌, ◌≡◌, List, [], ◌∷◌}
 use Rattle.lfa.specs.Route.{Move, deliver, go, Takes}
-use Rattle.lfa.proofs.Laws.Walk.{Descends, level}
+use Rattle.lfa.specs.Sound.{Descends, level}
 use Rattle.metric.specs.Fit.{ColumnsWithin, SlotsWithin}
 use Rattle.metric.specs.Columns.{arcs_in}
 

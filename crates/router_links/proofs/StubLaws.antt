@@ -6,7 +6,7 @@ use mathlib.Core.Bool.{Bool, true, false, ◌&&◌}
 use mathlib.Core.List.{List, map, Memᴰ}
 use lib.Dec.{eqb}
 use borrow.Author.Tests.{eqb-true, eq-eqb}
-use Rattle.lfa.specs.Lists.{count_up, below, select, keepIf}
+use Rattle.lfa.specs.Lists.{count_up, below, select, keep_if}
 use Rattle.lfa.specs.File.{Bytes}
 use Rattle.lfa.proofs.Laws.Test.{and_left, and_right, and_make, same_test}
 use Rattle.lfa.proofs.Laws.List.{map_gives}
@@ -29,7 +29,7 @@ least_over key best l k zero = refl
 least_over key best l k (suc n) = go (is_stub_key key (entry_at l k)) refl (λ z. least_over key z l (suc k) n)
   where
     go : (t : Bool) → is_stub_key key (entry_at l k) ≡ t → ((z : ℕ) → stub_least key z l (suc k) n ≡ least_below z (map metric_of (select (is_stub_key key) (links_from l (suc k) n)))) →
-        stub_least key (least_step key best (entry_at l k)) l (suc k) n ≡ least_below best (map metric_of (keepIf t (entry_at l k) (select (is_stub_key key) (links_from l (suc k) n))))
+        stub_least key (least_step key best (entry_at l k)) l (suc k) n ≡ least_below best (map metric_of (keep_if t (entry_at l k) (select (is_stub_key key) (links_from l (suc k) n))))
     go true e more = unfold least_step least_below in rw (least_step, e) (more (min best (metric_of (entry_at l k))))
     go false e more = unfold least_step least_below in rw (least_step, e) (more best)
 

@@ -10,7 +10,7 @@ use native.Mathlib.Decide.{ℕ_discrete}
 use lib.Dec.{eqb, ltb}
 use lib.ListN.{length, get_or, set}
 use lib.Seq.{get_or-set_same, get_or-set_other}
-use Rattle.lfa.specs.Lists.{count_up, below, keepIf, select}
+use Rattle.lfa.specs.Lists.{count_up, below, keep_if, select}
 use Rattle.lfa.specs.Space.{FirstHop, has}
 use Rattle.lfa.specs.Ranks.{rank_of}
 use Rattle.lfa.specs.Repair.{or_else, no_later}
@@ -86,13 +86,13 @@ module _ (ranks : List ℕ) (n : ℕ) (area : List ℕ) (near far : ℕ) (column
   abbrev up_to : ℕ → List Ordered
   up_to = hop_pairs ranks n area near far column f protecting set
 
-  one_more : (y : ℕ) (b : Bool) → may_end set near far y ≡ b → up_to (y + 1) ≡ up_to y ++ map at (keepIf b y [])
+  one_more : (y : ℕ) (b : Bool) → may_end set near far y ≡ b → up_to (y + 1) ≡ up_to y ++ map at (keep_if b y [])
   unfolding hop_pairs select
   one_more y b t =
       ap (λ (l : List ℕ). map at (select (may_end set near far) l)) (below_more y)
       ∙ ap (map at) (select_append (may_end set near far) (below y) (y ∷ []))
-      ∙ map-append at (select (may_end set near far) (below y)) (keepIf (may_end set near far y) y [])
-      ∙ ap (λ (c : Bool). up_to y ++ map at (keepIf c y [])) t
+      ∙ map-append at (select (may_end set near far) (below y)) (keep_if (may_end set near far y) y [])
+      ∙ ap (λ (c : Bool). up_to y ++ map at (keep_if c y [])) t
 
   key_is : {key : ℕ} (keys : List ℕ) (y : ℕ) → KeysOf ranks keys → KeyOf keys n area near column f.router protecting y key → KeyIs (at y) key
   unfolding ordered_at

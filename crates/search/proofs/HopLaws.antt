@@ -9,7 +9,7 @@ use native.Mathlib.Omega.{arith}
 use lib.Dec.{eqb}
 use lib.ListN.{length, get_or, set, length-set}
 use lib.Seq.{get_or-set_same, get_or-set_other}
-use Rattle.lfa.specs.Lists.{count_up, below, select, keepIf}
+use Rattle.lfa.specs.Lists.{count_up, below, select, keep_if}
 use Rattle.lfa.specs.Network.{Arc, arc, arcs_from}
 use Rattle.lfa.proofs.Laws.Counting.{map_below_same}
 use Rattle.lfa.proofs.Laws.Test.{or_false_left, or_false_right}
@@ -90,7 +90,7 @@ module _ (q : Protected) (from to out back : List ℕ) where
   arc_tried a f p = record {
     few = omega (arith, f.few, p.few);
     long = p.long ∙ f.long;
-    all = p.listed ∙ ap (λ (l : List ℕ). l ++ keepIf (test a) a []) f.all ∙ sym (ap (select test) (below_more a) ∙ select_append test (below a) (a ∷ []));
+    all = p.listed ∙ ap (λ (l : List ℕ). l ++ keep_if (test a) a []) f.all ∙ sym (ap (select test) (below_more a) ∙ select_append test (below a) (a ∷ []));
   }
 
   -- No arc of a link that does not touch S leaves S, so that both may be passed over.

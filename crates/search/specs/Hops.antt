@@ -1,7 +1,7 @@
 -- The protected link and the first hops, as columns hold them.
 -- Assumes nothing.
 use Rattle.std.specs.Prelude.{ℕ, ◌+◌, ◌*◌, ◌≤◌, ◌≡◌, Bool, List, [], ◌++◌, map, length, get_or}
-use Rattle.lfa.specs.Lists.{below, keepIf, select}
+use Rattle.lfa.specs.Lists.{below, keep_if, select}
 use Rattle.lfa.specs.Network.{link}
 use Rattle.lfa.specs.Space.{under_maintenance, Protected, protected_by, FirstHop}
 use Rattle.arcs.specs.Arcs.{leaves_near, hop_by}
@@ -18,7 +18,7 @@ arcs_listed count arcs = map (λ i. get_or arcs i 0) (below count)
 pub record Put (kept : Bool) (a count : ℕ) (arcs : List ℕ) (all : ℕ) (after : List ℕ) : Type 0 where
   pub few : all ≤ count + 1
   pub long : length after ≡ length arcs
-  pub listed : arcs_listed all after ≡ arcs_listed count arcs ++ keepIf kept a []
+  pub listed : arcs_listed all after ≡ arcs_listed count arcs ++ keep_if kept a []
 
 -- the column holds the first hops among the arcs of the links, in file order
 pub record Listed (q : Protected) (from to out back : List ℕ) (links count : ℕ) (arcs : List ℕ) : Type 0 where

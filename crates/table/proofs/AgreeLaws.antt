@@ -5,7 +5,7 @@ use mathlib.Core.Path.{◌≡◌}
 use mathlib.Core.Bool.{Bool, true, false, false≢true}
 use mathlib.Core.List.{List}
 use native.Mathlib.Omega.{arith}
-use Rattle.lfa.proofs.Laws.Arrive.{Within}
+use Rattle.lfa.specs.Sound.{Within}
 use Rattle.metric.specs.Fit.{ColumnsWithin}
 use Rattle.metric.specs.Area.{area_cell}
 use Rattle.metric.specs.Columns.{arcs_in}

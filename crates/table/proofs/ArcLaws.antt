@@ -10,7 +10,7 @@ use native.Mathlib.Decide.{dec_lt}
 use lib.ListN.{get_or}
 use Rattle.lfa.specs.Network.{Arc, arc}
 use Rattle.lfa.specs.Space.{has}
-use Rattle.lfa.proofs.Laws.Arrive.{Within}
+use Rattle.lfa.specs.Sound.{Within}
 use Rattle.metric.specs.Area.{area_cell}
 use Rattle.metric.specs.RightTable.{RightTable}
 use Rattle.table.specs.Sums.{RowsCopied}

@@ -15,9 +15,8 @@ use Rattle.lfa.specs.Distance.{LeastCosts, distances, distance_in, HoldsDistance
 use Rattle.lfa.proofs.Laws.Test.{and_left, and_right, and_make, fails_left, fails_right, same_test}
 use Rattle.lfa.proofs.Laws.List.{every_gives, every_make}
 use Rattle.lfa.proofs.Laws.Counting.{length_map_below, map_below_at}
-use Rattle.lfa.proofs.Laws.Arrive.{Within}
-use Rattle.lfa.proofs.Laws.Walk.{Descends, level}
-use Rattle.lfa.proofs.Laws.Bound.{Sound, distance_small}
+use Rattle.lfa.specs.Sound.{Within, Descends, level, Sound}
+use Rattle.lfa.proofs.Laws.Bound.{distance_small}
 use Rattle.lfa.proofs.Laws.Distance.{distances_least}
 use Rattle.lfa.proofs.Laws.Holds.{holds_gives, holds_make}
 use Rattle.lfa.proofs.Laws.Network.{arcs_give, Direction}

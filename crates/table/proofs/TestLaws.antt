@@ -12,7 +12,7 @@ use lib.Arith.{digits_lt}
 use lib.ListN.{get_or}
 use Rattle.lfa.specs.Network.{Arc, arc}
 use Rattle.lfa.specs.Distance.{unreachable}
-use Rattle.lfa.proofs.Laws.Arrive.{Within}
+use Rattle.lfa.specs.Sound.{Within}
 use Rattle.metric.specs.Area.{area_cell}
 use Rattle.metric.specs.RightTable.{RightTable}
 use Rattle.metric.proofs.Laws.Area.{each_place}

@@ -17,7 +17,7 @@ use Rattle.lfa.specs.Ranks.{ascending, times_given, is_arrangement}
 use Rattle.lfa.specs.Repair.{Pair, is_endpoint, pairs_of, pairs, serves, may_cross, node_protects, or_else, base_class_of, class_of, told_of, Keys, keys_of, key, no_later, earlier, choose, pair_key, first_pair, outcome_of, link_outcome, prefix_outcome}
 use Rattle.lfa.specs.Route.{is_step_to, next_routers, delivers, moves_of, options, choice_at, option_taken, play_to, play_on, route_of}
 use Rattle.lfa.proofs.Laws.Turned.{early_given}
-use Rattle.lfa.specs.Question.{Question, route_buffer, a_link, cells_from, inputs_of, input_number, has_input, HasInput, loading, ask_space, ask_link, ask_prefix, ask_route, ask_link_with, ask_prefix_with, ask_route_with, network_asked, link_asked, prefix_asked, withDistances, link_found, prefix_found, searched, if_none}
+use Rattle.lfa.specs.Question.{Question, route_buffer, a_link, cells_from, inputs_of, input_number, has_input, HasInput, loading, ask_space, ask_link, ask_prefix, ask_route, ask_link_with, ask_prefix_with, ask_route_with, network_asked, link_asked, prefix_asked, with_distances, link_found, prefix_found, searched, if_none}
 use Rattle.lfa.specs.Refusal.{EarlyRow, short_area, wrong_table, short_buffer, bad_ranks, no_such_link, EarlyApplies, tries_early, file_returned, returned, file_number, leaves_all, entry_of, file_rows, early_rows, question_rows, all_rows, tries, rows_tried, first_row, in_file, file_refusal, refusal_of, sized_returned}
 use Rattle.lfa.specs.Answer.{refused, refusal, route_for, route_played, repair_answer, route_answer, computed, answer_to, written_to, leave, exit_by, exit_of}
 use Rattle.worked.specs.Tables.{ring, ring4prefix, ring5prefix, ring4attached, ring4cost3, ring5attached, behind_far, beside_far, ring3cost2, ring4cost10, two_routers, one_router, members, told, starred, ranked, tabled, ended, missed, Worked, asked, route}
@@ -33,7 +33,7 @@ yielded_all (w ∷ ws) = yielded w ∷ yielded_all ws
 
 -- to unfold this is to unfold every definition that an answer rests on
 unfoldable opened : Unit {0}
-unfolding count_up below select any_of every_below member_of flat count first_failing unless table cell times_given is_arrangement router arcs arcs_from byte_at word_at part_of all_zero blocks_in block_of sum_words check_of routers_of links_of prefixes_of ceil link_blocks prefix_blocks blocks_needed link_entry link_in prefix_entry attachments slot_router slot prefix_in link_of prefix_of network_of length_good check_good head_good block_count_good later_good entries_in sound_block block_good sound_link link_good join_same link_new slot_good sound_prefix prefix_good slot_new routers_new file_of blocks_of prefix_block link_block entries_block prefix_bytes slot_bytes link_bytes head_block block_bytes pad word_bytes least cost_over towards hop_cost direct through stage distances distance_in attachment_of is_attached is_step leads takers over over_from avoids crosses into visits protected_by protected is_first hop_over first_hops in_space set_of space_of is_endpoint pairs_of pairs serves may_cross node_protects or_else base_class_of class_of told_of key no_later earlier choose pair_key first_pair outcome_of link_outcome prefix_outcome is_step_to next_routers delivers moves_of options choice_at option_taken play_to play_on route_of answer_to route_played loading ask_space ask_link ask_prefix ask_route network_asked link_asked prefix_asked withDistances link_found prefix_found searched ask_link_with ask_prefix_with ask_route_with cells_from cells_hold holds_distances inputs_of input_number has_input if_none file_returned returned sized_returned file_number leaves_all entry_of file_rows early_rows question_rows all_rows tries rows_tried first_row in_file file_refusal refusal_of refusal route_for repair_answer route_answer computed written_to leave exit_by exit_of
+unfolding count_up below select any_of every_below member_of flat count first_failing unless table cell times_given is_arrangement router arcs arcs_from byte_at word_at part_of all_zero blocks_in block_of sum_words check_of routers_of links_of prefixes_of ceil link_blocks prefix_blocks blocks_needed link_entry link_in prefix_entry attachments slot_router slot prefix_in link_of prefix_of network_of length_good check_good head_good block_count_good later_good entries_in sound_block block_good sound_link link_good join_same link_new slot_good sound_prefix prefix_good slot_new routers_new file_of blocks_of prefix_block link_block entries_block prefix_bytes slot_bytes link_bytes head_block block_bytes pad word_bytes least cost_over towards hop_cost direct through stage distances distance_in attachment_of is_attached is_step leads takers over over_from avoids crosses into visits protected_by protected is_first hop_over first_hops in_space set_of space_of is_endpoint pairs_of pairs serves may_cross node_protects or_else base_class_of class_of told_of key no_later earlier choose pair_key first_pair outcome_of link_outcome prefix_outcome is_step_to next_routers delivers moves_of options choice_at option_taken play_to play_on route_of answer_to route_played loading ask_space ask_link ask_prefix ask_route network_asked link_asked prefix_asked with_distances link_found prefix_found searched ask_link_with ask_prefix_with ask_route_with cells_from cells_hold holds_distances inputs_of input_number has_input if_none file_returned returned sized_returned file_number leaves_all entry_of file_rows early_rows question_rows all_rows tries rows_tried first_row in_file file_refusal refusal_of refusal route_for repair_answer route_answer computed written_to leave exit_by exit_of
 opened = tt
 
 tabled_yielded : yielded_all tabled ≡ tabled

@@ -27,13 +27,13 @@ module _ (n : ℕ) (area : List ℕ) (few : n ≤ 64) (long : n * n ≤ length a
   prefix_known routers costs slot count w e = e ∙ rw (cells_fit_lem n (length area) few long, slots_fit_lem w, prefix_column)
 
 -- a router is in one of the slots exactly when it is attached
-in-slots : (routers costs : List ℕ) (slot count x : ℕ) → in_slots routers slot count x ≡ is_attached (slots_in routers costs slot count) x
+in_slots_lem : (routers costs : List ℕ) (slot count x : ℕ) → in_slots routers slot count x ≡ is_attached (slots_in routers costs slot count) x
 unfolding in_slots is_attached attachment_of slots_in
-in-slots routers costs slot count x = sym (any_map (attachment_of x) (λ s. at (get_or routers (slot + s) 0) (get_or costs (slot + s) 0)) (below count))
+in_slots_lem routers costs slot count x = sym (any_map (attachment_of x) (λ s. at (get_or routers (slot + s) 0) (get_or costs (slot + s) 0)) (below count))
 
 -- The set holds just the routers attached to the prefix.
 pub attached_known : {n slot count x : ℕ} {routers : List ℕ} (costs : List ℕ) → n ≤ 64 → SlotsWithin n slot count routers → x < n → has (attached_set routers slot count) x ≡ is_attached (slots_in routers costs slot count) x
 unfolding attached_set
 attached_known {n} {slot} {count} {x} {routers} costs few w h =
     let wide : SlotsWithin 64 slot count routers = record { few = w.few; router_in = λ s k. omega (arith, w.router_in s k) } in
-    rw (slots_fit_lem wide, attached_set) (has_set_of 64 (in_slots routers slot count) x (omega arith) ∙ in-slots routers costs slot count x)
+    rw (slots_fit_lem wide, attached_set) (has_set_of 64 (in_slots routers slot count) x (omega arith) ∙ in_slots_lem routers costs slot count x)

@@ -12,9 +12,8 @@ use Rattle.lfa.specs.Space.{protected}
 use Rattle.lfa.specs.Refusal.{FileRow, Decided, file_refusal, Accepted}
 use Rattle.lfa.specs.Answer.{network_loaded, part_if, link_part, prefix_part}
 use Rattle.lfa.proofs.Laws.List.{get_d_in}
-use Rattle.lfa.proofs.Laws.Walk.{Descends, level}
-use Rattle.lfa.proofs.Laws.Bound.{Sound, Capped}
-use Rattle.lfa.proofs.Laws.Avoid.{Named}
+use Rattle.lfa.specs.Sound.{Descends, level, Sound, Named}
+use Rattle.lfa.proofs.Laws.Bound.{Capped}
 use Rattle.lfa.proofs.Laws.Network.{limits_links, limits_descend, limits_sound, limits_distances, limits_named}
 use Rattle.lfa.proofs.Laws.FileRows.{accepted_passes_rows, accepted_passes, passes_accepted}
 use Rattle.lfa.proofs.Laws.File.Passes.{AreBytes}

@@ -5,15 +5,16 @@ use Prim.Native.Nat.{ℕ, zero, suc, ◌+◌, ◌≤◌, ◌<◌}
 use Rattle.std.specs.Prelude.{◌≡◌, refl, ◌⊎◌, Bool}
 use Rattle.std.proofs.Common.{inl, inr, ap, eq-or-lt_of_le, le_of_suc-le-suc}
 use Rattle.std.proofs.Math.Bool.{true, false}
-use mathlib.Core.List.{List, Memᴰ}
+use mathlib.Core.List.{List}
 use native.Mathlib.Omega.{arith}
 use Rattle.std.proofs.Math.Dec.{ltb}
 use borrow.Author.Tests.{ltb-true, lt-ltb, le-ltb}
 use Rattle.lfa.specs.Lists.{one, count}
-use Rattle.lfa.specs.Network.{Arc, arc, Target}
+use Rattle.lfa.specs.Network.{Arc, Target}
 use Rattle.lfa.specs.Distance.{unreachable, LeastCosts, towards}
 use Rattle.lfa.specs.Walk.{Step, WalkBy, Walk, here, hop, Arrives}
-use Rattle.lfa.proofs.Laws.Walk.{Descends, measure, step_lowers, walk_finite, onward}
+use Rattle.lfa.proofs.Laws.Walk.{measure, step_lowers, walk_finite, onward}
+use Rattle.lfa.specs.Sound.{Descends, Within}
 
 one_mono : (a b : Bool) → (a ≡ true → b ≡ true) → one a ≤ one b
 one_mono true b f = rw (f refl) (omega arith)
@@ -48,11 +49,6 @@ count_all (suc n) = omega (arith, count_all n)
 
 count_most : (p : ℕ → Bool) (n z : ℕ) → z < n → p z ≡ false → count p n < n
 count_most p n z h f = omega (arith, count_strict p (λ _. true) (λ i e. refl) n z h f refl, count_all n)
-
--- the hops lead from and to routers below n
-pub record Within (hops : List Arc) (n : ℕ) : Type 0 where
-  pub from : {x z c l : ℕ} → Memᴰ (arc x z c l) hops → x < n
-  pub to : {x z c l : ℕ} → Memᴰ (arc x z c l) hops → z < n
 
 -- how many of the routers below n have a number below b
 unfoldable pub rank : (ℕ → ℕ) → ℕ → ℕ → ℕ

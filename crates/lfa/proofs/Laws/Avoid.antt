@@ -16,7 +16,8 @@ use Rattle.lfa.proofs.Laws.Test.{and_left, and_right, and_make, or_cases, or_lef
 use Rattle.lfa.proofs.Laws.List.{any_gives, any_make, select_gives, select_make, mem_below, member_gives, member_make}
 use Rattle.lfa.proofs.Laws.Attached.{unattached_gives, unattached_make}
 use Rattle.lfa.proofs.Laws.Walk.{crossing_equation, over_bound, NoneLeaves, equation_crossing}
-use Rattle.lfa.proofs.Laws.Arrive.{Within, Falls, walk_few}
+use Rattle.lfa.proofs.Laws.Arrive.{Falls, walk_few}
+use Rattle.lfa.specs.Sound.{Within, Named}
 
 -- ---- steps
 
@@ -147,12 +148,6 @@ avoids_make n hops d to l x a = and_make _ _ (lt-ltb _ _ a.reachable) (not_make 
     go r = a.none r.u r.v (record { count = r.count; walk = r.walk; step = rw (is_over r.u r.v r.step.cost r.l r.is_wanted) at r.step })
 
 -- ---- the inequalities
-
--- the arcs over the protected link are its two directions, and no others
-pub record Named (hops : List Arc) (q : Protected) : Type 0 where
-  pub outward : Memᴰ (arc q.near q.far q.out q.number) hops
-  pub backward : Memᴰ (arc q.far q.near q.back q.number) hops
-  pub only : {u v c : ℕ} → Memᴰ (arc u v c q.number) hops → ((u ≡ q.near) × (v ≡ q.far) × (c ≡ q.out)) ⊎ ((u ≡ q.far) × (v ≡ q.near) × (c ≡ q.back))
 
 -- D(x,t) is finite, and below the cost over the link in either direction
 pub record Below (d : ℕ → ℕ → ℕ) (q : Protected) (to : Target) (x : ℕ) : Type 0 where

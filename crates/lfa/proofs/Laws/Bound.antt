@@ -4,20 +4,13 @@
 use Rattle.std.specs.Prelude.{ℕ, ◌+◌, ◌*◌, ◌≤◌, ◌<◌}
 use mathlib.Core.List.{List, Memᴰ}
 use Rattle.std.proofs.Common.{arith}
-use Rattle.lfa.specs.Network.{Arc, arc, at, Target, router}
+use Rattle.lfa.specs.Network.{Arc, at, Target, router}
 use Rattle.lfa.specs.Distance.{unreachable, RouterPath, stay, via, LeastCosts, towards}
 use Rattle.lfa.specs.Walk.{Walk, here, hop, Arrives}
-use Rattle.lfa.proofs.Laws.Walk.{Descends, measure, router_none_leaves, tight_walk}
-use Rattle.lfa.proofs.Laws.Arrive.{Within, Falls, measure_falls, walk_few, arrives}
+use Rattle.lfa.proofs.Laws.Walk.{measure, router_none_leaves, tight_walk}
+use Rattle.lfa.specs.Sound.{Sound}
+use Rattle.lfa.proofs.Laws.Arrive.{Falls, measure_falls, walk_few, arrives}
 use Rattle.lfa.proofs.Laws.Target.{towards_router, towards_over}
-
--- the hops of an accepted network of n routers
-pub record Sound (n : ℕ) (hops : List Arc) : Type 0 where
-  pub few : n ≤ 64
-  pub within : Within hops n
-  pub height : ℕ → ℕ
-  pub descends : Descends hops height
-  pub capped : {x z c l : ℕ} → Memᴰ (arc x z c l) hops → c ≤ 65535
 
 -- some number falls at each step
 pub falls : {n : ℕ} {hops : List Arc} → Sound n hops → (d : ℕ → ℕ → ℕ) (to : Target) → (m : ℕ → ℕ) × Falls hops d to m

@@ -13,7 +13,8 @@ use Rattle.lfa.specs.Space.{Protected}
 use Rattle.lfa.specs.Ranks.{classes}
 use Rattle.lfa.specs.Repair.{Pair, NodeProtecting, node_protects, HasBaseClass, neighbour_downstream, neighbour_other, tunnel_downstream, tunnel_other, HasClass, node_protecting, any_other, or_else, base_class_of, class_of}
 use Rattle.lfa.proofs.Laws.Test.{and_left, and_right, and_make, not_make, not_gives}
-use Rattle.lfa.proofs.Laws.Bound.{Sound, falls}
+use Rattle.lfa.proofs.Laws.Bound.{falls}
+use Rattle.lfa.specs.Sound.{Sound}
 use Rattle.lfa.proofs.Laws.Visit.{visits_gives, visits_make, arrival_visits}
 
 -- ---- document 01's class

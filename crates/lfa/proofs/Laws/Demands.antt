@@ -5,7 +5,7 @@ use Rattle.std.proofs.Common.{sym, ◌∙◌, subst, inl, inr}
 use Rattle.lfa.specs.Network.{router}
 use Rattle.lfa.specs.Space.{space_of}
 use Rattle.lfa.specs.Repair.{MayCross, prefix_unreachable, prefix_untouched}
-use Rattle.lfa.specs.Question.{Question, Source, link_repair, a_link, HasInput, network_asked, link_asked, prefix_asked, withDistances, link_found, prefix_found}
+use Rattle.lfa.specs.Question.{Question, Source, link_repair, a_link, HasInput, network_asked, link_asked, prefix_asked, with_distances, link_found, prefix_found}
 use Rattle.lfa.specs.Refusal.{Posed}
 use Rattle.lfa.specs.Answer.{untouched, unreached, computed, answer_to}
 use Rattle.lfa.specs.Demands.{N, Hops, D, HasThis, Demand2, Repaired, Demand3, Demands}
@@ -32,7 +32,7 @@ use Rattle.lfa.proofs.Laws.PosedWhen.{posed_when}
 -- ---- demand 2
 
 the_demand_2 : (q : Question) → Posed q → Demand2 q
-unfolding computed withDistances
+unfolding computed with_distances
 the_demand_2 q p = record {
   least_costs = least_costs q p;
   distances_left = λ h area x t hx ht. rw (posed_work q p area) (work_cell (network_asked q) area x t hx ht);

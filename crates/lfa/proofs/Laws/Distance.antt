@@ -10,7 +10,7 @@ use Rattle.lfa.specs.Network.{Arc, arc}
 use Rattle.lfa.specs.Distance.{unreachable, RouterPath, stay, via, LeastCosts, direct, through, stage, distance_in}
 use Rattle.lfa.proofs.Laws.Test.{decide}
 use Rattle.lfa.proofs.Laws.Table.{cell_in_lem, cell_out}
-use Rattle.lfa.proofs.Laws.Arrive.{Within}
+use Rattle.lfa.specs.Sound.{Within}
 use Rattle.lfa.proofs.Laws.Hop.{route_append, route_cost, direct_least, direct_most, direct_path}
 
 -- ---- the stages

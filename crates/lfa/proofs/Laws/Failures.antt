@@ -17,7 +17,8 @@ use Rattle.lfa.specs.Refusal.{Accepted, Posed}
 use Rattle.lfa.specs.Demands.{Demand2}
 use Rattle.lfa.specs.Failures.{hops_of, costs_of, prefix_of, link_of, NeighbourRepair, Downstream, DownstreamRepair, MaySend, Sends, AnswerSends, SeveralFailures}
 use Rattle.lfa.proofs.Laws.Class.{class_base, class_has}
-use Rattle.lfa.proofs.Laws.Walk.{level, measure, step_lowers}
+use Rattle.lfa.proofs.Laws.Walk.{measure, step_lowers}
+use Rattle.lfa.specs.Sound.{level}
 use Rattle.lfa.proofs.Laws.Arrive.{WithinBy, FallsBy, walk_few_by, never_twice_by}
 use Rattle.lfa.proofs.Laws.Accepted.{accepted_descend, accepted_sound}
 use Rattle.lfa.proofs.Laws.HasThis.{serves_it}

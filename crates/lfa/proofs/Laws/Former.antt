@@ -13,7 +13,8 @@ use Rattle.lfa.specs.Former.{FormerStep, FormerDelivers, OwnCostsBelow}
 use Rattle.lfa.proofs.Laws.Test.{decide}
 use Rattle.lfa.proofs.Laws.Target.{towards_over}
 use Rattle.lfa.proofs.Laws.Attached.{attached_near, router_self}
-use Rattle.lfa.proofs.Laws.Walk.{Descends, level, router_ends, tight_hop, NoneLeaves, tight_step}
+use Rattle.lfa.proofs.Laws.Walk.{router_ends, tight_hop, NoneLeaves, tight_step}
+use Rattle.lfa.specs.Sound.{Descends, level}
 use Rattle.lfa.proofs.Laws.Bound.{Capped}
 
 -- ---- walks by steps that are the same

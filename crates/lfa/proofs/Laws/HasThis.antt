@@ -15,8 +15,7 @@ use Rattle.lfa.specs.Demands.{N, Hops, D, HasThis, IsRepair, Repaired, TellsOf}
 use Rattle.lfa.proofs.Laws.Accepted.{accepted_sound, accepted_distances, accepted_named}
 use Rattle.lfa.proofs.Laws.Asked.{answer_chosen}
 use Rattle.lfa.proofs.Laws.Network.{protected_number}
-use Rattle.lfa.proofs.Laws.Avoid.{Named}
-use Rattle.lfa.proofs.Laws.Bound.{Sound}
+use Rattle.lfa.specs.Sound.{Named, Sound}
 use Rattle.lfa.proofs.Laws.Repair.{SearchMeans, PrefixMeans, IsFirstPair, told_tells, tells_told}
 use Rattle.lfa.proofs.Laws.Serve.{serves_arrives, arrives_reachable}
 

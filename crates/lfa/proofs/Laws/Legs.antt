@@ -11,7 +11,8 @@ use Rattle.lfa.specs.Distance.{unreachable, LeastCosts, towards}
 use Rattle.lfa.specs.Walk.{Step, Delivers, Walk, here, hop}
 use Rattle.lfa.specs.Route.{HasMove, Move, deliver, go, options, choice_at, option_taken, FirstLeg, arrived, onward, SecondLeg, delivered, play_to, play_on}
 use Rattle.lfa.proofs.Laws.Attached.{router_only}
-use Rattle.lfa.proofs.Laws.Arrive.{Within, Falls, rank, rank_falls}
+use Rattle.lfa.proofs.Laws.Arrive.{Falls, rank, rank_falls}
+use Rattle.lfa.specs.Sound.{Within}
 use Rattle.lfa.proofs.Laws.Options.{move_next, never_both, taken}
 
 -- ---- one leg at most is named

@@ -10,7 +10,7 @@ use Rattle.std.proofs.lemmas.Bool.{false≢true, eqb-false}
 use mathlib.Core.List.Memᴰ
 use mathlib.Core.List.{List, [], ◌∷◌, map, Memᴰ}
 use Rattle.lfa.proofs.Laws.Test.{and_left, and_right, and_make, or_cases, or_left, or_right, decide}
-use Rattle.lfa.specs.Lists.{count_up, below, select, keepIf, any_of, every_below, member_of, flat}
+use Rattle.lfa.specs.Lists.{count_up, below, select, keep_if, any_of, every_below, member_of, flat}
 
 -- ---- some element passes a test
 
@@ -73,7 +73,7 @@ module _ {A : Type 0} (f : A → Bool) where
       cons below e (inl p) = (Memᴰ.head p, rw p e)
       cons below e (inr m) = (Memᴰ.tail (below m).0, (below m).1)
 
-      go : (b : Bool) → f x ≡ b → (Memᴰ a (select f l) → Memᴰ a l × (f a ≡ true)) → Memᴰ a (keepIf b x (select f l)) → Memᴰ a (x ∷ l) × (f a ≡ true)
+      go : (b : Bool) → f x ≡ b → (Memᴰ a (select f l) → Memᴰ a l × (f a ≡ true)) → Memᴰ a (keep_if b x (select f l)) → Memᴰ a (x ∷ l) × (f a ≡ true)
       go true e below m = cons below e (Memᴰ.cases_cons m)
       go false e below m = (Memᴰ.tail (below m).0, (below m).1)
 
@@ -82,7 +82,7 @@ module _ {A : Type 0} (f : A → Bool) where
   select_make {a} (Memᴰ.head {x} {xs} e) t = let u : f x ≡ true = rw e at t in rw u (Memᴰ.head e)
   select_make (Memᴰ.tail {x} {xs} m) t = go (f x) (select_make m t)
     where
-      go : {a : A} (b : Bool) → Memᴰ a (select f xs) → Memᴰ a (keepIf b x (select f xs))
+      go : {a : A} (b : Bool) → Memᴰ a (select f xs) → Memᴰ a (keep_if b x (select f xs))
       go true m = Memᴰ.tail m
       go false m = m
 

@@ -8,7 +8,7 @@ use Rattle.lfa.proofs.Laws.Test.{decide}
 use Rattle.lfa.specs.Network.{Arc, arc}
 use Rattle.lfa.specs.Distance.{unreachable, RouterPath, stay, via, LeastCosts}
 use Rattle.lfa.proofs.Laws.Hop.{route_cost}
-use Rattle.lfa.proofs.Laws.Walk.{Descends}
+use Rattle.lfa.specs.Sound.{Descends}
 
 -- the laws of distances at each arc
 pub record Local (hops : List Arc) (d : ℕ → ℕ → ℕ) : Type 0 where

@@ -11,13 +11,13 @@ use mathlib.Core.List.{List, [], ◌∷◌, ◌++◌, map, Memᴰ}
 use Rattle.std.proofs.Math.Dec.{eqb, ltb}
 use Rattle.std.proofs.Math.ListN.{length, drop}
 use borrow.Author.Tests.{lt-ltb, eqb-true, eqb-false}
-use Rattle.lfa.specs.Lists.{any_of, flat, select, keepIf}
+use Rattle.lfa.specs.Lists.{any_of, flat, select, keep_if}
 use Rattle.lfa.specs.Network.{Link, link, Arc, arc, Target, router}
 use Rattle.lfa.specs.Distance.{unreachable, towards}
 use Rattle.lfa.specs.Walk.{avoids}
 use Rattle.lfa.specs.Space.{under_maintenance, Protected, protected_by, protected, is_first, hop_over, first_hops, FirstHop, Space, p_space, extended_p, q_space, in_space, space_of, set_of}
 use Rattle.lfa.specs.Repair.{Pair, is_endpoint, pairs_of, pairs, serves, may_cross, node_protects, base_class_of, class_of, told_of, pair_key, choose, first_pair, Outcome, prefix_unreachable, prefix_untouched, none_serves, serving, outcome_of, link_outcome, prefix_outcome}
-use Rattle.lfa.specs.Question.{Question, Call, load, fill, space, link_repair, prefix_repair, route, without_maintenance, LooksAtFirstHops, Buffer, work_area, route_buffer, lent, HasInput, network_asked, link_asked, prefix_asked, withDistances, link_found, prefix_found, searched, if_none}
+use Rattle.lfa.specs.Question.{Question, Call, load, fill, space, link_repair, prefix_repair, route, without_maintenance, LooksAtFirstHops, Buffer, work_area, route_buffer, lent, HasInput, network_asked, link_asked, prefix_asked, with_distances, link_found, prefix_found, searched, if_none}
 use Rattle.lfa.specs.Refusal.{Row, of_file, early, no_pair, Decided, returned, tries, all_rows, rows_tried, refusal_of}
 use Rattle.lfa.specs.Answer.{Answer, set, refusal, route_for, route_played, route_answer, repair_answer, computed, answer_to, written_to, exit_by, exit_of}
 use Rattle.lfa.specs.Route.{route_of}
@@ -55,8 +55,8 @@ module _ (q : Protected) (at : q.maintenance ≡ under_maintenance) where
   unfolding select
   select_same [] h = refl
   select_same (a ∷ hops) h =
-      ap (λ (b : Bool). keepIf b a (select (is_first q) hops)) (h a (Memᴰ.head refl))
-      ∙ ap (keepIf (is_first (unlimited q) a) a) (select_same hops (λ b m. h b (Memᴰ.tail m)))
+      ap (λ (b : Bool). keep_if b a (select (is_first q) hops)) (h a (Memᴰ.head refl))
+      ∙ ap (keep_if (is_first (unlimited q) a) a) (select_same hops (λ b m. h b (Memᴰ.tail m)))
 
   -- where each link from S but to E is in service, the first hops are those of before
   hops_same : (hops : List Arc) → ((z c l : ℕ) → Memᴰ (arc q.near z c l) hops → (z ≡ q.far → ⊥) → c < under_maintenance) → first_hops q hops ≡ first_hops (unlimited q) hops
@@ -128,11 +128,11 @@ module _ (q : Question) (at : q.maintenance ≡ under_maintenance) where
   same_hops small = hops_same (link_asked q) limit_asked (Hops q) (λ z c l m n. small (record { router = z; cost = c; over = l }) (m, n))
 
   link_found_same : InService → link_found q ≡ link_found other
-  unfolding link_found withDistances network_asked without_maintenance
+  unfolding link_found with_distances network_asked without_maintenance
   link_found_same small = link_same _ _ _ _ (link_asked q) (same_hops small) ∙ sym (ap (link_outcome q.ranks (network_asked q).routers (Hops q) _) asked_unlimited)
 
   prefix_found_same : InService → prefix_found q ≡ prefix_found other
-  unfolding prefix_found withDistances network_asked prefix_asked without_maintenance
+  unfolding prefix_found with_distances network_asked prefix_asked without_maintenance
   prefix_found_same small = prefix_same _ _ _ _ (link_asked q) (same_hops small) _ ∙ sym (ap (λ (r : Protected). prefix_outcome q.ranks (network_asked q).routers (Hops q) (D q) r (prefix_asked q)) asked_unlimited)
 
   -- what each call searches for and computes
@@ -147,7 +147,7 @@ module _ (q : Question) (at : q.maintenance ≡ under_maintenance) where
 
   -- the route of a pair depends on S, not on the limit
   route_for_same : (o : Outcome) → route_for q o ≡ route_for other o
-  unfolding route_for withDistances network_asked prefix_asked without_maintenance unlimited
+  unfolding route_for with_distances network_asked prefix_asked without_maintenance unlimited
   route_for_same prefix_unreachable = refl
   route_for_same prefix_untouched = refl
   route_for_same none_serves = refl
@@ -160,7 +160,7 @@ module _ (q : Question) (at : q.maintenance ≡ under_maintenance) where
   computed_same : (c : Call) → (LooksAtFirstHops c → InService) → computed q c ≡ computed other c
   computed_same load small = unfold computed in refl
   computed_same fill small = unfold computed in refl
-  computed_same (space s) small = unfold computed withDistances network_asked without_maintenance in ap set (go s small ∙ sym (ap (space_of s (network_asked q).routers (Hops q) (D q)) asked_unlimited))
+  computed_same (space s) small = unfold computed with_distances network_asked without_maintenance in ap set (go s small ∙ sym (ap (space_of s (network_asked q).routers (Hops q) (D q)) asked_unlimited))
     where
       go : (s : Space) → (LooksAtFirstHops (space s) → InService) → space_of s (network_asked q).routers (Hops q) (D q) (link_asked q) ≡ space_of s (network_asked q).routers (Hops q) (D q) (unlimited (link_asked q))
       go p_space small = (both_same _ _ _ _).0

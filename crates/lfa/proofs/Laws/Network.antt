@@ -12,9 +12,7 @@ use Rattle.lfa.specs.Network.{Link, link, arc, Network, arcs_from, arcs}
 use Rattle.lfa.specs.FileOf.{WithinLimits}
 use Rattle.lfa.specs.Distance.{LeastCosts, distances, distance_in}
 use Rattle.lfa.specs.Space.{protected_by, protected}
-use Rattle.lfa.proofs.Laws.Walk.{Descends, level}
-use Rattle.lfa.proofs.Laws.Bound.{Sound}
-use Rattle.lfa.proofs.Laws.Avoid.{Named}
+use Rattle.lfa.specs.Sound.{Descends, level, Sound, Named}
 use Rattle.lfa.proofs.Laws.Distance.{distances_least}
 
 -- an arc is one direction of a link

@@ -10,7 +10,7 @@ use mathlib.Core.List.Memᴰ
 use mathlib.Core.List.{List, [], ◌∷◌, map, Memᴰ}
 use Rattle.std.proofs.Math.ListN.{length}
 use borrow.Author.Tests.{ltb-true, lt-ltb, eqb-true, eq-eqb}
-use Rattle.lfa.specs.Lists.{count_up, below, select, keepIf, any_of}
+use Rattle.lfa.specs.Lists.{count_up, below, select, keep_if, any_of}
 use Rattle.lfa.specs.Network.{Arc, arc, Target}
 use Rattle.lfa.specs.Distance.{unreachable, LeastCosts, towards}
 use Rattle.lfa.specs.Walk.{Step, Delivers, is_step}
@@ -19,7 +19,7 @@ use Rattle.lfa.proofs.Laws.Test.{and_left, and_right, and_make}
 use Rattle.lfa.proofs.Laws.List.{any_gives, any_make, mem_below, from_counted, select_gives, select_make, map_gives, map_make, get_d_in}
 use Rattle.lfa.proofs.Laws.Attached.{attached_gives, attached_make}
 use Rattle.lfa.proofs.Laws.Walk.{onward}
-use Rattle.lfa.proofs.Laws.Arrive.{Within}
+use Rattle.lfa.specs.Sound.{Within}
 use Rattle.lfa.proofs.Laws.Avoid.{step_gives, step_make}
 
 -- ---- moves
@@ -37,7 +37,7 @@ unfolding select count_up
 select_ascending p i zero = nothing
 select_ascending p i (suc n) = by (p i) (select_ascending p (suc i) n)
   where
-    by : (b : Bool) → Ascending (select p (count_up (suc i) n)) → Ascending (keepIf b i (select p (count_up (suc i) n)))
+    by : (b : Bool) → Ascending (select p (count_up (suc i) n)) → Ascending (keep_if b i (select p (count_up (suc i) n)))
     by true rest = before (λ y m. from_counted (suc i) n y (select_gives p (count_up (suc i) n) m).0) rest
     by false rest = rest
 

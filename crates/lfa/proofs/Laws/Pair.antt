@@ -13,7 +13,8 @@ use Rattle.lfa.specs.Space.{Protected, FirstHop, IsFirstHop, is_first, hop_over,
 use Rattle.lfa.specs.Repair.{Pair, IsPair, is_endpoint, pairs_of, pairs, Serves, serves, told_of, keys_of, First, pair_key, choose, first_pair}
 use Rattle.lfa.proofs.Laws.Test.{and_left, and_right, and_make}
 use Rattle.lfa.proofs.Laws.List.{mem_below, below_mem, select_gives, select_make, map_gives, map_make, flat_gives, flat_make}
-use Rattle.lfa.proofs.Laws.Bound.{Sound, falls}
+use Rattle.lfa.proofs.Laws.Bound.{falls}
+use Rattle.lfa.specs.Sound.{Sound}
 use Rattle.lfa.proofs.Laws.Avoid.{avoids_gives, avoids_make}
 use Rattle.lfa.proofs.Laws.Order.{Chosen, chosen, key_first}
 

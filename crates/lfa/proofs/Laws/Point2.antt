@@ -9,7 +9,7 @@ use Rattle.lfa.specs.Lists.{member_of, any_of}
 use Rattle.lfa.specs.Network.{Target}
 use Rattle.lfa.specs.Ranks.{rank_of, Arrangement, ascending, is_arrangement}
 use Rattle.lfa.specs.Repair.{Pair, Told, keys_at}
-use Rattle.lfa.specs.Question.{Question, Source, Call, load, fill, space, link_repair, prefix_repair, route, ask_link, ask_prefix, ask_route, with_ranks, with_table, Buffer, work_area, route_buffer, a_rank_table, lent, HasInput, inputs_of, input_number, has_input, network_asked, link_asked, withDistances}
+use Rattle.lfa.specs.Question.{Question, Source, Call, load, fill, space, link_repair, prefix_repair, route, ask_link, ask_prefix, ask_route, with_ranks, with_table, Buffer, work_area, route_buffer, a_rank_table, lent, HasInput, inputs_of, input_number, has_input, network_asked, link_asked, with_distances}
 use Rattle.lfa.specs.Refusal.{EarlyRow, bad_ranks, EarlyApplies, early_number, Row, early, Decided, Decides, leaves_all, entry_of, returned, tries, all_rows, rows_tried, refusal_of, Posed}
 use Rattle.lfa.proofs.Laws.FileRows.{same_number}
 use Rattle.lfa.specs.Answer.{Answer, refusal, computed, answer_to, written_to, leave, exit_by, exit_of}
@@ -54,7 +54,7 @@ module _ (q : Question) (ranks : List ℕ) where
 
   module _ (no : HasInput q a_rank_table → ⊥) where
     computed_same : (c : Call) → (has_input c a_rank_table ≡ true → ⊥) → computed q c ≡ computed other c
-    unfolding computed withDistances network_asked link_asked with_ranks has_input inputs_of input_number member_of any_of
+    unfolding computed with_distances network_asked link_asked with_ranks has_input inputs_of input_number member_of any_of
     computed_same load n = refl
     computed_same fill n = refl
     computed_same (space s) n = refl

@@ -16,7 +16,7 @@ use Rattle.lfa.specs.Refusal.{Posed}
 use Rattle.lfa.specs.Answer.{Answer, answer_to}
 use Rattle.lfa.specs.Demands.{N, Hops, D, Candidate, HasThisBy, HasThis, FormerlyHasThis, RepairedBy, Demand2, Demand3, AsBefore, Point4}
 use Rattle.lfa.proofs.Laws.Attached.{attached_near}
-use Rattle.lfa.proofs.Laws.Walk.{Descends, level}
+use Rattle.lfa.specs.Sound.{Descends, level}
 use Rattle.lfa.proofs.Laws.Bound.{Capped, towards_arrives}
 use Rattle.lfa.proofs.Laws.Former.{other_walk, step_was, crossed, was_reachable, same_steps, same_deliveries, same_options, same_crossing, same_arrival, router_below, one_cost_below}
 use Rattle.lfa.proofs.Laws.Network.{limits_two}

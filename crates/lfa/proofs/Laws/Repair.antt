@@ -12,8 +12,9 @@ use Rattle.lfa.specs.Repair.{Pair, IsPair, Serves, MayCross, may_cross, HasClass
 use Rattle.lfa.proofs.Laws.Test.{same_test}
 use Rattle.lfa.proofs.Laws.Target.{towards_most}
 use Rattle.lfa.proofs.Laws.Arrive.{never_twice}
-use Rattle.lfa.proofs.Laws.Bound.{Sound, falls}
-use Rattle.lfa.proofs.Laws.Avoid.{step_gives, step_make, Named, crosses_gives, crosses_make}
+use Rattle.lfa.proofs.Laws.Bound.{falls}
+use Rattle.lfa.specs.Sound.{Sound, Named}
+use Rattle.lfa.proofs.Laws.Avoid.{step_gives, step_make, crosses_gives, crosses_make}
 use Rattle.lfa.proofs.Laws.Class.{class_has, class_once}
 use Rattle.lfa.proofs.Laws.Pair.{Best, best}
 

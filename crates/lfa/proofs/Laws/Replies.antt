@@ -10,7 +10,7 @@ use Rattle.lfa.specs.Network.{router}
 use Rattle.lfa.specs.Space.{Space}
 use Rattle.lfa.specs.Repair.{Serves, Told, Outcome, prefix_unreachable, prefix_untouched, none_serves, serving}
 use Rattle.lfa.specs.Route.{route_of}
-use Rattle.lfa.specs.Question.{Question, Source, own_fill, lent_table, cells_from, Call, load, fill, space, link_repair, prefix_repair, route, ask_prefix, to_prefix_repair, route_buffer, a_link, a_prefix, lent, Input, inputs_of, input_number, has_input, HasInput, network_asked, link_asked, prefix_asked, withDistances, link_found, prefix_found}
+use Rattle.lfa.specs.Question.{Question, Source, own_fill, lent_table, cells_from, Call, load, fill, space, link_repair, prefix_repair, route, ask_prefix, to_prefix_repair, route_buffer, a_link, a_prefix, lent, Input, inputs_of, input_number, has_input, HasInput, network_asked, link_asked, prefix_asked, with_distances, link_found, prefix_found}
 use Rattle.lfa.specs.Refusal.{EarlyRow, short_area, wrong_table, short_buffer, bad_ranks, no_such_link, no_such_prefix, EarlyApplies, entry_of, tries, tries_early, Posed}
 use Rattle.lfa.specs.Answer.{refused, Answer, untouched, unreached, repair, repair_answer, route_answer, route_for, route_played, computed, answer_to, route_after}
 use Rattle.lfa.specs.Demands.{N, Hops, D, RouteNamed}
@@ -39,7 +39,7 @@ module _ (q : Question) (p : Posed q) where
   link_has_link c = has a_link c refl
 
   pub link_meaning : {from : Source} → q.call ≡ link_repair from → SearchMeans (N q) (Hops q) (D q) (link_asked q) q.ranks (router (link_asked q).far) (link_found q)
-  unfolding link_found withDistances
+  unfolding link_found with_distances
   link_meaning c = link_means (N q) (Hops q) (D q) (link_asked q) (sound q p) (named q p (link_has_link c)) q.ranks
 
   -- the prefix repair, and the route
@@ -56,7 +56,7 @@ module _ (q : Question) (p : Posed q) where
       go (route from) h = refl
 
   pub prefix_meaning : HasInput q a_prefix → PrefixMeans (N q) (Hops q) (D q) (link_asked q) q.ranks (prefix_asked q) (prefix_found q)
-  unfolding prefix_found withDistances
+  unfolding prefix_found with_distances
   prefix_meaning h = prefix_means (N q) (Hops q) (D q) (link_asked q) (sound q p) (named q p (prefix_has_link h)) q.ranks (prefix_asked q)
 
 -- what an answer tells of what was found
@@ -161,7 +161,7 @@ module _ (q : Question) (p : Posed q) {from : Source} (c : q.call ≡ route from
     Played = route_of (N q) (Hops q) (D q) (prefix_asked q) q.choices (link_asked q).near t.first t.endpoint
 
     played_is : route_played q ≡ Played
-    unfolding route_played route_for withDistances
+    unfolding route_played route_for with_distances
     played_is = ap (route_for q) found
 
     -- its two legs avoid the link, and its routers are routers

@@ -11,7 +11,8 @@ use Rattle.lfa.specs.Distance.{unreachable, LeastCosts, towards}
 use Rattle.lfa.specs.Walk.{Delivers}
 use Rattle.lfa.specs.Route.{options, NamedRoute, play_to, play_on, route_of}
 use Rattle.lfa.proofs.Laws.Arrive.{rank_few, walk_few}
-use Rattle.lfa.proofs.Laws.Bound.{Sound, falls}
+use Rattle.lfa.proofs.Laws.Bound.{falls}
+use Rattle.lfa.specs.Sound.{Sound}
 use Rattle.lfa.proofs.Laws.Legs.{first_leg_once, second_leg_once, bytes_used, Trace, trace_walk, first_leg_walk, second_leg_walk, first_leg_played, second_leg_played}
 
 -- Choice bytes name one route: one first leg, after it as many bytes used, and then one second leg.

@@ -7,7 +7,7 @@ use Rattle.std.proofs.Math.Bool.{true, false}
 use Rattle.std.proofs.Math.Option.{Option, none, some}
 use mathlib.Core.List.Memᴰ
 use mathlib.Core.List.{List, [], ◌∷◌, ◌++◌, map, Memᴰ}
-use Rattle.lfa.specs.Lists.{select, keepIf}
+use Rattle.lfa.specs.Lists.{select, keep_if}
 use Rattle.lfa.specs.Refusal.{Decided, decided, first_row}
 
 -- ---- the first row that applies
@@ -92,7 +92,7 @@ module _ {R : Type 0} (value : R → Option ℕ) (tried : R → Bool) where
   passed_over more (also {r} {rows} h rest) = go (tried r) refl (passed_over more rest)
     where
       go : (b : Bool) → tried r ≡ b → first_row value (select tried (rows ++ more)) ≡ first_row value (select tried more) →
-          first_row value (keepIf b r (select tried (rows ++ more))) ≡ first_row value (select tried more)
+          first_row value (keep_if b r (select tried (rows ++ more))) ≡ first_row value (select tried more)
       go true p e = rw (h p, first_row) e
       go false p e = e
 
@@ -108,8 +108,8 @@ module _ {R : Type 0} (value : R → Option ℕ) (tried : R → Bool) where
       here (some v) e rest = e
       here none e rest = rest e
 
-      go : (b : Bool) → first_row value (keepIf b r (select tried rows)) ≡ some d → (first_row value (select tried rows) ≡ some d → first_row value (select tried (rows ++ more)) ≡ some d) →
-          first_row value (keepIf b r (select tried (rows ++ more))) ≡ some d
+      go : (b : Bool) → first_row value (keep_if b r (select tried rows)) ≡ some d → (first_row value (select tried rows) ≡ some d → first_row value (select tried (rows ++ more)) ≡ some d) →
+          first_row value (keep_if b r (select tried (rows ++ more))) ≡ some d
       go true e rest = here (value r) e rest
       go false e rest = rest e
 
@@ -137,15 +137,15 @@ module _ {R : Type 0} (v w : R → Option ℕ) (tried also-tried : R → Bool) w
       here none f = f
 
       both : (b : Bool) → tried r ≡ b → (tried r ≡ true → v r ≡ w r) → first_row v (select tried rows) ≡ first_row w (select also-tried rows) →
-          first_row v (keepIf b r (select tried rows)) ≡ first_row w (keepIf b r (select also-tried rows))
+          first_row v (keep_if b r (select tried rows)) ≡ first_row w (keep_if b r (select also-tried rows))
       both true t same f = rw (same t) (here (w r) f)
       both false t same f = f
 
-      left : (b : Bool) → v r ≡ none → first_row v (select tried rows) ≡ first_row w (select also-tried rows) → first_row v (keepIf b r (select tried rows)) ≡ first_row w (select also-tried rows)
+      left : (b : Bool) → v r ≡ none → first_row v (select tried rows) ≡ first_row w (select also-tried rows) → first_row v (keep_if b r (select tried rows)) ≡ first_row w (select also-tried rows)
       left true n f = rw (n, first_row) f
       left false n f = f
 
-      go : Alike r → first_row v (select tried rows) ≡ first_row w (select also-tried rows) → first_row v (keepIf (tried r) r (select tried rows)) ≡ first_row w (keepIf (also-tried r) r (select also-tried rows))
+      go : Alike r → first_row v (select tried rows) ≡ first_row w (select also-tried rows) → first_row v (keep_if (tried r) r (select tried rows)) ≡ first_row w (keep_if (also-tried r) r (select also-tried rows))
       go (inl (e, same)) f = rw (← e) (both (tried r) refl same f)
       go (inr (n, e)) f = rw (e) (left (tried r) n f)
 

@@ -12,7 +12,7 @@ use Rattle.lfa.specs.Distance.{unreachable, towards}
 use Rattle.lfa.specs.Space.{Protected}
 use Rattle.lfa.specs.Ranks.{is_arrangement}
 use Rattle.lfa.specs.Repair.{Pair, serves, pairs, may_cross, no_later, earlier, choose, pair_key, first_pair, Told, Outcome, prefix_unreachable, prefix_untouched, none_serves, serving, outcome_of, link_outcome, prefix_outcome}
-use Rattle.lfa.specs.Question.{Question, Call, load, fill, space, link_repair, prefix_repair, route, with_ranks, network_asked, link_asked, prefix_asked, withDistances, link_found, prefix_found, searched, if_none}
+use Rattle.lfa.specs.Question.{Question, Call, load, fill, space, link_repair, prefix_repair, route, with_ranks, network_asked, link_asked, prefix_asked, with_distances, link_found, prefix_found, searched, if_none}
 use Rattle.lfa.specs.Refusal.{short_area, wrong_table, short_buffer, bad_ranks, no_such_link, no_such_prefix, Row, of_file, early, no_pair, returned, sized_returned}
 use Rattle.lfa.specs.Answer.{repair_answer, route_answer, computed}
 use Rattle.lfa.specs.Demands.{SameKind, one_answer, two_repairs, two_routes}
@@ -94,11 +94,11 @@ module _ (q : Question) (ranks : List ℕ) where
   other = with_ranks ranks q
 
   link_found_alike : SameFound (link_found q) (link_found other)
-  unfolding link_found withDistances network_asked link_asked with_ranks
+  unfolding link_found with_distances network_asked link_asked with_ranks
   link_found_alike = link_alike q.ranks ranks _ _ _ _
 
   prefix_found_alike : SameFound (prefix_found q) (prefix_found other)
-  unfolding prefix_found withDistances network_asked link_asked prefix_asked with_ranks
+  unfolding prefix_found with_distances network_asked link_asked prefix_asked with_ranks
   prefix_found_alike = prefix_alike q.ranks ranks _ _ _ _ _
 
   last_alike : (c : Call) → if_none (searched q c) 0 ≡ if_none (searched other c) 0
@@ -113,7 +113,7 @@ module _ (q : Question) (ranks : List ℕ) where
   pub computed_alike : (c : Call) → SameKind (computed q c) (computed other c)
   computed_alike load = unfold computed in one_answer refl
   computed_alike fill = unfold computed in one_answer refl
-  computed_alike (space s) = unfold computed withDistances network_asked link_asked with_ranks in one_answer refl
+  computed_alike (space s) = unfold computed with_distances network_asked link_asked with_ranks in one_answer refl
   computed_alike (link_repair from) = unfold computed in repairs_alike link_found_alike
   computed_alike (prefix_repair from) = unfold computed in repairs_alike prefix_found_alike
   computed_alike (route from) = unfold computed in routes_alike _ _ prefix_found_alike

@@ -11,9 +11,9 @@ use Rattle.lfa.specs.Repair.{Serves, MayCross}
 use Rattle.lfa.proofs.Laws.Attached.{router_attached, router_self, attached_avoids}
 use Rattle.lfa.proofs.Laws.Walk.{crossing_equation, router_none_leaves, equation_crossing}
 use Rattle.lfa.proofs.Laws.Arrive.{never_twice}
-use Rattle.lfa.proofs.Laws.Avoid.{Named}
+use Rattle.lfa.specs.Sound.{Named, Sound}
 use Rattle.lfa.proofs.Laws.Target.{towards_router, hop_bound, route_bound}
-use Rattle.lfa.proofs.Laws.Bound.{Sound, falls, Capped, towards_small, distance_small, towards_arrives}
+use Rattle.lfa.proofs.Laws.Bound.{falls, Capped, towards_small, distance_small, towards_arrives}
 
 module _ (n : ℕ) (hops : List Arc) (d : ℕ → ℕ → ℕ) (q : Protected) (sound : Sound n hops) (dist : LeastCosts hops d) (named : Named hops q) where
   -- What avoids to E avoids to every prefix whose traffic may cross the link. D(S,p) is the cost S to E plus D(E,p). Were the link

@@ -6,7 +6,7 @@ use Rattle.std.proofs.Math.Path.{◌≡◌, refl, subst}
 use Rattle.std.proofs.Common.{sym, ap, ◌∙◌, arith}
 use Rattle.std.proofs.Math.Option.{Option, none, some}
 use mathlib.Core.List.{List, [], ◌∷◌, ◌++◌, map, map-append, Memᴰ}
-use Rattle.lfa.specs.Lists.{select, keepIf}
+use Rattle.lfa.specs.Lists.{select, keep_if}
 use Rattle.lfa.specs.File.{Bytes, byte_at, routers_of, links_of, prefixes_of}
 use Rattle.lfa.specs.Question.{Question, Buffer, work_area, route_buffer, loading, network_asked}
 use Rattle.lfa.specs.Distance.{holds_distances}
@@ -89,7 +89,7 @@ early_decides q (r ∷ rows) = go (tries_early q.call r) (early_decides q rows)
     here none e = e
 
     go : (b : Bool) → first_row (returned q) (select (tries q.call) (map early rows)) ≡ in_early (first_row (EarlyReturned q) (select (tries_early q.call) rows)) →
-        first_row (returned q) (keepIf b (early r) (select (tries q.call) (map early rows))) ≡ in_early (first_row (EarlyReturned q) (keepIf b r (select (tries_early q.call) rows)))
+        first_row (returned q) (keep_if b (early r) (select (tries q.call) (map early rows))) ≡ in_early (first_row (EarlyReturned q) (keep_if b r (select (tries_early q.call) rows)))
     go true e = here (EarlyReturned q r) e
     go false e = e
 

@@ -14,7 +14,7 @@ use Rattle.lfa.specs.Lists.{unless, select, any_of, member_of}
 use Rattle.lfa.specs.File.{byte_at, routers_of, network_of}
 use Rattle.lfa.specs.Distance.{HoldsDistances}
 use Rattle.lfa.specs.Repair.{Outcome, prefix_unreachable, prefix_untouched, none_serves, serving}
-use Rattle.lfa.specs.Question.{Question, own_fill, lent_table, Call, load, fill, space, link_repair, prefix_repair, route, second_call, with_table, route_buffer, a_table, inputs_of, cells_from, input_number, has_input, HasInput, network_asked, link_asked, prefix_asked, withDistances, link_found, prefix_found, searched, if_none}
+use Rattle.lfa.specs.Question.{Question, own_fill, lent_table, Call, load, fill, space, link_repair, prefix_repair, route, second_call, with_table, route_buffer, a_table, inputs_of, cells_from, input_number, has_input, HasInput, network_asked, link_asked, prefix_asked, with_distances, link_found, prefix_found, searched, if_none}
 use Rattle.lfa.specs.Refusal.{FileRow, Row, of_file, early, short_area, wrong_table, short_buffer, bad_ranks, no_such_link, no_such_prefix, no_pair, entry_of, early_rows, question_rows, all_rows, tries, rows_tried, Decided, first_row, file_refusal, refusal_of, returned, sized_returned, Accepted}
 use Rattle.lfa.specs.Answer.{Answer, refusal, route_for, route_answer, route_played, computed, answer_to, written_to, exit_by, exit_of}
 use Rattle.lfa.specs.Demands.{TwoTogether}
@@ -66,7 +66,7 @@ module _ (q : Question) (table : List ℕ) (long : length table ≡ q.cells) (si
 
   -- what is found does not depend on where the distances come from
   searched_alike : (c : Call) → searched other (second_call c) ≡ searched q c
-  unfolding searched second_call with_table link_found prefix_found withDistances network_asked link_asked prefix_asked
+  unfolding searched second_call with_table link_found prefix_found with_distances network_asked link_asked prefix_asked
   searched_alike load = refl
   searched_alike fill = refl
   searched_alike (space s) = refl
@@ -156,18 +156,18 @@ module _ (q : Question) (table : List ℕ) (long : length table ≡ q.cells) (si
 
   -- what is computed is the same, and so is what is written into the route buffer
   route_alike : (o : Outcome) → route_for other o ≡ route_for q o
-  unfolding route_for with_table withDistances network_asked link_asked prefix_asked
+  unfolding route_for with_table with_distances network_asked link_asked prefix_asked
   route_alike prefix_unreachable = refl
   route_alike prefix_untouched = refl
   route_alike none_serves = refl
   route_alike (serving t) = refl
 
   played_alike : route_played other ≡ route_played q
-  unfolding route_played with_table prefix_found withDistances network_asked link_asked prefix_asked
+  unfolding route_played with_table prefix_found with_distances network_asked link_asked prefix_asked
   played_alike = route_alike (prefix_found q)
 
   computed_alike : (c : Call) → computed other (second_call c) ≡ computed q c
-  unfolding computed second_call with_table link_found prefix_found withDistances network_asked link_asked prefix_asked
+  unfolding computed second_call with_table link_found prefix_found with_distances network_asked link_asked prefix_asked
   computed_alike load = refl
   computed_alike fill = refl
   computed_alike (space s) = refl

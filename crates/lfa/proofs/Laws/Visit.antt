@@ -16,8 +16,9 @@ use Rattle.lfa.proofs.Laws.Test.{and_left, and_right, and_make, or_cases, or_lef
 use Rattle.lfa.proofs.Laws.Target.{towards_router, route_bound}
 use Rattle.lfa.proofs.Laws.Attached.{router_self}
 use Rattle.lfa.proofs.Laws.Walk.{router_none_leaves, visit_equation, equation_visit}
-use Rattle.lfa.proofs.Laws.Arrive.{Within, Falls}
-use Rattle.lfa.proofs.Laws.Bound.{Sound, falls}
+use Rattle.lfa.proofs.Laws.Arrive.{Falls}
+use Rattle.lfa.specs.Sound.{Within, Sound}
+use Rattle.lfa.proofs.Laws.Bound.{falls}
 use Rattle.lfa.proofs.Laws.Avoid.{TakesHop, takers_all, takers_only}
 
 -- ---- the test

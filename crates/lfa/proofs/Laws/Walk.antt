@@ -4,20 +4,12 @@ use Rattle.std.specs.Prelude.{ℕ, suc, ◌+◌, ◌*◌, ◌≤◌, ◌<◌, �
 use Rattle.std.proofs.Common.{sym, inl, inr, arith, ltb-true, ltb-false}
 use mathlib.Core.List.{List, Memᴰ}
 use Rattle.lfa.proofs.Laws.Test.{decide}
+use Rattle.lfa.specs.Sound.{Descends}
 use Rattle.lfa.specs.Network.{Arc, arc, at, Target, router, Attached}
 use Rattle.lfa.specs.Distance.{unreachable, RouterPath, stay, via, LeastCosts, towards}
 use Rattle.lfa.specs.Walk.{Step, Delivers, Walk, here, hop, Crosses}
 use Rattle.lfa.proofs.Laws.Target.{towards_most, towards_least, towards_over, towards_router, hop_bound, route_bound}
 use Rattle.lfa.proofs.Laws.Attached.{attached_cases, router_only, router_self}
-
--- Each router has a height (a potential, in the words of graph theory), and no hop climbs as much as twice its cost. So a hop that costs
--- nothing leads down, and such hops do not lead round in a circle.
-pub record Descends (hops : List Arc) (height : ℕ → ℕ) : Type 0 where
-  pub hop : {x z c l : ℕ} → Memᴰ (arc x z c l) hops → height z < 2 * c + height x
-
--- all routers at one height: then the hops descend exactly where each costs something
-abbrev pub level : ℕ → ℕ
-level x = 0
 
 -- the number that falls at each step of a walk: twice the distance to the target, and the height
 abbrev pub measure : (height : ℕ → ℕ) → (ℕ → ℕ → ℕ) → Target → ℕ → ℕ

@@ -5,7 +5,7 @@ use Rattle.std.proofs.Common.{◌∙◌, subst, sym, ap, inl, inr, add-zero, ari
 use Rattle.std.specs.Prelude.{◌≡◌, length, get_or}
 use mathlib.Core.List.{[], ◌∷◌, ◌++◌, List, map, Memᴰ}
 use Rattle.lfa.specs.Network.{Arc, arc, Link, link, Network, arcs_from, arcs}
-use Rattle.lfa.proofs.Laws.Arrive.{Within}
+use Rattle.lfa.specs.Sound.{Within}
 use Rattle.lfa.proofs.Laws.Network.{arcs_give, Direction, LinkSound, LinksSound, limits_links}
 use Rattle.lfa.specs.Lists.{below}
 use Rattle.lfa.specs.FileOf.{WithinLimits}

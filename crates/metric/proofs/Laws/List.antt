@@ -6,7 +6,7 @@ use Rattle.std.proofs.Common.{◌∙◌, true≢false, add-one, arith}
 use Rattle.std.proofs.Math.Bool.{true, false}
 use mathlib.Core.List.{[], Memᴰ, List, ◌∷◌, ◌++◌, map, map-append}
 use Rattle.std.proofs.Math.Decide.{ℕ_discrete}
-use Rattle.lfa.specs.Lists.{every_below, keepIf, select, any_of, count_up, below}
+use Rattle.lfa.specs.Lists.{every_below, keep_if, select, any_of, count_up, below}
 use Rattle.lfa.proofs.Laws.List.{every_gives}
 
 -- ---- counting up, one number more
@@ -31,7 +31,7 @@ module _ {A : Type 0} (p : A → Bool) where
   select_append [] m = refl
   select_append (x ∷ l) m = go (p x) (select_append l m)
     where
-      go : (b : Bool) → select p (l ++ m) ≡ select p l ++ select p m → keepIf b x (select p (l ++ m)) ≡ keepIf b x (select p l) ++ select p m
+      go : (b : Bool) → select p (l ++ m) ≡ select p l ++ select p m → keep_if b x (select p (l ++ m)) ≡ keep_if b x (select p l) ++ select p m
       go true rest = ap (λ (k : List A). x ∷ k) rest
       go false rest = rest
 
@@ -64,7 +64,7 @@ module _ {A : Type 0} where
   pub select_same : (p q : A → Bool) (l : List A) → ((x : A) → Memᴰ x l → p x ≡ q x) → select p l ≡ select q l
   unfolding select
   select_same p q [] h = refl
-  select_same p q (x ∷ l) h = ap₂ (λ (b : Bool) (k : List A). keepIf b x k) (h x (Memᴰ.head refl)) (select_same p q l (λ y m. h y (Memᴰ.tail m)))
+  select_same p q (x ∷ l) h = ap₂ (λ (b : Bool) (k : List A). keep_if b x k) (h x (Memᴰ.head refl)) (select_same p q l (λ y m. h y (Memᴰ.tail m)))
 
 -- ---- whether every number passes
 

@@ -7,8 +7,7 @@ use Rattle.std.proofs.Math.Decide.{ℕ_discrete, dec_lt}
 use borrow.Author.Tests.{le-ltb, eq-eqb, ne_eqb}
 use Rattle.lfa.specs.Network.{Arc, arc, Network, arcs}
 use Rattle.lfa.specs.Distance.{unreachable, LeastCosts, distances, distance_in, filled}
-use Rattle.lfa.proofs.Laws.Arrive.{Within}
-use Rattle.lfa.proofs.Laws.Walk.{Descends}
+use Rattle.lfa.specs.Sound.{Within, Descends}
 use Rattle.lfa.proofs.Laws.Distance.{distances_least}
 use Rattle.lfa.proofs.Laws.Local.{Local, local_distances, distances_local, distances_unique}
 use Rattle.lfa.proofs.Laws.Work.{work_cell}

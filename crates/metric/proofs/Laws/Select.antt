@@ -6,7 +6,7 @@ use Rattle.std.proofs.Common.{sym, ap₂, ◌∙◌}
 use Rattle.std.proofs.Math.Bool.{true, false}
 use mathlib.Core.List.{List, [], ◌∷◌, ◌++◌, map, append_assoc, map-append, Memᴰ}
 use Rattle.lfa.proofs.Laws.Test.{and_left, and_right, and_make, same_test}
-use Rattle.lfa.specs.Lists.{keepIf, select, flat}
+use Rattle.lfa.specs.Lists.{keep_if, select, flat}
 use Rattle.metric.proofs.Laws.List.{select_append}
 
 -- ---- lists, one element more
@@ -25,8 +25,8 @@ module _ {A : Type 0} where
   select_select p q [] = refl
   select_select p q (x ∷ l) = go (q x) (select_select p q l)
     where
-      go : (b : Bool) → select p (select q l) ≡ select (λ x. q x && p x) l → select p (keepIf b x (select q l)) ≡ keepIf (b && p x) x (select (λ x. q x && p x) l)
-      go true rest = ap (keepIf (p x) x) rest
+      go : (b : Bool) → select p (select q l) ≡ select (λ x. q x && p x) l → select p (keep_if b x (select q l)) ≡ keep_if (b && p x) x (select (λ x. q x && p x) l)
+      go true rest = ap (keep_if (p x) x) rest
       go false rest = rest
 
 module _ {A B : Type 0} where
@@ -35,7 +35,7 @@ module _ {A B : Type 0} where
   select_map p f [] = refl
   select_map p f (x ∷ l) = go (p (f x)) (select_map p f l)
     where
-      go : (b : Bool) → select p (map f l) ≡ map f (select (λ x. p (f x)) l) → keepIf b (f x) (select p (map f l)) ≡ map f (keepIf b x (select (λ x. p (f x)) l))
+      go : (b : Bool) → select p (map f l) ≡ map f (select (λ x. p (f x)) l) → keep_if b (f x) (select p (map f l)) ≡ map f (keep_if b x (select (λ x. p (f x)) l))
       go true rest = ap (λ (k : List B). f x ∷ k) rest
       go false rest = rest
 

@@ -8,7 +8,7 @@ use mathlib.Core.List.{List, [], ◌∷◌, ◌++◌, append-nil, Memᴰ}
 use native.Mathlib.Omega.{arith}
 use Rattle.std.proofs.Math.Dec.{ltb}
 use borrow.Author.Tests.{lt-ltb, eqb-true}
-use Rattle.lfa.specs.Lists.{count_up, below, keepIf, select, any_of}
+use Rattle.lfa.specs.Lists.{count_up, below, keep_if, select, any_of}
 use Rattle.lfa.specs.Network.{Arc, arc, Target, is_attached}
 use Rattle.lfa.specs.Distance.{unreachable, towards}
 use Rattle.lfa.specs.Space.{has}
@@ -16,7 +16,7 @@ use Rattle.lfa.specs.Walk.{is_step}
 use Rattle.lfa.specs.Route.{Move, delivers, is_step_to, next_routers, moves_of, options, option_taken}
 use Rattle.lfa.proofs.Laws.Test.{and_right}
 use Rattle.lfa.proofs.Laws.List.{any_gives, below_mem, from_counted}
-use Rattle.lfa.proofs.Laws.Arrive.{Within}
+use Rattle.lfa.specs.Sound.{Within}
 use Rattle.metric.specs.Column.{column}
 use Rattle.metric.proofs.Laws.List.{select_append, select_same}
 use Rattle.metric.proofs.Laws.Column.{column_at}
@@ -35,7 +35,7 @@ count_split i (suc m) k = ap (count_up i) (let e : suc m + k ≡ suc (m + k) = o
 select_none : (p : ℕ → Bool) (l : List ℕ) → ((z : ℕ) → Memᴰ z l → p z ≡ false) → select p l ≡ []
 unfolding select
 select_none p [] h = refl
-select_none p (z ∷ l) h = ap (λ (b : Bool). keepIf b z (select p l)) (h z (Memᴰ.head refl)) ∙ select_none p l (λ w m. h w (Memᴰ.tail m))
+select_none p (z ∷ l) h = ap (λ (b : Bool). keep_if b z (select p l)) (h z (Memᴰ.head refl)) ∙ select_none p l (λ w m. h w (Memᴰ.tail m))
 
 -- The set of the next routers is looked through from 0 to 63: no step leads to a number that is no router.
 module _ (n : ℕ) (few : n ≤ 64) (hops : List Arc) (within : Within hops n) (d : ℕ → ℕ → ℕ) (to : Target) (nexts : List ℕ) (right : RightNexts n hops d to nexts) (x : ℕ) (x-in : x < n) where

@@ -5,7 +5,7 @@ use Rattle.std.proofs.Common.{sym, ap, ◌∙◌, inl, inr}
 use mathlib.Core.List.Memᴰ
 use mathlib.Core.List.{List, [], ◌∷◌, map, Memᴰ}
 use borrow.Author.Tests.{eqb-true, eq-eqb, ne_eqb}
-use Rattle.lfa.specs.Lists.{select, keepIf}
+use Rattle.lfa.specs.Lists.{select, keep_if}
 use Rattle.lfa.proofs.Laws.Test.{and_left, and_right, and_make}
 use Rattle.lfa.proofs.Laws.List.{select_gives, select_make, map_gives, map_make, flat_gives, flat_make}
 use Rattle.ospf.specs.Order.{Pairwise, none, first}
@@ -68,7 +68,7 @@ unfolding select
 select_none p [] h = refl
 select_none p (x ∷ l) h = go (p x) refl (select_none p l (λ y m. h y (Memᴰ.tail m)))
   where
-    go : (t : Bool) → p x ≡ t → select p l ≡ [] → keepIf t x (select p l) ≡ []
+    go : (t : Bool) → p x ≡ t → select p l ≡ [] → keep_if t x (select p l) ≡ []
     go true e rest = absurd (h x (Memᴰ.head refl) e)
     go false e rest = rest
 
@@ -85,7 +85,7 @@ unfolding select
 towards_one y [] h = no_element
 towards_one y (e ∷ l) h = go (is_towards y e) refl (towards_one y l (pairwise_rest h))
   where
-    go : (t : Bool) → is_towards y e ≡ t → AtMostOne (map metric_of (select (is_towards y) l)) → AtMostOne (map metric_of (keepIf t e (select (is_towards y) l)))
+    go : (t : Bool) → is_towards y e ≡ t → AtMostOne (map metric_of (select (is_towards y) l)) → AtMostOne (map metric_of (keep_if t e (select (is_towards y) l)))
     go true s rest = rw (select_none (is_towards y) l (λ f m t. towards_clash y e f (pairwise_first h f m) s t)) one_element
     go false s rest = rest
 

@@ -12,7 +12,7 @@ use Rattle.lfa.specs.File.{network_of}
 use Rattle.lfa.specs.Distance.{distances, distance_in, filled}
 use Rattle.lfa.specs.Space.{under_maintenance, Protected, protected, Space, space_of}
 use Rattle.lfa.specs.Repair.{link_outcome, prefix_outcome}
-use Rattle.lfa.specs.Question.{Question, some_cells, a_link, a_prefix, HasInput, network_asked, link_asked, prefix_asked, withDistances, link_found, prefix_found}
+use Rattle.lfa.specs.Question.{Question, some_cells, a_link, a_prefix, HasInput, network_asked, link_asked, prefix_asked, with_distances, link_found, prefix_found}
 use Rattle.lfa.specs.Refusal.{Posed}
 use Rattle.lfa.proofs.Laws.Accepted.{link_count, prefix_count}
 use Rattle.lfa.proofs.Laws.Network.{LinksSound, limits_links, limits_sound, limits_distances, limits_named}
@@ -77,18 +77,18 @@ module _ {q : Question} (p : Posed q) {links : Links} (t : Taken q.file links) (
 
   module _ (has_cells : HasInput q some_cells) where
     -- The space, the pair of a link and the pair of a prefix are document 01's.
-    pub space_searched : (s : Space) → space_by s links q.link q.end after ≡ withDistances (network_asked q) (λ d. space_of s (network_asked q).routers (arcs (network_asked q)) d (link_asked q))
-    unfolding withDistances
+    pub space_searched : (s : Space) → space_by s links q.link q.end after ≡ with_distances (network_asked q) (λ d. space_of s (network_asked q).routers (arcs (network_asked q)) d (link_asked q))
+    unfolding with_distances
     space_searched s = space_found (asking has_cells) s ∙ of_network (λ n hops d r. space_of s n hops d r)
 
     pub link_searched : link_by links q.ranks q.link q.end after ≡ link_found q
-    unfolding link_found withDistances
+    unfolding link_found with_distances
     link_searched = link_found_lem (asking has_cells) q.ranks ∙ of_network (λ n hops d r. link_outcome q.ranks n hops d r)
 
 -- For a prefix the whole network is asked.
 module _ {q : Question} (p : Posed q) (network : Network) (t : Taken q.file (link_part network)) (whole : network ≡ struct_of (network_of q.file)) (area : List ℕ) (cells_are : q.cells ≡ length area) (limit_is : q.maintenance ≡ under_maintenance) {after : List ℕ} (full : after ≡ filled (network_of q.file) area) (h : HasInput q a_link) (has_cells : HasInput q some_cells) where
   pub prefix_searched : HasInput q a_prefix → prefix_by network q.ranks q.link q.end q.prefix after ≡ prefix_found q
-  unfolding prefix_found withDistances prefix_asked network_asked
+  unfolding prefix_found with_distances prefix_asked network_asked
   prefix_searched has-prefix =
       let x-in : q.prefix < network.prefixes = rw (prefixes_are t, ← prefix_count q.file t.is_accepted) (p.prefix has-prefix) in
       let to = slots_in network.at network.own (8 * q.prefix) (get_or network.attached q.prefix 0) in

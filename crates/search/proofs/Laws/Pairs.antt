@@ -56,9 +56,9 @@ module _ (ranks : List ℕ) (n : ℕ) (hops : List Arc) (q : Protected) (area : 
   mask = kept.avoiding
 
   module _ (f : FirstHop) (j : Memᴰ f (first_hops q hops)) where
-    in-extended : (y : ℕ) → y < n → has (space_for extended_p n hops q area) y ≡ in_space extended_p n hops d q y
+    in_extended : (y : ℕ) → y < n → has (space_for extended_p n hops q area) y ≡ in_space extended_p n hops d q y
     unfolding space_of
-    in-extended y k = ap (λ (s : ℕ). has s y) (space_known n hops q area known extended_p) ∙ has_set_of n (in_space extended_p n hops d q) y k
+    in_extended y k = ap (λ (s : ℕ). has s y) (space_known n hops q area known extended_p) ∙ has_set_of n (in_space extended_p n hops d q) y k
 
     first_extends : (y : ℕ) → avoids n hops d (router y) q.number f.router ≡ true → in_space extended_p n hops d q y ≡ true
     unfolding in_space
@@ -77,7 +77,7 @@ module _ (ranks : List ℕ) (n : ℕ) (hops : List Arc) (q : Protected) (area : 
         let a = avoids n hops d (router y) q.number f.router in
         let in-mask : has mask y ≡ (x && t) =
         has_and (space_for extended_p n hops q area) onward.avoiding y
-        ∙ ap₂ (λ (u v : Bool). u && v) (in-extended y k) (ap (λ (s : ℕ). has s y) avoiding-is ∙ has_set_of n (avoids n hops d target q.number) y k) in
+        ∙ ap₂ (λ (u v : Bool). u && v) (in_extended y k) (ap (λ (s : ℕ). has s y) avoiding-is ∙ has_set_of n (avoids n hops d target q.number) y k) in
         let in-ends : has (bit_and mask (avoided_from n q area f.router)) y ≡ ((x && t) && a) =
         has_and mask (avoided_from n q area f.router) y
         ∙ ap₂ (λ (u v : Bool). u && v) in-mask

@@ -17,7 +17,8 @@ use Rattle.lfa.proofs.Laws.Test.{and_left, and_right, and_make, or_cases, or_lef
 use Rattle.lfa.proofs.Laws.List.{any_gives, any_make}
 use Rattle.lfa.proofs.Laws.Set.{set_of_same, has_set_of}
 use Rattle.lfa.proofs.Laws.Arrive.{Falls}
-use Rattle.lfa.proofs.Laws.Avoid.{step_leaves, Named}
+use Rattle.lfa.proofs.Laws.Avoid.{step_leaves}
+use Rattle.lfa.specs.Sound.{Named}
 use Rattle.lfa.proofs.Laws.Visit.{misses}
 use Rattle.metric.specs.Fit.{ColumnsWithin}
 use Rattle.metric.specs.Columns.{arcs_in}

@@ -20,7 +20,7 @@ use Rattle.lfa.specs.Route.{is_step_to}
 use Rattle.lfa.proofs.Laws.Test.{and_left, and_right, and_make, or_cases, or_left, or_right, same_test, decide}
 use Rattle.lfa.proofs.Laws.List.{any_gives, any_make, mem_below, below_mem, select_gives, select_make, member_gives, member_make}
 use Rattle.lfa.proofs.Laws.Set.{has_set_of, has_and}
-use Rattle.lfa.proofs.Laws.Arrive.{Within}
+use Rattle.lfa.specs.Sound.{Within}
 use Rattle.metric.proofs.Laws.Set.{has_or, has_none, no_member}
 use Rattle.steps.specs.Steps.{led_to, led_in}
 use Rattle.steps.specs.Laws.Next.{RightNexts}

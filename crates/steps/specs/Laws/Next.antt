@@ -17,7 +17,7 @@ use Rattle.lfa.specs.Route.{is_step_to}
 use Rattle.lfa.proofs.Laws.Test.{and_left, and_right, and_make, same_test, fails_make}
 use Rattle.lfa.proofs.Laws.Counting.{map_below_at}
 use Rattle.lfa.proofs.Laws.Set.{set_of_lt, has_set_of}
-use Rattle.lfa.proofs.Laws.Arrive.{Within}
+use Rattle.lfa.specs.Sound.{Within}
 use Rattle.lfa.proofs.Laws.Avoid.{step_leaves}
 use Rattle.metric.specs.Column.{column}
 use Rattle.metric.proofs.Laws.Column.{column_at}

@@ -14,7 +14,8 @@ use Rattle.lfa.specs.Route.{is_step_to}
 use Rattle.lfa.proofs.Laws.Test.{and_left, and_right, and_make, same_test}
 use Rattle.lfa.proofs.Laws.List.{any_gives, any_make}
 use Rattle.lfa.proofs.Laws.Set.{has_set_of}
-use Rattle.lfa.proofs.Laws.Arrive.{Within, Falls, walk_few}
+use Rattle.lfa.proofs.Laws.Arrive.{Falls, walk_few}
+use Rattle.lfa.specs.Sound.{Within}
 use Rattle.lfa.proofs.Laws.Avoid.{step_gives, step_make}
 use Rattle.lfa.proofs.Laws.Visit.{visits_gives, visits_make}
 use Rattle.metric.proofs.Laws.Set.{has_none}

@@ -35,10 +35,10 @@ link_within b bytes n k u v uv vu e s =
 -- ---- rows 8 and 9, the prefixes
 
 -- an attachment is that of a used slot
-in-slot : (entry : Bytes) (a c : ℕ) → Memᴰ (at a c) (prefix_in entry) →
+in_slot : (entry : Bytes) (a c : ℕ) → Memᴰ (at a c) (prefix_in entry) →
     (s : ℕ) × (s < attachments entry) × (a ≡ slot_router entry s) × (c ≡ word_at entry (4 + 4 * s))
 unfolding prefix_in slot
-in-slot entry a c m = let r = map_below_gives (slot entry) (attachments entry) m in (r.0, r.1, (cc r.2), (cc r.2))
+in_slot entry a c m = let r = map_below_gives (slot entry) (attachments entry) m in (r.0, r.1, (cc r.2), (cc r.2))
 
 router_of_slot : (entry : Bytes) (s a c : ℕ) → s < attachments entry → get_or (prefix_in entry) s (at 0 0) ≡ at a c → slot_router entry s ≡ a
 unfolding prefix_in slot
@@ -52,10 +52,10 @@ prefix_within n entry bytes e new =
     record {
       some = omega arith;
       few = omega arith;
-      router_in = λ {a} {c} m. let r = in-slot entry a c m in
+      router_in = λ {a} {c} m. let r = in_slot entry a c m in
           let g = slot_facts n entry r.0 (every_gives (slot_good n entry) (attachments entry) f.slots r.0 r.1) in
           rw r.2 g.0;
-      cost_most = λ {a} {c} m. let r = in-slot entry a c m in rw r.3 (word_small entry (4 + 4 * r.0) bytes);
+      cost_most = λ {a} {c} m. let r = in_slot entry a c m in rw r.3 (word_small entry (4 + 4 * r.0) bytes);
       once = λ i j a c k h hj p q.
           routers_differ entry i j new h (omega arith) (router_of_slot entry j a k (omega arith) q ∙ sym (router_of_slot entry i a c (omega arith) p));
     }

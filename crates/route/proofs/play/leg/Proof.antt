@@ -8,7 +8,8 @@ use native.Mathlib.Numerals.{add-one}
 use borrow.Author.Rules.{rules}
 use Rattle.lfa.specs.Space.{has}
 use Rattle.lfa.specs.Route.{go, options, choice_at, option_taken, Takes}
-use Rattle.lfa.proofs.Laws.Walk.{level, measure}
+use Rattle.lfa.proofs.Laws.Walk.{measure}
+use Rattle.lfa.specs.Sound.{level}
 use Rattle.metric.specs.Columns.{arcs_in}
 use Rattle.metric.specs.Area.{held}
 use Rattle.metric.specs.Column.{slots_in}

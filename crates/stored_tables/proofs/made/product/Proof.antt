@@ -1,4 +1,4 @@
--- `table::product` meets its contract.
+-- `made::product` meets its contract.
 -- Assumes nothing.
 use Rattle.std.proofs.Common.{mul-le-mul, arith}
 use Rattle.stored_tables.proofs.made.product.Statement.{statement}
