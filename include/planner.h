@@ -44,8 +44,8 @@
  *   14      there is no repair: no pair of first hop and endpoint serves; a neighbour to which the   0
  *           link costs 65,535 from S (under maintenance) is no first hop
  *
- * Stack. The bytes that each call was measured to take of it at most (docs/PERFORMANCE.md, Memory), beside its arguments and its
- * result, which lie with the caller:
+ * Stack. The bytes that each call was measured to take of it at most, with the toolchain before today's (docs/PERFORMANCE.md, Memory),
+ * beside its arguments and its result, which lie with the caller:
  *
  *   planner_load                 21856      planner_link_entry            7360
  *   planner_prefix_entry          7360      planner_distances            19626
