@@ -4,6 +4,7 @@
 ghost use Rattle.std.specs.Prelude.{◌≡◌, ◌+◌, min};
 ghost use Rattle.lfa.specs.Distance.{unreachable};
 
+pub mod columns;
 pub mod read;
 
 // A distance between routers, as a 32-bit number.

@@ -1,5 +1,5 @@
 // Numbers as they are read from columns and areas.
-ghost use Rattle.std.specs.Prelude.{◌≡◌};
+ghost use Rattle.std.specs.Prelude.{◌≡◌, length};
 ghost use Rattle.metric.specs.Fit.{cells_fit};
 ghost use Rattle.metric.specs.Area.{cell_in};
 
@@ -41,4 +41,27 @@ pub fn cell(dist: &[u32], n: usize, x: usize, t: usize) -> u32
         return Distance::UNREACHABLE;
     }
     dist[x * n + t]
+}
+
+// The distances between n routers, row by row, row = start, in an area that is only read.
+#[derive(Clone, Copy)]
+pub struct Area<'a> {
+    pub n: usize,
+    pub cells: &'a [u32],
+}
+
+impl Area<'_> {
+    // Whether there are at most 64 routers, and a cell for each two of them.
+    pub fn fits(&self) -> bool
+        ensures { result ≡ cells_fit self.now.n (length self.now.cells.now) }
+    {
+        cells_fit(self.n, self.cells.len())
+    }
+
+    // D(x,t), and unreachable where the area has no such cell.
+    pub fn distance(&self, x: usize, t: usize) -> u32
+        ensures { result ≡ cell_in self.now.n self.now.cells.now x t }
+    {
+        cell(self.cells, self.n, x, t)
+    }
 }

@@ -19,7 +19,7 @@ use Rattle.block.specs.First.{first_or}
 use Rattle.block.specs.Judged.{Sized}
 use Rattle.block.specs.Laws.First.{answer_found, answer_none}
 use Rattle.block.specs.Laws.Rows.{first_here, first_next}
-use Rattle.network_file.specs.declared.network.Links.{Links}
+use Rattle.metric.specs.declared.columns.Links.{Links}
 use Rattle.network_file.specs.Struct.{from_of, to_of, out_of, back_of, link_column, links_in, prefixes_in, attached_column, slot_column, router_of, cost_of, struct_of, links_struct_of}
 use Rattle.network_file.specs.Entry.{link_rows, prefix_rows, Counted, PrefixesSound, EndsIn, EndsBelow}
 

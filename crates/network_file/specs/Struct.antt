@@ -7,7 +7,7 @@ use Rattle.lfa.specs.Network.{Link, link, Attachment, at, Target}
 use Rattle.lfa.specs.File.{Bytes, link_of, prefix_of}
 use Rattle.lfa.specs.FileOf.{pad}
 use Rattle.network_file.specs.declared.network.Network.{Network}
-use Rattle.network_file.specs.declared.network.Links.{Links}
+use Rattle.metric.specs.declared.columns.Links.{Links}
 use Rattle.network_file.specs.declared.link.LinkColumns.{LinkColumns}
 use Rattle.network_file.specs.declared.prefix.PrefixColumns.{PrefixColumns}
 

@@ -2,6 +2,8 @@
 ghost use Rattle.std.specs.Prelude.{◌≡◌, []};
 ghost use Rattle.network_file.specs.Struct.{struct_of, links_struct_of};
 
+pub use metric::columns::Links;
+
 // Routers, links and prefixes as document 01 counts them. Link k joins from[k] and to[k], at cost out[k] one way and back[k] the
 // other. Slot s of prefix p is cell p * 8 + s of `at` (the router) and `own` (its cost); the first attached[p] of its eight are used.
 #[derive(Clone, Copy)]
@@ -16,18 +18,6 @@ pub struct Network {
     pub attached: [u8; 128],
     pub at: [u8; 1024],
     pub own: [u16; 1024],
-}
-
-// A network without the attachments of its prefixes: its counts and its links, for the questions that need no more.
-#[derive(Clone, Copy)]
-pub struct Links {
-    pub routers: usize,
-    pub links: usize,
-    pub prefixes: usize,
-    pub from: [u8; 128],
-    pub to: [u8; 128],
-    pub out: [u16; 128],
-    pub back: [u16; 128],
 }
 
 // The network with nothing in it, which goes with a refusal.

@@ -24,7 +24,7 @@ use Rattle.network_file.specs.declared.Fault.{Fault}
 use Rattle.network_file.specs.declared.Verdict.{Verdict}
 use Rattle.network_file.specs.declared.Verdict.TheVariants as verdict
 use Rattle.network_file.specs.Load.{fault_row, fault_of, answer_of}
-use Rattle.network_file.specs.declared.network.Links.{Links}
+use Rattle.metric.specs.declared.columns.Links.{Links}
 use Rattle.network_file.specs.declared.network.Network as struct
 use Rattle.network_file.specs.Struct.{struct_of, links_struct_of, link_part}
 use Rattle.table.specs.Calls.{table_holds}

@@ -3,7 +3,7 @@
 use Rattle.std.specs.Prelude.{◌≡◌}
 use Rattle.lfa.specs.File.{Bytes, network_of}
 use Rattle.lfa.specs.Refusal.{Accepted}
-use Rattle.network_file.specs.declared.network.Links.{Links}
+use Rattle.metric.specs.declared.columns.Links.{Links}
 use Rattle.network_file.specs.Struct.{links_struct_of}
 
 pub record Taken (b : Bytes) (links : Links) : Type 0 where

@@ -12,7 +12,7 @@ use Rattle.lfa.specs.Answer.{Answer, refusal, early_answer, answer_to, network_l
 use Rattle.network_file.specs.declared.Verdict.{Verdict}
 use Rattle.network_file.specs.Load.{fault_row, answer_of}
 use Rattle.network_file.specs.Struct.{links_struct_of}
-use Rattle.network_file.specs.declared.network.Links.{Links}
+use Rattle.metric.specs.declared.columns.Links.{Links}
 use Rattle.rows.specs.declared.Cells.{Cells}
 use Rattle.question.specs.declared.Refusal.{Refusal}
 use Rattle.question.specs.declared.Refusal.TheVariants.{File, ShortArea, ShortBuffer, NoSuchLink, NoSuchPrefix, NoPair, BadRanks, WrongTable}

@@ -7,7 +7,7 @@ ghost use Rattle.lfa.specs.Space.{Space};
 ghost use Rattle.lfa.specs.Ranks.{is_arrangement};
 ghost use Rattle.lfa.specs.Refusal.{in_early};
 ghost use Rattle.lfa.specs.Answer.{network_loaded};
-ghost use Rattle.network_file.specs.declared.network.Links as struct;
+ghost use Rattle.metric.specs.declared.columns.Links as struct;
 ghost use Rattle.network_file.specs.Struct.{struct_of, link_part};
 ghost use Rattle.rows.specs.Rows.{question_about, row_decided};
 ghost use Rattle.question.specs.Turning.{work_cells, table_cells, turned_row, IsLoaded, Counts, Columns, TableJudged, Judges, Poses};

@@ -6,7 +6,7 @@ use Rattle.lfa.specs.Network.{Arc}
 use Rattle.lfa.specs.Distance.{unreachable}
 use Rattle.lfa.specs.Space.{Protected, Space}
 use Rattle.lfa.specs.Repair.{Outcome, prefix_unreachable, prefix_untouched, none_serves}
-use Rattle.network_file.specs.declared.network.Links.{Links}
+use Rattle.metric.specs.declared.columns.Links.{Links}
 use Rattle.network_file.specs.declared.network.Network.{Network}
 use Rattle.network_file.specs.Struct.{link_part}
 use Rattle.metric.specs.Columns.{arcs_in}

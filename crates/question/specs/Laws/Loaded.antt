@@ -13,7 +13,7 @@ use Rattle.lfa.proofs.Laws.Accepted.{accepted_limits, accepted_loaded, link_coun
 use Rattle.network_file.specs.declared.Verdict.TheVariants as verdict
 use Rattle.network_file.specs.Struct.{links_struct_of}
 use Rattle.network_file.specs.Laws.Struct.{struct_columns}
-use Rattle.network_file.specs.declared.network.Links.{Links}
+use Rattle.metric.specs.declared.columns.Links.{Links}
 use Rattle.metric.specs.Fit.{ColumnsWithin}
 use Rattle.metric.specs.Columns.{InColumns}
 use Rattle.metric.proofs.Laws.Columns.{limits_columns}

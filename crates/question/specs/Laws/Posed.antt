@@ -12,7 +12,7 @@ use Rattle.lfa.specs.Answer.{network_loaded}
 use Rattle.lfa.specs.Contract.{Answered}
 use Rattle.lfa.proofs.Laws.Accepted.{accepted_loaded}
 use Rattle.lfa.proofs.Laws.Turned.{TurnedAway, answer_turned_away, answer_posed}
-use Rattle.network_file.specs.declared.network.Links.{Links}
+use Rattle.metric.specs.declared.columns.Links.{Links}
 use Rattle.metric.proofs.Laws.Area as metric
 use Rattle.question.specs.declared.Refusal.{Refusal}
 use Rattle.question.specs.declared.Turned.{Turned}

@@ -12,7 +12,7 @@ use Rattle.lfa.specs.Answer.{Answer, done, set, repair_answer, computed, answer_
 use Rattle.lfa.proofs.Laws.Accepted.{accepted_loaded}
 use Rattle.lfa.proofs.Laws.Asked.{posed_work}
 use Rattle.lfa.proofs.Laws.Replies.{computes, has, space_has_link, link_has_link, prefix_has_link, prefix_has_prefix}
-use Rattle.network_file.specs.declared.network.Links.{Links}
+use Rattle.metric.specs.declared.columns.Links.{Links}
 use Rattle.network_file.specs.declared.network.Network.{Network}
 use Rattle.network_file.specs.Struct.{struct_of, link_part}
 use Rattle.search.specs.Calls.{space_by, link_by, prefix_by}

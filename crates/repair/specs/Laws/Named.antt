@@ -10,7 +10,7 @@ use Rattle.lfa.specs.File.{Bytes, network_of}
 use Rattle.lfa.specs.Distance.{distances, distance_in, filled}
 use Rattle.lfa.specs.Space.{under_maintenance, protected_by, protected}
 use Rattle.lfa.proofs.Laws.File.WrittenFile.{limits_few}
-use Rattle.network_file.specs.declared.network.Links.{Links}
+use Rattle.metric.specs.declared.columns.Links.{Links}
 use Rattle.network_file.specs.declared.network.Network.{Network}
 use Rattle.network_file.specs.Struct.{struct_of, links_struct_of}
 use Rattle.network_file.specs.Laws.Struct.{struct_link, slots_prefix, slots_within}

@@ -17,7 +17,7 @@ use Rattle.lfa.specs.Refusal.{Posed}
 use Rattle.lfa.proofs.Laws.Accepted.{link_count, prefix_count}
 use Rattle.lfa.proofs.Laws.Network.{LinksSound, limits_links, limits_sound, limits_distances, limits_named}
 use Rattle.lfa.proofs.Laws.Work.{work_length}
-use Rattle.network_file.specs.declared.network.Links.{Links}
+use Rattle.metric.specs.declared.columns.Links.{Links}
 use Rattle.network_file.specs.declared.network.Network.{Network}
 use Rattle.network_file.specs.Struct.{struct_of, link_part}
 use Rattle.metric.specs.Area.{held}

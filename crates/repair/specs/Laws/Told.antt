@@ -7,7 +7,7 @@ use Rattle.lfa.specs.Space.{Space, p_space}
 use Rattle.lfa.specs.Ranks.{is_arrangement}
 use Rattle.lfa.specs.Repair.{Outcome}
 use Rattle.lfa.specs.Answer.{Answer, repair_answer}
-use Rattle.network_file.specs.declared.network.Links.{Links}
+use Rattle.metric.specs.declared.columns.Links.{Links}
 use Rattle.rows.specs.declared.Asked.{Asked}
 use Rattle.rows.specs.declared.Cells.{Cells}
 use Rattle.rows.specs.Rows.{question_about}

@@ -10,7 +10,7 @@ use Rattle.lfa.specs.Repair.{link_outcome, prefix_outcome}
 use Rattle.lfa.proofs.Laws.Test.{and_make}
 use Rattle.lfa.proofs.Laws.Bound.{falls}
 use Rattle.lfa.proofs.Laws.Repair.{may_test}
-use Rattle.network_file.specs.declared.network.Links.{Links}
+use Rattle.metric.specs.declared.columns.Links.{Links}
 use Rattle.network_file.specs.declared.network.Network.{Network}
 use Rattle.network_file.specs.Struct.{link_part}
 use Rattle.metric.specs.Area.{held}
