@@ -14,6 +14,7 @@ ghost use Rattle.table.specs.Sums.{Tested};
 
 use costs::costs_fit;
 use fit::links_fit;
+use metric::columns::Links;
 use metric::read::cells_fit;
 
 mod costs;
@@ -49,25 +50,25 @@ fn agrees<'a>(
 }
 
 // Whether the first routers * routers cells of the table are the distances, row by row, row = start.
-pub fn holds_distances<'a>(
-    routers: usize,
-    links: usize,
-    from: &'a [u8; 128],
-    to: &'a [u8; 128],
-    out: &'a [u16; 128],
-    back: &'a [u16; 128],
-    table: &[u32],
-) -> bool
-    ensures { result ≡ table_holds routers links from.now to.now out.now back.now table.now }
+pub fn holds_distances(links: &Links, table: &[u32]) -> bool
+    ensures { result ≡ table_holds links.now.routers links.now.links links.now.from links.now.to links.now.out links.now.back table.now }
 {
-    if !cells_fit(routers, table.len()) {
+    if !cells_fit(links.routers, table.len()) {
         return false;
     }
-    if !links_fit(routers, links, from, to) {
+    if !links_fit(links.routers, links.links, &links.from, &links.to) {
         return false;
     }
-    if !costs_fit(links, out, back) {
+    if !costs_fit(links.links, &links.out, &links.back) {
         return false;
     }
-    agrees(routers, links, from, to, out, back, table)
+    agrees(
+        links.routers,
+        links.links,
+        &links.from,
+        &links.to,
+        &links.out,
+        &links.back,
+        table,
+    )
 }
