@@ -1,9 +1,14 @@
 -- The answer of a loop that looks for the first number at which a test fails.
 -- Assumes nothing.
-use Rattle.std.specs.Prelude.{ℕ}
-use Rattle.std.proofs.Math.Option.{Option, none, some}
+use Rattle.std.specs.Prelude.{ℕ, Option, Some, None}
+use Rattle.std.proofs.Math.Option as maybe
+
+-- the answer of code, as `first_failing` gives it
+abbrev pub found_in : Option ℕ → maybe.Option ℕ
+found_in None = maybe.none
+found_in (Some k) = maybe.some k
 
 -- the number found, or `end` where none was
-unfoldable pub first_or : ℕ → Option ℕ → ℕ
-first_or end none = end
-first_or end (some k) = k
+unfoldable pub first_or : ℕ → maybe.Option ℕ → ℕ
+first_or end maybe.none = end
+first_or end (maybe.some k) = k

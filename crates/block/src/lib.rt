@@ -15,19 +15,18 @@ mod check;
 mod head;
 mod later;
 
-// The first of rows 1 to 5 that applies to a file, with the value that it returns, or that none does.
+// What turns a file's blocks away: the first of rows 1 to 5 that applies, with the value that it returns.
 #[derive(Clone, Copy)]
-pub enum Blocks {
-    BadLength,
-    BadCheck(usize),
-    BadHead,
-    BadBlockCount(usize),
-    BadBlock(usize),
-    Passed,
+pub enum BlockFault {
+    Length,
+    Check(usize),
+    Head,
+    BlockCount(usize),
+    Block(usize),
 }
 
 // Rows 4 and 5, for a file of n whole blocks.
-fn judge_later(file: &[u8], n: usize) -> Blocks
+fn judge_later(file: &[u8], n: usize) -> Result<(), BlockFault>
     requires { (n ≡ blocks_in file.now) × (1 ≤ n) × (n ≤ 13) × (512 * n ≤ length file.now) }
     ensures { blocks_decided result ≡ first_row (file_returned file.now) later_rows }
 {
@@ -35,29 +34,29 @@ fn judge_later(file: &[u8], n: usize) -> Blocks
     let prefixes = word_at(file, 8) as usize;
     let needed = blocks_needed(links, prefixes);
     if n != needed {
-        return Blocks::BadBlockCount(needed);
+        return Err(BlockFault::BlockCount(needed));
     }
     let bad = first_bad_block(file, n, links, prefixes);
     if bad < n {
-        return Blocks::BadBlock(bad);
+        return Err(BlockFault::Block(bad));
     }
-    Blocks::Passed
+    Ok(())
 }
 
 // Rows 1 to 5, each over the whole file before the next.
-pub fn judge_blocks(file: &[u8]) -> Blocks
+pub fn judge_blocks(file: &[u8]) -> Result<(), BlockFault>
     ensures { blocks_decided result ≡ first_row (file_returned file.now) block_rows }
 {
     if !length_good(file) {
-        return Blocks::BadLength;
+        return Err(BlockFault::Length);
     }
     let n = file.len() / 512;
     let bad = first_bad_check(file, n);
     if bad < n {
-        return Blocks::BadCheck(bad);
+        return Err(BlockFault::Check(bad));
     }
     if !head_good(file) {
-        return Blocks::BadHead;
+        return Err(BlockFault::Head);
     }
     judge_later(file, n)
 }
