@@ -1,1 +1,1 @@
-mod FitLaws
+pub mod FitLaws
