@@ -9,7 +9,7 @@ ghost use Rattle.lfa.specs.File.{word_at, all_zero};
 pub fn word_of(low: u8, high: u8) -> u16
     ensures { result ≡ low + 256 * high }
 {
-    (low as u16) + 256 * (high as u16)
+    u16::from(low) + 256 * u16::from(high)
 }
 
 // The 16-bit field at an offset.
@@ -32,14 +32,11 @@ pub fn word_at(s: &[u8], at: usize) -> u16
 pub fn all_zero(s: &[u8]) -> bool
     ensures { result ≡ all_zero s.now }
 {
-    let n = s.len();
     let mut zero = true;
-    let mut i: usize = 0;
-    while i < n {
-        if s[i] != 0 {
+    for byte in s {
+        if *byte != 0 {
             zero = false;
         }
-        i += 1;
     }
     zero
 }
