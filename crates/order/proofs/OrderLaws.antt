@@ -1,53 +1,33 @@
--- Laws of the order: the code's comparison is that of the keys, and the earlier pair is kept.
+-- The comparison of two tuples of numbers is that of the lists of keys: the first place at which they differ decides.
 -- Assumes nothing.
-use Prim.Native.Nat.{ℕ}
-use mathlib.Core.Path.{◌≡◌, refl, sym, ◌∙◌}
-use mathlib.Core.Bool.{Bool, true, false, ◌&&◌, ◌||◌}
-use mathlib.Core.Option.{some}
-use mathlib.Core.List.{List, [], ◌∷◌}
-use native.Mathlib.Omega.{arith}
-use lib.Dec.{eqb, ltb, leb}
-use borrow.Author.Tests.{le-ltb, eq-eqb, ne_eqb, le-leb, lt-leb, ltb-true, ltb-false, eqb-true, eqb-false}
+use Rattle.std.proofs.Common.{◌≡◌, ℕ, Bool, true, false, cond, ◌&&◌, ◌||◌, [], ◌∷◌, eqb, ltb, refl}
+use Rattle.std.specs.Prelude.{Option, Some}
+use Rattle.std.specs.declared.cmp.Ordering.{Ordering}
+use Rattle.std.specs.declared.cmp.Ordering.TheVariants.{Less, Equal, Greater}
+use Rattle.std.specs.Ordering.{is_le, is_some_and, nat_cmp, partial_ordering_then}
 use Rattle.lfa.specs.Repair.{no_later}
-use Rattle.order.specs.declared.Ordered.{Ordered}
-use Rattle.order.specs.declared.Earliest.{Earliest}
-use Rattle.order.specs.declared.Earliest.TheVariants.{Nothing, Found}
-use Rattle.order.specs.Order.{keys_in, earliest_in, earlier_of}
 
--- ---- lists of keys, compared from the front: the first place at which they differ decides
+-- two numbers compared, by whether the first is less and whether they are equal
+abbrev place : (less equal : Bool) → Option Ordering
+place l e = Some (cond l Less (cond e Equal Greater))
 
-pub later_differ : {x y : ℕ} (a b : List ℕ) → (x ≡ y → ⊥) → ltb x y ≡ no_later (x ∷ a) (y ∷ b)
+-- five places, the first of them innermost
+abbrev five : (a b c d e : Option Ordering) → Bool
+five a b c d e = is_some_and is_le (partial_ordering_then (partial_ordering_then (partial_ordering_then (partial_ordering_then a b) c) d) e)
+
+by_tests : (l e m f n g p h q i : Bool) → five (place l e) (place m f) (place n g) (place p h) (place q i) ≡ (l || (e && (m || (f && (n || (g && (p || (h && (q || (i && true))))))))))
+by_tests true e m f n g p h q i = refl
+by_tests false false m f n g p h q i = refl
+by_tests false true true f n g p h q i = refl
+by_tests false true false false n g p h q i = refl
+by_tests false true false true true g p h q i = refl
+by_tests false true false true false false p h q i = refl
+by_tests false true false true false true true h q i = refl
+by_tests false true false true false true false false q i = refl
+by_tests false true false true false true false true true i = refl
+by_tests false true false true false true false true false true = refl
+by_tests false true false true false true false true false false = refl
+
+pub tuples_later : (a b c d e v w x y z : ℕ) → five (Some (nat_cmp a v)) (Some (nat_cmp b w)) (Some (nat_cmp c x)) (Some (nat_cmp d y)) (Some (nat_cmp e z)) ≡ no_later (a ∷ b ∷ c ∷ d ∷ e ∷ []) (v ∷ w ∷ x ∷ y ∷ z ∷ [])
 unfolding no_later
-later_differ {x} {y} a b h = rw (ne_eqb x y h) (go (ltb x y))
-  where
-    go : (t : Bool) → t ≡ (t || false)
-    go true = refl
-    go false = refl
-
-pub later_equal : {x y : ℕ} (a b : List ℕ) → x ≡ y → no_later a b ≡ no_later (x ∷ a) (y ∷ b)
-unfolding no_later
-later_equal {x} {y} a b e = rw (le-ltb x y (omega arith), eq-eqb x y e)
-
-pub later_last : (x y : ℕ) → leb x y ≡ no_later (x ∷ []) (y ∷ [])
-unfolding no_later
-later_last x y = go (ltb x y) refl (eqb x y) refl
-  where
-    go : (t : Bool) → ltb x y ≡ t → (u : Bool) → eqb x y ≡ u → leb x y ≡ (t || (u && true))
-    go true e u f = le-leb x y (omega (arith, ltb-true))
-    go false e true f = le-leb x y (omega (arith, eqb-true))
-    go false e false f = let ne : x ≡ y → ⊥ = eqb-false x y f in lt-leb x y (omega (arith, ltb-false))
-
--- ---- the earlier of what was found and one more
-
-pub nothing_found : (r : Earliest) (o : Ordered) → ((p : Ordered) → r ≡ Found p → ⊥) → some o ≡ earlier_of (earliest_in r) o
-unfolding earlier_of
-nothing_found Nothing o t = refl
-nothing_found (Found p) o t = absurd (t p refl)
-
-pub found_stays : {r : Earliest} {p : Ordered} {b : Bool} (q : Ordered) → r ≡ Found p → b ≡ no_later (keys_in p) (keys_in q) → b ≡ true → some p ≡ earlier_of (earliest_in r) q
-unfolding earlier_of
-found_stays {p} q e s t = let n : no_later (keys_in p) (keys_in q) ≡ true = sym s ∙ t in rw (e, earlier_of, n)
-
-pub found_yields : {r : Earliest} {p : Ordered} {b : Bool} (q : Ordered) → r ≡ Found p → b ≡ no_later (keys_in p) (keys_in q) → b ≡ false → some q ≡ earlier_of (earliest_in r) q
-unfolding earlier_of
-found_yields {p} q e s t = let n : no_later (keys_in p) (keys_in q) ≡ false = sym s ∙ t in rw (e, earlier_of, n)
+tuples_later a b c d e v w x y z = by_tests (ltb a v) (eqb a v) (ltb b w) (eqb b w) (ltb c x) (eqb c x) (ltb d y) (eqb d y) (ltb e z) (eqb e z)

@@ -1,13 +1,12 @@
 -- The order of pairs as the code holds them: the keys, in the order in which they are compared, the earlier of what was found and one pair
 -- more, the class, and what a repair tells of a pair.
 -- Assumes nothing.
-use Rattle.std.specs.Prelude.{ℕ, ◌+◌, Bool, true, false, List, [], ◌∷◌, eqb, ltb}
+use Rattle.std.specs.Prelude.{ℕ, ◌+◌, Bool, true, false, List, [], ◌∷◌, eqb, ltb, Some, None}
+use Rattle.std.specs.Prelude as code
 use Rattle.std.proofs.Math.Option.{Option, none, some}
 use Rattle.lfa.specs.Repair.{Told, no_later, or_else}
 use Rattle.order.specs.declared.Pair.{Pair}
 use Rattle.order.specs.declared.Ordered.{Ordered}
-use Rattle.order.specs.declared.Earliest.{Earliest}
-use Rattle.order.specs.declared.Earliest.TheVariants.{Nothing, Found}
 
 -- what a repair tells of a pair
 abbrev pub told_in : Pair → Told
@@ -18,9 +17,9 @@ abbrev pub keys_in : Ordered → List ℕ
 keys_in o = o.rank ∷ o.distance ∷ o.pair.endpoint ∷ o.pair.cost ∷ o.pair.first ∷ []
 
 -- what was found, if any pair was
-abbrev pub earliest_in : Earliest → Option Ordered
-earliest_in Nothing = none
-earliest_in (Found o) = some o
+abbrev pub earliest_in : code.Option Ordered → Option Ordered
+earliest_in None = none
+earliest_in (Some o) = some o
 
 -- the earlier of what was found and one more
 unfoldable pub earlier_of : Option Ordered → Ordered → Option Ordered

@@ -23,53 +23,44 @@ pub struct Ordered {
     pub pair: Pair,
 }
 
-// The earliest of the pairs that were tried, if any was.
-#[derive(Clone, Copy)]
-pub enum Earliest {
-    Nothing,
-    Found(Ordered),
-}
-
 // Whether a comes no later than b: the first of rank, distance, endpoint, tunnel cost and first hop in which they differ decides.
 fn no_later(a: Ordered, b: Ordered) -> bool
     ensures { result ≡ no_later (keys_in a) (keys_in b) }
 {
-    if a.rank != b.rank {
-        return a.rank < b.rank;
-    }
-    if a.distance != b.distance {
-        return a.distance < b.distance;
-    }
-    if a.pair.endpoint != b.pair.endpoint {
-        return a.pair.endpoint < b.pair.endpoint;
-    }
-    if a.pair.cost != b.pair.cost {
-        return a.pair.cost < b.pair.cost;
-    }
-    a.pair.first <= b.pair.first
+    (
+        a.rank,
+        a.distance,
+        a.pair.endpoint,
+        a.pair.cost,
+        a.pair.first,
+    ) <= (
+        b.rank,
+        b.distance,
+        b.pair.endpoint,
+        b.pair.cost,
+        b.pair.first,
+    )
 }
 
 // The earlier of what was found and one pair more.
-pub fn earlier(found: Earliest, next: Ordered) -> Earliest
+pub fn earlier(found: Option<Ordered>, next: Ordered) -> Option<Ordered>
     ensures { earliest_in result ≡ earlier_of (earliest_in found) next }
 {
-    let Earliest::Found(before) = found else {
-        return Earliest::Found(next);
+    let Some(before) = found else {
+        return Some(next);
     };
     if no_later(before, next) {
-        return Earliest::Found(before);
+        found
+    } else {
+        Some(next)
     }
-    Earliest::Found(next)
 }
 
 // 0 where the test passes, else the number.
 fn or_else(test: bool, k: u32) -> u32
     ensures { (result ≡ or_else test k) × (result ≤ k) }
 {
-    if test {
-        return 0;
-    }
-    k
+    if test { 0 } else { k }
 }
 
 // The class of a pair: 0 where the first hop is the endpoint, else 2, 1 more unless the endpoint is nearer to the target than S, and 4
@@ -80,13 +71,6 @@ pub fn class_of(hop: usize, endpoint: usize, end: u32, near: u32, protecting: bo
     or_else(endpoint == hop, 2) + or_else(end < near, 1) + or_else(protecting, 4)
 }
 
-// A rank as a number to compare by.
-fn rank_number(x: u8) -> u32
-    ensures { result ≡ x }
-{
-    x as u32
-}
-
 // The rank that a table gives to a class, and 0 where the table has no place for it.
 pub fn rank_of(ranks: &[u8], class: u32) -> u32
     ensures { result ≡ rank_of ranks.now class }
@@ -95,5 +79,5 @@ pub fn rank_of(ranks: &[u8], class: u32) -> u32
     if ranks.len() <= place {
         return 0;
     }
-    rank_number(ranks[place])
+    u32::from(ranks[place])
 }
