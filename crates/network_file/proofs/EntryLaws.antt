@@ -137,16 +137,10 @@ module _ (b : Bytes) (held : Links) (is : held ≡ links_struct_of (network_of b
 
   pub struct_made :
       record {
-        routers = held.routers;
-        links = held.links;
-        prefixes = held.prefixes;
-        from = held.from;
-        to = held.to;
-        out = held.out;
-        back = held.back;
+        links = held;
         attached = attached_column (prefixes_in b held.prefixes);
         at = slot_column router_of (prefixes_in b held.prefixes);
         own = slot_column cost_of (prefixes_in b held.prefixes);
       } ≡ struct_of (network_of b)
   unfolding struct_of links_struct_of network_of prefixes_in
-  struct_made = rw (held_prefixes, is, length_map_below (prefix_of b) (prefixes_of b))
+  struct_made = rw (is, length_map_below (prefix_of b) (prefixes_of b))

@@ -3,27 +3,21 @@
 -- Assumes nothing.
 use Prim.Native.Nat.{ℕ}
 use mathlib.Core.Path.{◌≡◌, refl, sym, ◌∙◌}
-use mathlib.Core.Bool.{true, false, false≢true}
 use mathlib.Core.Option.{Option, none, some}
-use mathlib.Core.List.{[], ◌∷◌, ◌++◌}
+use Rattle.std.specs.Prelude.{Result, Ok, Err}
+use mathlib.Core.List.{◌++◌}
 use native.Mathlib.Omega.{arith}
-use types.Run.{OneOf, miss}
-use denote.Enum.Declared.{tag_of}
 use Rattle.lfa.specs.File.{Bytes, network_of}
 use Rattle.lfa.specs.Question.{loading}
 use Rattle.lfa.specs.Refusal.{file_returned, file_refusal, FileRow, Decided, first_row, file_rows}
 use Rattle.lfa.specs.Answer.{answer_to, network_loaded}
 use Rattle.lfa.proofs.Laws.Turned.{load_answer, load_answer_lem}
-use Rattle.block.specs.Judged.{later_rows, block_rows, blocks_decided, Sized}
-use Rattle.block.specs.contracts.Blocks.{the_type}
-use Rattle.block.specs.declared.Blocks.{Blocks}
-use Rattle.block.specs.declared.Blocks.TheVariants.{BadLength, BadCheck, BadHead, BadBlockCount, BadBlock, Passed}
+use Rattle.block.specs.Judged.{later_rows, block_rows, Sized}
 use Rattle.block.specs.Laws.Rows.{decided_stays, undecided_next}
 use Rattle.block.specs.Laws.Sized.{blocks_passed}
-use Rattle.network_file.specs.declared.Verdict.{Verdict}
-use Rattle.network_file.specs.declared.Verdict.TheVariants.{Accepted, Refused}
+use Rattle.network_file.specs.declared.Fault.{Fault}
 use Rattle.network_file.specs.Entry.{link_rows, prefix_rows, entry_rows}
-use Rattle.network_file.specs.Load.{fault_of, answer_of, verdict_decided, undecided}
+use Rattle.network_file.specs.Load.{fault_of, answer_of, verdict_decided}
 
 -- ---- the rows of a file
 
@@ -60,63 +54,26 @@ module _ (b : Bytes) where
 
 -- ---- the verdict
 
--- every case of the enum but the last, which is number 5, has a row
-pub not_passed : (j : Blocks) → OneOf (0 ∷ 1 ∷ 2 ∷ 3 ∷ 4 ∷ []) (tag_of the_type j) → undecided (blocks_decided j) ≡ false
-unfolding undecided blocks_decided
-not_passed BadLength k = refl
-not_passed (BadCheck i) k = refl
-not_passed BadHead k = refl
-not_passed (BadBlockCount n) k = refl
-not_passed (BadBlock i) k = refl
-not_passed Passed k = absurd (fifth k)
-  where
-    fifth : OneOf (0 ∷ 1 ∷ 2 ∷ 3 ∷ 4 ∷ []) 5 → ⊥
-    fifth k = miss (0 ∷ 1 ∷ 2 ∷ 3 ∷ 4 ∷ []) 5 tt k
-
 -- a verdict that names the row that decides is document 01's answer
-pub verdict_answers : (b : Bytes) (v : Verdict) → verdict_decided v ≡ file_refusal b → answer_of v ≡ answer_to (loading b)
+pub verdict_answers : {T : Type 0} (b : Bytes) (v : Result T Fault) → verdict_decided v ≡ file_refusal b → answer_of v ≡ answer_to (loading b)
 unfolding verdict_decided answer_of fault_of load_answer
-verdict_answers b Accepted e = sym (load_answer_lem b ∙ rw (← e))
-verdict_answers b (Refused f) e = sym (load_answer_lem b ∙ rw (← e))
+verdict_answers b (Ok held) e = sym (load_answer_lem b ∙ rw (← e))
+verdict_answers b (Err f) e = sym (load_answer_lem b ∙ rw (← e))
 
--- what the test for a row tells
-pub none_there : (o : Option (Decided FileRow)) → undecided o ≡ true → o ≡ none
-unfolding undecided
-none_there none e = refl
-none_there (some d) e = cc
-
--- where a row decides among the first rows, it decides among all
-pub stays : (b : Bytes) (o : Option (Decided FileRow)) → first_row (file_returned b) link_rows ≡ o → undecided o ≡ false → o ≡ first_row (file_returned b) entry_rows
-unfolding undecided
-stays b none p e = absurd (false≢true (sym e))
-stays b (some d) p e = sym (links_refuse b d p)
-
-module _ (b : Bytes) where
-  -- ---- the network
-
-  -- of a file that no row turns away ..
-  pub accepted_network : undecided (file_refusal b) ≡ true → network_of b ≡ network_loaded b
+-- A file that no row turns away: its network is what `load` hands over, rows 1 to 5 have found its sizes, and rows 8 and 9 pass.
+module _ (b : Bytes) (e : none ≡ file_refusal b) where
+  pub accepted_network : network_of b ≡ network_loaded b
   unfolding network_loaded
-  accepted_network e = sym (rw (none_there _ e, network_loaded))
+  accepted_network = rw (network_loaded, sym e)
 
-  -- .. and of one that a row turns away
-  pub refused_network : undecided (file_refusal b) ≡ false → record { routers = 0; links = []; prefixes = [] } ≡ network_loaded b
-  unfolding undecided network_loaded
-  refused_network e = go (file_refusal b) refl e
-    where
-      go : (o : Option (Decided FileRow)) → file_refusal b ≡ o → undecided o ≡ false → record { routers = 0; links = []; prefixes = [] } ≡ network_loaded b
-      go none p e = absurd (false≢true (sym e))
-      go (some d) p e = sym (rw (p, network_loaded))
+  pub accepted_sized : Sized b
+  accepted_sized = blocks_passed b (blocks_none b (sym e))
 
-  -- what the network of an accepted file is made from: its sizes, and that rows 8 and 9 pass
-  pub accepted_sized : undecided (file_refusal b) ≡ true → Sized b
-  accepted_sized e = blocks_passed b (blocks_none b (none_there _ e))
-
-  pub accepted_prefixes : undecided (file_refusal b) ≡ true → first_row (file_returned b) prefix_rows ≡ none
-  accepted_prefixes e = go (first_row (file_returned b) link_rows) refl
+  pub accepted_prefixes : first_row (file_returned b) prefix_rows ≡ none
+  accepted_prefixes = go (first_row (file_returned b) link_rows) refl
     where
       entries : first_row (file_returned b) entry_rows ≡ none
-      entries = sym (blocks_pass b (blocks_none b (none_there _ e))) ∙ none_there _ e
+      entries = sym (blocks_pass b (blocks_none b (sym e))) ∙ sym e
 
       go : (o : Option (Decided FileRow)) → first_row (file_returned b) link_rows ≡ o → first_row (file_returned b) prefix_rows ≡ none
       go none p = sym (links_pass b p) ∙ entries

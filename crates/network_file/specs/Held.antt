@@ -19,7 +19,7 @@ targets_in attached routers costs n = map (target_in attached routers costs) (be
 unfoldable pub network_held : Network → lfa.Network
 network_held s =
     record {
-      routers = s.routers;
-      links = links_in s.from s.to s.out s.back s.links;
-      prefixes = targets_in s.attached s.at s.own s.prefixes;
+      routers = s.links.routers;
+      links = links_in s.links.from s.links.to s.links.out s.links.back s.links.links;
+      prefixes = targets_in s.attached s.at s.own s.links.prefixes;
     }

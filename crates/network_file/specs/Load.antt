@@ -1,13 +1,11 @@
 -- What `load` answers, in document 01's numbers and values.
 -- Assumes nothing.
-use Rattle.std.specs.Prelude.{Bool, true, false}
+use Rattle.std.specs.Prelude.{Result, Ok, Err}
 use Rattle.std.proofs.Math.Option.{Option, none, some}
 use Rattle.lfa.specs.Refusal.{FileRow, bad_length, bad_check, bad_head, bad_block_count, bad_block, bad_link, parallel_link, bad_prefix, router_twice, Decided, decided, in_file}
 use Rattle.lfa.specs.Answer.{Answer, accepted, refusal}
 use Rattle.network_file.specs.declared.Fault.{Fault}
 use Rattle.network_file.specs.declared.Fault.TheVariants.{Length, Check, Head, BlockCount, Block, Link, ParallelLink, Prefix, RouterTwice}
-use Rattle.network_file.specs.declared.Verdict.{Verdict}
-use Rattle.network_file.specs.declared.Verdict.TheVariants.{Accepted, Refused}
 
 -- the row of each fault, with the value that it returns
 unfoldable pub fault_row : Fault → Decided FileRow
@@ -24,17 +22,12 @@ fault_row (RouterTwice p) = decided router_twice p
 unfoldable pub fault_of : Fault → Answer
 fault_of f = refusal (in_file (fault_row f))
 
--- document 01's answer for each verdict
-unfoldable pub answer_of : Verdict → Answer
-answer_of Accepted = accepted
-answer_of (Refused f) = fault_of f
+-- document 01's answer where a file is accepted, whatever is handed over then, or turned away
+unfoldable pub answer_of : {T : Type 0} → Result T Fault → Answer
+answer_of (Ok held) = accepted
+answer_of (Err f) = fault_of f
 
--- the row that decides, with the value that it returns, for each verdict
-unfoldable pub verdict_decided : Verdict → Option (Decided FileRow)
-verdict_decided Accepted = none
-verdict_decided (Refused f) = some (fault_row f)
-
--- no row decides
-unfoldable pub undecided : Option (Decided FileRow) → Bool
-undecided none = true
-undecided (some d) = false
+-- the row that decides, with the value that it returns
+unfoldable pub verdict_decided : {T : Type 0} → Result T Fault → Option (Decided FileRow)
+verdict_decided (Ok held) = none
+verdict_decided (Err f) = some (fault_row f)

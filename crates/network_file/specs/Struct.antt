@@ -63,23 +63,7 @@ link_columns links =
 unfoldable pub prefix_columns : List Target → PrefixColumns
 prefix_columns prefixes = record { attached = attached_column prefixes; at = slot_column router_of prefixes; own = slot_column cost_of prefixes }
 
--- the network by value
-unfoldable pub struct_of : lfa.Network → Network
-struct_of net =
-    record {
-      routers = net.routers;
-      links = length net.links;
-      prefixes = length net.prefixes;
-      from = link_column from_of net.links;
-      to = link_column to_of net.links;
-      out = link_column out_of net.links;
-      back = link_column back_of net.links;
-      attached = attached_column net.prefixes;
-      at = slot_column router_of net.prefixes;
-      own = slot_column cost_of net.prefixes;
-    }
-
--- its counts and its links, in the same columns
+-- the counts and the links of a network, by value
 unfoldable pub links_struct_of : lfa.Network → Links
 links_struct_of net =
     record {
@@ -92,18 +76,19 @@ links_struct_of net =
       back = link_column back_of net.links;
     }
 
--- the same of a network by value
-abbrev pub link_part : Network → Links
-link_part network =
+-- the network by value: its counts and its links, and its attachments
+unfoldable pub struct_of : lfa.Network → Network
+struct_of net =
     record {
-      routers = network.routers;
-      links = network.links;
-      prefixes = network.prefixes;
-      from = network.from;
-      to = network.to;
-      out = network.out;
-      back = network.back;
+      links = links_struct_of net;
+      attached = attached_column net.prefixes;
+      at = slot_column router_of net.prefixes;
+      own = slot_column cost_of net.prefixes;
     }
+
+-- the counts and the links of a network by value
+abbrev pub link_part : Network → Links
+link_part network = network.links
 
 -- ---- what a file holds
 

@@ -129,8 +129,9 @@ slots_within net limits p h =
 pub struct_held : (net : Network) → FewAttached net → network_held (struct_of net) ≡ net
 unfolding network_held
 struct_held net few =
-    let links : links_in (struct_of net).from (struct_of net).to (struct_of net).out (struct_of net).back (struct_of net).links ≡ net.links =
+    let s = struct_of net in
+    let links : links_in s.links.from s.links.to s.links.out s.links.back s.links.links ≡ net.links =
     unfold struct_of links_struct_of in sym (struct_columns net).links_are in
-    let prefixes : targets_in (struct_of net).attached (struct_of net).at (struct_of net).own (struct_of net).prefixes ≡ net.prefixes =
-    unfold targets_in struct_of in made_again _ net.prefixes [] (slots_prefix net few) in
-    rw (links, prefixes) (unfold struct_of in refl)
+    let prefixes : targets_in s.attached s.at s.own s.links.prefixes ≡ net.prefixes =
+    unfold targets_in struct_of links_struct_of in made_again _ net.prefixes [] (slots_prefix net few) in
+    rw (links, prefixes) (unfold struct_of links_struct_of in refl)
