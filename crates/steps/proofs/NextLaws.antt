@@ -116,18 +116,12 @@ module _ (ends : ℕ) (target : ℕ → ℕ) where
           by h false b e = ap (λ (t : Bool). t && h) e
 
   -- one link more: its two hops, each put to the set of the router that it leaves
-  pub next_more : {l m r : List ℕ} (from to out back : List ℕ) (k : ℕ) → get_or from k 0 < 64 → get_or to k 0 < 64 → l ≡ nexts_in ends target (arcs_in from to out back k) →
-      m ≡ set l (get_or from k 0) (bit_or (get_or l (get_or from k 0) 0) (set_of 64 (Hop ends target (get_or from k 0) (get_or to k 0) (get_or out k 0)))) →
-      r ≡ set m (get_or to k 0) (bit_or (get_or m (get_or to k 0) 0) (set_of 64 (Hop ends target (get_or to k 0) (get_or from k 0) (get_or back k 0)))) →
-      r ≡ nexts_in ends target (arcs_in from to out back (k + 1))
-  next_more from to out back k ha hb e me re =
-      let there : Arc = arc (get_or from k 0) (get_or to k 0) (get_or out k 0) k in
-      let home : Arc = arc (get_or to k 0) (get_or from k 0) (get_or back k 0) k in
+  pub next_more : {u v c d : ℕ} {l m r : List ℕ} (from to out back : List ℕ) (k : ℕ) → u ≡ get_or from k 0 → v ≡ get_or to k 0 → c ≡ get_or out k 0 → d ≡ get_or back k 0 → u < 64 → v < 64 →
+      l ≡ nexts_in ends target (arcs_in from to out back k) → m ≡ set l u (bit_or (get_or l u 0) (set_of 64 (Hop ends target u v c))) →
+      r ≡ set m v (bit_or (get_or m v 0) (set_of 64 (Hop ends target v u d))) → r ≡ nexts_in ends target (arcs_in from to out back (k + 1))
+  next_more {u} {v} {c} {d} from to out back k u-is v-is c-is d-is hu hv e me re =
+      let there : Arc = arc u v c k in
+      let home : Arc = arc v u d k in
       let hops : List Arc = arcs_in from to out back k in
-      re ∙ put (hops ++ (there ∷ [])) (get_or to k 0) (get_or from k 0) (get_or back k 0) k hb (me ∙ put hops (get_or from k 0) (get_or to k 0) (get_or out k 0) k ha e refl) refl
-      ∙ ap (nexts_in ends target) (append_assoc hops (there ∷ []) (home ∷ []) ∙ sym (arcs_in_more from to out back k))
-
--- the hop that was put, by the numbers that were read
-pub hop_read : {u v k s : ℕ} {b : Bool} (nexts : List ℕ) (ends : ℕ) (target : ℕ → ℕ) (a b' c : ℕ) → u ≡ a → v ≡ b' → k ≡ c → b ≡ is_tight ends target u v k → s ≡ set_of 64 (λ z. b && eqb v z) →
-    set nexts u (bit_or (get_or nexts u 0) s) ≡ set nexts a (bit_or (get_or nexts a 0) (set_of 64 (Hop ends target a b' c)))
-hop_read nexts ends target a b' c ua vb kc be e = rw (e, be, ua, vb, kc)
+      let two : hops ++ (there ∷ home ∷ []) ≡ arcs_in from to out back (k + 1) = rw (u-is, v-is, c-is, d-is) (sym (arcs_in_more from to out back k)) in
+      re ∙ put (hops ++ (there ∷ [])) v u d k hv (me ∙ put hops u v c k hu e refl) refl ∙ ap (nexts_in ends target) (append_assoc hops (there ∷ []) (home ∷ []) ∙ two)

@@ -15,7 +15,7 @@ ghost use Rattle.steps.specs.Crossing.{steps_over, over_link, reaches_without, n
 use avoid::Protected;
 use fit::links_fit;
 use metric::Distance;
-use metric::read::{cost_of, wide};
+use metric::columns::Links;
 
 // What is known of the second leg of a pair, by its endpoint: the routers from which no walk crosses the protected link, and those from
 // which none visits E. Both hold only routers that reach the target.
@@ -45,75 +45,51 @@ fn one_if(test: bool, x: usize) -> u64
     requires { x < 64 }
     ensures { result ≡ set_of 64 (λ z. test && eqb x z) }
 {
-    if !test {
-        return 0;
-    }
-    1u64 << x
+    if test { 1 << x } else { 0 }
 }
 
-// Puts a hop to the next routers of the router a that it leaves, where it is a step.
-fn put_hop(a: u8, b: u8, cost: u16, ends: u64, target: &[u32; 64], nexts: &mut [u64; 64])
-    requires { (a < 64) × (b < 64) }
-    ensures { nexts.new ≡ set nexts.old a (bit_or (get_or nexts.old a 0) (set_of 64 (λ z. is_tight ends (λ y. get_or target.now y 0) a b cost && eqb b z))) }
+// Puts a hop to the next routers of the router u that it leaves, where it is a step.
+fn put_hop(u: usize, v: usize, cost: u32, ends: u64, target: &[u32; 64], nexts: &mut [u64; 64])
+    requires { (u < 64) × (v < 64) }
+    ensures { nexts.new ≡ set nexts.old u (bit_or (get_or nexts.old u 0) (set_of 64 (λ z. is_tight ends (λ y. get_or target.now y 0) u v cost && eqb v z))) }
 {
-    let u = wide(a);
-    let v = wide(b);
-    nexts[u] = nexts[u] | one_if(is_step(ends, target, u, v, cost_of(cost)), v);
+    nexts[u] |= one_if(is_step(ends, target, u, v, cost), v);
 }
 
 // The next routers of each router, in one pass over the links.
-fn nexts_over(
-    links: usize,
-    from: &[u8; 128],
-    to: &[u8; 128],
-    out: &[u16; 128],
-    back: &[u16; 128],
-    ends: u64,
-    target: &[u32; 64],
-) -> [u64; 64]
-    requires { ColumnsWithin 64 links from.now to.now }
-    ensures { result ≡ nexts_in ends (λ y. get_or target.now y 0) (arcs_in from.now to.now out.now back.now links) }
+fn nexts_over(links: &Links, ends: u64, target: &[u32; 64]) -> [u64; 64]
+    requires { ColumnsWithin 64 links.now.links links.now.from links.now.to }
+    ensures { result ≡ nexts_in ends (λ y. get_or target.now y 0) (arcs_in links.now.from links.now.to links.now.out links.now.back links.now.links) }
 {
-    let mut nexts = [0u64; 64];
-    let mut k = 0;
-    while k < links {
-        put_hop(from[k], to[k], out[k], ends, target, &mut nexts);
-        put_hop(to[k], from[k], back[k], ends, target, &mut nexts);
-        k += 1;
+    let mut nexts = [0; 64];
+    for k in 0..links.links {
+        let a = usize::from(links.from[k]);
+        let b = usize::from(links.to[k]);
+        put_hop(a, b, u32::from(links.out[k]), ends, target, &mut nexts);
+        put_hop(b, a, u32::from(links.back[k]), ends, target, &mut nexts);
     }
     nexts
 }
 
 // The next routers of each router, as a set for each; none where a link joins numbers that are not below 64.
-pub fn next_routers<'a>(
-    links: usize,
-    from: &'a [u8; 128],
-    to: &'a [u8; 128],
-    out: &'a [u16; 128],
-    back: &'a [u16; 128],
-    ends: u64,
-    target: &'a [u32; 64],
-) -> [u64; 64]
-    ensures { result ≡ nexts_by links from.now to.now out.now back.now ends target.now }
+pub fn next_routers(links: &Links, ends: u64, target: &[u32; 64]) -> [u64; 64]
+    ensures { result ≡ nexts_by links.now.links links.now.from links.now.to links.now.out links.now.back ends target.now }
 {
-    let none = [0u64; 64];
-    if !links_fit(64, links, from, to) {
-        return none;
+    if !links_fit(64, links) {
+        return [0; 64];
     }
-    nexts_over(links, from, to, out, back, ends, target)
+    nexts_over(links, ends, target)
 }
 
 // The routers of which some next router is in the set.
 fn led_to(nexts: &[u64; 64], set: u64) -> u64
     ensures { result ≡ led_to nexts.now set }
 {
-    let mut led: u64 = 0;
-    let mut x = 0;
-    while x < 64 {
+    let mut led = 0;
+    for x in 0..64 {
         if nexts[x] & set != 0 {
-            led = led | (1u64 << x);
+            led |= 1u64 << x;
         }
-        x += 1;
     }
     led
 }
@@ -122,15 +98,13 @@ fn led_to(nexts: &[u64; 64], set: u64) -> u64
 pub fn leading_to(nexts: &[u64; 64], start: u64, most: usize) -> u64
     ensures { result ≡ led_in nexts.now start most }
 {
-    let mut set: u64 = 0;
-    let mut k = 0;
-    while k < most {
+    let mut set = 0;
+    for _ in 0..most {
         let more = start | led_to(nexts, set);
         if more == set {
             return set;
         }
         set = more;
-        k += 1;
     }
     set
 }
@@ -148,18 +122,13 @@ fn over_link(protected: Protected, ends: u64, target: &[u32; 64]) -> u64
 }
 
 // Whether the hop over the protected link from S to E is a step: then traffic from S may cross the link.
+#[tactic(auto, unfolding(crate::specs::Crossing::steps_over))]
 pub fn steps_over(protected: Protected, ends: u64, target: &[u32; 64]) -> bool
     ensures { result ≡ steps_over (asked protected) ends target.now }
 {
     let near = protected.near;
     let far = protected.far;
-    if 64 <= near {
-        return false;
-    }
-    if 64 <= far {
-        return false;
-    }
-    is_step(ends, target, near, far, protected.out)
+    near < 64 && far < 64 && is_step(ends, target, near, far, protected.out)
 }
 
 // Whether router x reaches the target and is not in the set.
@@ -167,13 +136,7 @@ fn reaches_without(target: &[u32; 64], set: u64, x: usize) -> bool
     requires { x < 64 }
     ensures { result ≡ reaches_without (λ y. get_or target.now y 0) set x }
 {
-    if Distance::UNREACHABLE <= target[x] {
-        return false;
-    }
-    if (set >> x) & 1 == 1 {
-        return false;
-    }
-    true
+    target[x] < Distance::UNREACHABLE && (set >> x) & 1 != 1
 }
 
 // The routers below n that reach the target and are not in the set.
@@ -181,49 +144,37 @@ fn reaching_without(n: usize, target: &[u32; 64], set: u64) -> u64
     requires { n ≤ 64 }
     ensures { result ≡ set_of n (reaches_without (λ y. get_or target.now y 0) set) }
 {
-    let mut kept: u64 = 0;
-    let mut x = 0;
-    while x < n {
+    let mut kept = 0;
+    for x in 0..n {
         if reaches_without(target, set, x) {
-            kept = kept | (1u64 << x);
+            kept |= 1u64 << x;
         }
-        x += 1;
     }
     kept
 }
 
 // Whether there are at most 64 routers, and the ends of the link are numbers below 64.
+#[tactic(auto, unfolding(crate::specs::Crossing::numbers_fit))]
 fn numbers_fit(n: usize, protected: Protected) -> bool
     ensures { result ≡ numbers_fit n (asked protected) }
 {
-    if 64 < n {
-        return false;
-    }
-    protected.near < 64 && protected.far < 64
+    n <= 64 && protected.near < 64 && protected.far < 64
 }
 
 // The routers that avoid the protected link on the way to the target, and those that do not visit E, found by following the steps of
 // walks backwards from the link and from E. None, where the numbers are not those of a network of at most 64 routers.
-pub fn onward_by_steps<'a>(
-    n: usize,
-    links: usize,
-    from: &'a [u8; 128],
-    to: &'a [u8; 128],
-    out: &'a [u16; 128],
-    back: &'a [u16; 128],
-    protected: Protected,
-    ends: u64,
-    target: &'a [u32; 64],
-) -> Onward
-    ensures { result ≡ onward_by_steps n links from.now to.now out.now back.now (asked protected) ends target.now }
+pub fn onward_by_steps(links: &Links, protected: Protected, ends: u64, target: &[u32; 64]) -> Onward
+    ensures { result ≡ onward_by_steps links.now.routers links.now.links links.now.from links.now.to links.now.out links.now.back
+        (asked protected) ends target.now }
 {
+    let n = links.routers;
     if !numbers_fit(n, protected) {
         return Onward {
             avoiding: 0,
             missing: 0,
         };
     }
-    let nexts = next_routers(links, from, to, out, back, ends, target);
+    let nexts = next_routers(links, ends, target);
     let crossing = leading_to(&nexts, over_link(protected, ends, target), n);
     let far = protected.far;
     let visiting = leading_to(&nexts, one_if(true, far), n);
