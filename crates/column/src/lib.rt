@@ -3,135 +3,103 @@
 // The public functions take any numbers. Where they are not those of a network, the column is all zeros, and the set is empty.
 #![tactic(auto)]
 
-ghost use Rattle.std.specs.Prelude.{◌≡◌, ◌*◌, ◌≤◌, ◌<◌, length};
+ghost use Rattle.std.specs.Prelude.{◌≡◌, ◌<◌, true, length};
 ghost use Rattle.lfa.specs.Distance.{towards};
 ghost use Rattle.lfa.specs.Network.{router};
 ghost use Rattle.lfa.specs.Space.{set_of};
-ghost use Rattle.metric.specs.Fit.{SlotsWithin};
+ghost use Rattle.metric.specs.Fit.{SlotsWithin, cells_fit};
 ghost use Rattle.metric.specs.Area.{held};
 ghost use Rattle.metric.specs.Column.{column, slots_in};
 ghost use Rattle.column.specs.Calls.{router_column, prefix_column, in_slots, attached_set};
 
 use fit::slots_fit;
 use metric::Distance;
-use metric::read::{cell, cells_fit, cost_of, wide};
+use metric::columns::Slots;
+use metric::read::Area;
 
 // The distances to a router from each of the n routers.
-fn router_column(dist: &[u32], n: usize, t: usize) -> [u32; 64]
-    requires { (n ≤ 64) × (n * n ≤ length dist.now) × (t < n) }
-    ensures { result ≡ column n (towards (held n dist.now) (router t)) }
+fn router_column(area: &Area<'_>, t: usize) -> [u32; 64]
+    requires area_fits { cells_fit area.now.n (length area.now.cells.now) ≡ true }
+    requires t_in { t < area.now.n }
+    ensures { result ≡ column area.now.n (towards (held area.now.n area.now.cells.now) (router t)) }
 {
     let mut target = [0u32; 64];
-    let mut x = 0;
-    while x < n {
-        target[x] = cell(dist, n, x, t);
-        x += 1;
+    for x in 0..area.n {
+        target[x] = area.distance(x, t);
     }
     target
 }
 
-// The distance from router x to the prefix whose first slot is `slot`.
-fn to_prefix(
-    dist: &[u32],
-    n: usize,
-    x: usize,
-    at: &[u8; 1024],
-    own: &[u16; 1024],
-    slot: usize,
-    count: usize,
-) -> u32
-    requires { (n ≤ 64) × (n * n ≤ length dist.now) × (x < n) × SlotsWithin n slot count at.now }
-    ensures { result ≡ towards (held n dist.now) (slots_in at.now own.now slot count) x }
+// The distance from router x to the prefix that has these slots.
+fn to_prefix(area: &Area<'_>, x: usize, slots: &Slots<'_>) -> u32
+    requires area_fits { cells_fit area.now.n (length area.now.cells.now) ≡ true }
+    requires x_in { x < area.now.n }
+    requires slots_within { SlotsWithin area.now.n slots.now.first slots.now.count slots.now.at.now }
+    ensures { result ≡ towards (held area.now.n area.now.cells.now) (slots_in slots.now.at.now slots.now.own.now slots.now.first slots.now.count) x }
 {
     let mut best = Distance::UNREACHABLE;
-    let mut s = 0;
-    while s < count {
-        let k = slot + s;
-        let d = Distance::add(cell(dist, n, x, wide(at[k])), cost_of(own[k]));
-        if d < best {
-            best = d;
-        }
-        s += 1;
+    for s in 0..slots.count {
+        let k = slots.first + s;
+        let to_router = area.distance(x, usize::from(slots.at[k]));
+        best = best.min(Distance::add(to_router, u32::from(slots.own[k])));
     }
     best
 }
 
-// The distances to the prefix whose first slot is `slot`, from each of the n routers.
-fn prefix_column(
-    dist: &[u32],
-    n: usize,
-    at: &[u8; 1024],
-    own: &[u16; 1024],
-    slot: usize,
-    count: usize,
-) -> [u32; 64]
-    requires { (n ≤ 64) × (n * n ≤ length dist.now) × SlotsWithin n slot count at.now }
-    ensures { result ≡ column n (towards (held n dist.now) (slots_in at.now own.now slot count)) }
+// The distances to the prefix that has these slots, from each of the n routers.
+fn prefix_column(area: &Area<'_>, slots: &Slots<'_>) -> [u32; 64]
+    requires area_fits { cells_fit area.now.n (length area.now.cells.now) ≡ true }
+    requires slots_within { SlotsWithin area.now.n slots.now.first slots.now.count slots.now.at.now }
+    ensures { result ≡ column area.now.n (towards (held area.now.n area.now.cells.now) (slots_in slots.now.at.now slots.now.own.now slots.now.first slots.now.count)) }
 {
     let mut target = [0u32; 64];
-    let mut x = 0;
-    while x < n {
-        target[x] = to_prefix(dist, n, x, at, own, slot, count);
-        x += 1;
+    for x in 0..area.n {
+        target[x] = to_prefix(area, x, slots);
     }
     target
 }
 
 // The distances to router t from each of the n routers.
-pub fn towards_router(dist: &[u32], n: usize, t: usize) -> [u32; 64]
-    ensures { result ≡ router_column n t dist.now }
+pub fn towards_router(area: &Area<'_>, t: usize) -> [u32; 64]
+    ensures { result ≡ router_column area.now.n t area.now.cells.now }
 {
-    let none = [0u32; 64];
-    if !cells_fit(n, dist.len()) {
-        return none;
+    if area.fits() && t < area.n {
+        router_column(area, t)
+    } else {
+        [0u32; 64]
     }
-    if n <= t {
-        return none;
-    }
-    router_column(dist, n, t)
 }
 
-// The distances to the prefix whose first slot is `slot`, from each of the n routers.
-pub fn towards_prefix<'a>(
-    dist: &[u32],
-    n: usize,
-    at: &'a [u8; 1024],
-    own: &'a [u16; 1024],
-    slot: usize,
-    count: usize,
-) -> [u32; 64]
-    ensures { result ≡ prefix_column n at.now own.now slot count dist.now }
+// The distances to the prefix that has these slots, from each of the n routers.
+pub fn towards_prefix(area: &Area<'_>, slots: &Slots<'_>) -> [u32; 64]
+    ensures { result ≡ prefix_column area.now.n slots.now.at.now slots.now.own.now slots.now.first slots.now.count area.now.cells.now }
 {
-    let none = [0u32; 64];
-    if !cells_fit(n, dist.len()) {
-        return none;
+    if area.fits() && slots_fit(area.n, slots) {
+        prefix_column(area, slots)
+    } else {
+        [0u32; 64]
     }
-    if !slots_fit(n, at, slot, count) {
-        return none;
-    }
-    prefix_column(dist, n, at, own, slot, count)
 }
 
 // The routers that the slots hold.
-fn attached_in(at: &[u8; 1024], slot: usize, count: usize) -> u64
-    requires { SlotsWithin 64 slot count at.now }
-    ensures { result ≡ set_of 64 (in_slots at.now slot count) }
+fn attached_in(slots: &Slots<'_>) -> u64
+    requires { SlotsWithin 64 slots.now.first slots.now.count slots.now.at.now }
+    ensures { result ≡ set_of 64 (in_slots slots.now.at.now slots.now.first slots.now.count) }
 {
     let mut set: u64 = 0;
-    let mut s = 0;
-    while s < count {
-        set = set | (1u64 << wide(at[slot + s]));
-        s += 1;
+    for s in 0..slots.count {
+        set |= 1u64 << slots.at[slots.first + s];
     }
     set
 }
 
-// The set of the routers attached to the prefix whose first slot is `slot`.
-pub fn attached_routers(at: &[u8; 1024], slot: usize, count: usize) -> u64
-    ensures { result ≡ attached_set at.now slot count }
+// The set of the routers attached to the prefix that has these slots.
+pub fn attached_routers(slots: &Slots<'_>) -> u64
+    ensures { result ≡ attached_set slots.now.at.now slots.now.first slots.now.count }
 {
-    if !slots_fit(64, at, slot, count) {
-        return 0;
+    if slots_fit(64, slots) {
+        attached_in(slots)
+    } else {
+        0
     }
-    attached_in(at, slot, count)
 }

@@ -1,6 +1,6 @@
 use Rattle.std.proofs.Common.{◌≡◌, ◌∙◌, sym, refl, ap, ℕ, Bool, arith}
 use Rattle.lfa.specs.Space.{set_of}
-use Rattle.metric.specs.Area.{held}
+use Rattle.metric.specs.Area.{held, cell_in}
 use Rattle.metric.proofs.Laws.Set.{put_in, left_out}
 use Rattle.avoid.specs.Avoiding.{asked, clears_to}
 use Rattle.avoid.proofs.SetLaws.{known, cells_clear_to}
@@ -23,7 +23,7 @@ loop-r-preserved c =
     let l = c.requires.left_read in
     let r = c.requires.sums_read in
     let p : ℕ → Bool = clears_to left sums q x in
-    let own = known l x i c.requires.x_in (omega arith) (rw c.requires.same_n at c.distance-own.ensures) in
+    let own = known l x i c.requires.x_in (omega arith) (c.distance-own.ensures ∙ ap (λ (k : ℕ). cell_in k c.args.left.now.cells.now x i) c.requires.same_n) in
     let to-near = known r x q.near c.requires.x_in r.near_in c.distance-x_near.ensures in
     let to-far = known r x q.far c.requires.x_in r.far_in c.distance-x_far.ensures in
     let from-near = known r q.near i r.near_in (omega arith) c.distance-s.ensures in
