@@ -12,14 +12,14 @@ use field::{word_at, word_of};
 fn half_of(low: u16, high: u16) -> u32
     ensures { result ≡ low + 65536 * high }
 {
-    (low as u32) + 65536 * (high as u32)
+    u32::from(low) + 65536 * u32::from(high)
 }
 
 // A number of eight bytes from its two halves, the lower one first.
 fn long_of(low: u32, high: u32) -> u64
     ensures { result ≡ low + 4294967296 * high }
 {
-    (low as u64) + 4294967296 * (high as u64)
+    u64::from(low) + 4294967296 * u64::from(high)
 }
 
 // Four bytes as one number, least byte first. A function of its own: the compiler then reads the four bytes at once.
@@ -50,7 +50,7 @@ fn odd_lanes(w: u64) -> u64
 fn add_three(x: u64, y: u64, z: u64) -> u64
     ensures { result ≡ (x + y + z) % 18446744073709551616 }
 {
-    std::num::wrapping_add_u64(std::num::wrapping_add_u64(x, y), z)
+    x.wrapping_add(y).wrapping_add(z)
 }
 
 // The sum of the two halves of a number of eight bytes, modulo 65,536.
@@ -67,7 +67,7 @@ fn lanes_of(x: u64, y: u64, z: u64) -> u16
     ensures { result ≡ (lanes_of x + lanes_of y + lanes_of z) % 65536 }
 {
     let odd = add_three(odd_lanes(x), odd_lanes(y), odd_lanes(z));
-    let even = std::num::wrapping_sub_u64(add_three(x, y, z), odd);
+    let even = add_three(x, y, z).wrapping_sub(odd);
     halves_of(even + odd / 65536)
 }
 
@@ -87,8 +87,9 @@ fn parts_at(block: &[u8], at: usize) -> u16
 fn rest_of(block: &[u8]) -> u16
     ensures { result ≡ sum_words 3 (drop 504 block.now) % 65536 }
 {
-    let sum = std::num::wrapping_add_u16(word_at(block, 504), word_at(block, 506));
-    std::num::wrapping_add_u16(sum, word_at(block, 508))
+    word_at(block, 504)
+        .wrapping_add(word_at(block, 506))
+        .wrapping_add(word_at(block, 508))
 }
 
 // The check of a block: the sum of its first 255 words, kept as a u16 by wrapping adds. Each step takes three numbers of eight bytes, one
@@ -98,10 +99,8 @@ fn whole_check(block: &[u8]) -> u16
     ensures { result ≡ check_of block.now }
 {
     let mut sum = rest_of(block);
-    let mut i: usize = 0;
-    while i < 21 {
-        sum = std::num::wrapping_add_u16(sum, parts_at(block, 8 * i));
-        i += 1;
+    for i in 0..21 {
+        sum = sum.wrapping_add(parts_at(block, 8 * i));
     }
     sum
 }
