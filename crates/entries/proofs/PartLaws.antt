@@ -1,8 +1,7 @@
 -- The entries that can be named are those of an accepted file, up to its counts, and each lies inside the file.
 -- Assumes nothing.
 use Prim.Native.Nat.{ℕ, ◌≤◌, ◌<◌}
-use mathlib.Core.Path.{◌≡◌, refl, sym, ap}
-use mathlib.Core.Bool.{Bool, true, false, false≢true}
+use mathlib.Core.Path.{◌≡◌, refl, sym}
 use mathlib.Core.Option.{Option, none, some}
 use mathlib.Core.List.{[]}
 use native.Mathlib.Omega.{arith}
@@ -12,32 +11,26 @@ use Rattle.lfa.specs.Refusal.{file_refusal, FileRow, Decided}
 use Rattle.lfa.specs.Answer.{part_if, link_part, prefix_part}
 use Rattle.lfa.proofs.Laws.Accepted.{no_part, no_link_part, no_prefix_part}
 use Rattle.block.specs.Judged.{Sized}
-use Rattle.network_file.specs.Load.{undecided}
-use Rattle.network_file.proofs.LoadLaws.{none_there, accepted_sized}
+use Rattle.network_file.proofs.LoadLaws.{accepted_sized}
 use Rattle.entries.specs.Count.{count_loaded}
 
 module _ (b : Bytes) where
   -- the counts of an accepted file are those of its head, and those of any other are 0
-  pub count_accepted : (at : ℕ) → undecided (file_refusal b) ≡ true → word_at b at ≡ count_loaded b at
+  pub count_accepted : (at : ℕ) → none ≡ file_refusal b → word_at b at ≡ count_loaded b at
   unfolding count_loaded
-  count_accepted at e = sym (rw (count_loaded, none_there _ e))
+  count_accepted at e = sym (rw (count_loaded, sym e))
 
-  pub count_refused : (at : ℕ) → undecided (file_refusal b) ≡ false → 0 ≡ count_loaded b at
-  unfolding undecided count_loaded
-  count_refused at e = go (file_refusal b) refl e
-    where
-      go : (o : Option (Decided FileRow)) → file_refusal b ≡ o → undecided o ≡ false → 0 ≡ count_loaded b at
-      go none p e = absurd (false≢true (sym e))
-      go (some d) p e = sym (rw (count_loaded, p))
+  pub count_refused : (at : ℕ) {d : Decided FileRow} → some d ≡ file_refusal b → 0 ≡ count_loaded b at
+  unfolding count_loaded
+  count_refused at e = sym (rw (count_loaded, sym e))
 
   -- a file with a link or a prefix in it is accepted
-  counted_accepted : (at k : ℕ) → k < count_loaded b at → undecided (file_refusal b) ≡ true
-  unfolding undecided
-  counted_accepted at k h = go (undecided (file_refusal b)) refl
+  counted_accepted : (at k : ℕ) → k < count_loaded b at → none ≡ file_refusal b
+  counted_accepted at k h = go (file_refusal b) refl
     where
-      go : (t : Bool) → undecided (file_refusal b) ≡ t → undecided (file_refusal b) ≡ true
-      go true p = p
-      go false p = absurd (omega (arith, count_refused at p))
+      go : (o : Option (Decided FileRow)) → file_refusal b ≡ o → none ≡ file_refusal b
+      go none p = sym p
+      go (some d) p = absurd (omega (arith, count_refused at (sym p)))
 
   module _ (k : ℕ) where
     -- a link number below the count
@@ -48,7 +41,7 @@ module _ (b : Bytes) where
 
       pub is_link_part : link_entry b k ≡ link_part b k
       unfolding link_part part_if
-      is_link_part = sym (rw (none_there _ (counted_accepted 6 k h), lt-ltb k (links_of b) link_sized.1))
+      is_link_part = sym (rw (sym (counted_accepted 6 k h), lt-ltb k (links_of b) link_sized.1))
 
     -- a prefix number below the count
     module _ (h : k < count_loaded b 8) where
@@ -58,21 +51,21 @@ module _ (b : Bytes) where
 
       pub is_prefix_part : prefix_entry b k ≡ prefix_part b k
       unfolding prefix_part part_if
-      is_prefix_part = sym (rw (none_there _ (counted_accepted 8 k h), lt-ltb k (prefixes_of b) prefix_sized.1))
+      is_prefix_part = sym (rw (sym (counted_accepted 8 k h), lt-ltb k (prefixes_of b) prefix_sized.1))
 
     -- numbers too large: of a refused file, whose counts are 0, each number is
     pub no_link : count_loaded b 6 ≤ k → link_part b k ≡ []
-    unfolding links_of undecided
+    unfolding links_of
     no_link h = go (file_refusal b) refl
       where
         go : (o : Option (Decided FileRow)) → file_refusal b ≡ o → link_part b k ≡ []
-        go none p = no_link_part b k (omega (arith, count_accepted 6 (ap undecided p)))
+        go none p = no_link_part b k (omega (arith, count_accepted 6 (sym p)))
         go (some d) p = (no_part b d k p).0
 
     pub no_prefix : count_loaded b 8 ≤ k → prefix_part b k ≡ []
-    unfolding prefixes_of undecided
+    unfolding prefixes_of
     no_prefix h = go (file_refusal b) refl
       where
         go : (o : Option (Decided FileRow)) → file_refusal b ≡ o → prefix_part b k ≡ []
-        go none p = no_prefix_part b k (omega (arith, count_accepted 8 (ap undecided p)))
+        go none p = no_prefix_part b k (omega (arith, count_accepted 8 (sym p)))
         go (some d) p = (no_part b d k p).1

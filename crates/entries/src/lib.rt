@@ -7,16 +7,15 @@ ghost use Rattle.lfa.specs.Answer.{link_part, prefix_part};
 ghost use Rattle.entries.specs.Count.{count_loaded};
 
 use field::word_at;
-use network_file::{Verdict, judge};
+use network_file::judge;
 
 // How many links or prefixes a file has, by the offset of their number in the head; 0 for a refused file.
 fn count_at(file: &[u8], at: usize) -> usize
     ensures { result ≡ count_loaded file.now at }
 {
-    let verdict = judge(file);
-    match verdict {
-        Verdict::Accepted => word_at(file, at) as usize,
-        Verdict::Refused(_) => 0,
+    match judge(file) {
+        Ok(()) => usize::from(word_at(file, at)),
+        Err(_) => 0,
     }
 }
 
@@ -49,7 +48,7 @@ pub fn prefix_entry(file: &[u8], prefix: usize) -> &[u8]
     if prefixes <= prefix {
         return &file[0..0];
     }
-    let blocks = ((word_at(file, 6) as usize) + 83) / 84;
+    let blocks = (usize::from(word_at(file, 6)) + 83) / 84;
     part_at(
         file,
         512 * (1 + blocks + prefix / 14) + 4 + 34 * (prefix % 14),
