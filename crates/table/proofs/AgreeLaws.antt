@@ -13,7 +13,7 @@ use Rattle.metric.specs.RightTable.{RightTable}
 use Rattle.metric.proofs.Laws.Columns.{columns_within}
 use Rattle.table.specs.Calls.{costs_fit}
 use Rattle.table.specs.Sums.{RowsCopied, Tested}
-use Rattle.table.specs.Rows.{Over, Kept, ArcsKept, RowsTested}
+use Rattle.table.specs.Rows.{Over, Kept, Undercut, RowsTested}
 use Rattle.table.proofs.ArcLaws.{HopIn, Copy, rows_right, right_rows}
 use Rattle.table.proofs.KeepLaws.{kept_same, over_in, in_over}
 use Rattle.table.proofs.CallLaws.{costs_some}
@@ -23,22 +23,22 @@ module _ {n links : ℕ} {from to : List ℕ} (w : ColumnsWithin n links from to
   within = columns_within from to out back links n w
 
   -- An arc that costs less than its cell: no table with it is right, since the cell of the router that it leads to, from there, is 0.
-  pub under_tested : {table heads : List ℕ} {s : Bool} → ArcsKept (Over from to out back links) n table heads s → s ≡ false → Tested (arcs_in from to out back links) n table false
-  under_tested {table} {heads} {s} q e = record { right = λ f. absurd (false≢true f); passes = λ right _. refuse right (q.under e) }
+  pub under_tested : {table : List ℕ} → Undercut (Over from to out back links) n table → Tested (arcs_in from to out back links) n table false
+  under_tested {table} q = record { right = λ f. absurd (false≢true f); passes = λ right _. refuse right q }
     where
-      refuse : RightTable (arcs_in from to out back links) n table → (x : ℕ) × (z : ℕ) × (c : ℕ) × Over from to out back links x z c × (c < area_cell n table x z) → false ≡ true
+      refuse : RightTable (arcs_in from to out back links) n table → Undercut (Over from to out back links) n table → false ≡ true
       refuse right (x, z, c, o, u) =
           let m = (over_in from to out back links x z c o).1 in
           let hz = within.to m in
           absurd (omega (arith, right.slack z hz m, right.diagonal z hz))
 
   -- No arc does: the rows are right exactly where the table is.
-  pub rows_tested : {table heads cells : List ℕ} {r s : Bool} → costs_fit links out back ≡ true → ((x t : ℕ) → x < n → t < n → area_cell n table x t ≤ 8191) → RowsCopied n n table cells →
-      ArcsKept (Over from to out back links) n table heads s → s ≡ true → RowsTested n heads cells r → Tested (arcs_in from to out back links) n table r
-  rows_tested {table} {heads} {cells} costs small copied q e t = record { right = λ f. rows_right copy kept (t.right f); passes = λ right _. t.passes (right_rows copy kept right) }
+  pub rows_tested : {table heads cells : List ℕ} {r : Bool} → costs_fit links out back ≡ true → ((x t : ℕ) → x < n → t < n → area_cell n table x t ≤ 8191) → RowsCopied n n table cells →
+      Kept (Over from to out back links) n table heads → RowsTested n heads cells r → Tested (arcs_in from to out back links) n table r
+  rows_tested {table} {heads} {cells} costs small copied q t = record { right = λ f. rows_right copy kept (t.right f); passes = λ right _. t.passes (right_rows copy kept right) }
     where
       copy : Copy (arcs_in from to out back links) n table cells
       copy = record { few = w.few_routers; within = within; some = λ m. costs_some links out back from to costs m; small = small; copied = copied }
 
       kept : Kept (HopIn (arcs_in from to out back links)) n table heads
-      kept = kept_same (over_in from to out back links) (in_over from to out back links) (q.kept e)
+      kept = kept_same (over_in from to out back links) (in_over from to out back links) q

@@ -1,6 +1,6 @@
 -- The answers of the public function, return by return: where the numbers fit, the test passes exactly where each cell is the distance.
 -- Assumes nothing.
-use Prim.Native.Nat.{ℕ, ◌+◌, ◌*◌, ◌≤◌, ◌<◌, min}
+use Prim.Native.Nat.{ℕ, ◌*◌, ◌≤◌, ◌<◌}
 use mathlib.Core.Path.{◌≡◌, sym, subst, ◌∙◌}
 use mathlib.Core.Bool.{Bool, true, false}
 use mathlib.Core.Logic.{inl, inr}
@@ -12,7 +12,7 @@ use borrow.Author.Tests.{ltb-true, lt-ltb}
 use Rattle.lfa.specs.Lists.{below}
 use Rattle.lfa.specs.Network.{Arc, arc, Link, link, Network, arcs}
 use Rattle.lfa.specs.Distance.{LeastCosts, distances, distance_in, HoldsDistances, holds_distances}
-use Rattle.lfa.proofs.Laws.Test.{and_left, and_right, and_make, fails_left, fails_right, same_test}
+use Rattle.lfa.proofs.Laws.Test.{and_left, and_right, fails_left, fails_right, same_test}
 use Rattle.lfa.proofs.Laws.List.{every_gives, every_make}
 use Rattle.lfa.proofs.Laws.Counting.{length_map_below, map_below_at}
 use Rattle.lfa.specs.Sound.{Within, Descends, level, Sound}
@@ -23,7 +23,6 @@ use Rattle.lfa.proofs.Laws.Network.{arcs_give, Direction}
 use Rattle.metric.specs.Fit.{cells_fit, links_fit, ColumnsWithin}
 use Rattle.metric.specs.Columns.{links_in, arcs_in, network_in}
 use Rattle.metric.specs.RightTable.{RightTable}
-use Rattle.metric.proofs.Laws.List.{every_more}
 use Rattle.metric.proofs.Laws.Area.{area_filled_lem}
 use Rattle.metric.proofs.Laws.Columns.{columns_within}
 use Rattle.metric.proofs.Laws.RightTable.{right_least, filled_right}
@@ -36,19 +35,6 @@ use Rattle.table.specs.Sums.{Small, Capped, Tested}
 pub record LeastCost (k : ℕ) (out back : List ℕ) (least : ℕ) : Type 0 where
   pub holds : 0 < least → (j : ℕ) → j < k → both_some out back j ≡ true
   pub told : ((j : ℕ) → j < k → both_some out back j ≡ true) → 0 < least
-
-module _ (out back : List ℕ) where
-  pub cost_none : LeastCost 0 out back 65535
-  cost_none = record { holds = λ _ j h. absurd (omega arith); told = λ _. omega arith }
-
-  -- one link more
-  pub cost_more : {k least r e : ℕ} → LeastCost k out back least → e ≡ min (get_or out k 0) (get_or back k 0) → r ≡ min least e → LeastCost (k + 1) out back r
-  cost_more {k} {least} {r} {e} q i l = record {
-    holds = λ h. every_more (both_some out back) k (q.holds (omega arith)) (and_make _ _ (lt-ltb 0 (get_or out k 0) (omega arith)) (lt-ltb 0 (get_or back k 0) (omega arith)));
-    told = λ each.
-        let this = each k (omega arith) in
-        omega (arith, q.told (λ j h. each j (omega arith)), ltb-true 0 (get_or out k 0) (and_left _ _ this), ltb-true 0 (get_or back k 0) (and_right (ltb 0 (get_or out k 0)) _ this));
-  }
 
 module _ (links : ℕ) (out back : List ℕ) where
   pub costs_told : {least : ℕ} → LeastCost links out back least → ltb 0 least ≡ costs_fit links out back

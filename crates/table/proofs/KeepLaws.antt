@@ -3,7 +3,7 @@
 use Prim.Native.Nat.{ℕ, zero, suc, ◌+◌, ◌*◌, ◌%◌, ◌^◌, ◌≤◌, ◌<◌}
 use mathlib.Core.Path.{◌≡◌, refl, sym, ap, subst, ◌∙◌}
 use mathlib.Core.Logic.{◌⊎◌, inl, inr}
-use mathlib.Core.Bool.{Bool, true, false, false≢true}
+use mathlib.Core.Bool.{Bool, true, false≢true}
 use mathlib.Core.List.{List, map, Memᴰ}
 use native.Mathlib.Omega.{arith}
 use native.Mathlib.Nat.{one-mul}
@@ -21,18 +21,12 @@ use Rattle.lfa.proofs.Laws.Network.{arcs_give, arcs_have, Direction}
 use Rattle.metric.specs.Area.{area_cell}
 use Rattle.metric.specs.Columns.{links_in, arcs_in}
 use Rattle.metric.proofs.Laws.Set.{has_or, has_self, has_other, has_none}
-use Rattle.table.specs.Rows.{Way, Over, Kept, ArcKept, ArcsKept}
+use Rattle.table.specs.Rows.{Way, Over, Kept, Undercut, ArcKept}
 use Rattle.table.proofs.ArcLaws.{HopIn}
 
 -- ---- one arc
 
 module _ {n a b cost : ℕ} {table before : List ℕ} where
-  pub arc_under : cost < area_cell n table a b → ArcKept n a b cost table before before false
-  arc_under h = record { long = refl; under = λ _. h; enough = λ e. absurd (false≢true e); put = λ e. absurd (false≢true e); stays = λ x z s. s; only = λ x z s. inl s }
-
-  pub arc_over : area_cell n table a b < cost → ArcKept n a b cost table before before true
-  arc_over h = record { long = refl; under = λ e. absurd (false≢true (sym e)); enough = λ _. omega arith; put = λ _ e. absurd (omega arith); stays = λ x z s. s; only = λ x z s. inl s }
-
   pub arc_equal : cost ≡ area_cell n table a b → a < length before → b < 64 → ArcKept n a b cost table before (set before a (bit_or (get_or before a 0) ((1 * 2 ^ b) % 2 ^ 64))) true
   arc_equal e ha hb = record {
     long = length-set before a new;
@@ -124,12 +118,9 @@ module _ (from to out back : List ℕ) {n : ℕ} {table : List ℕ} where
           go (yes s) = last x z e (subst (λ (i : ℕ). Way from to out back i x z e) s w)
           go (no s) = inl (inl (j, omega arith, w))
 
-  -- an arc of a link that costs less than its cell
-  pub links_under : {links k x z c : ℕ} (heads : List ℕ) → k < links → Way from to out back k x z c → c < area_cell n table x z → ArcsKept (Over from to out back links) n table heads false
-  links_under {links} {k} {x} {z} {c} heads h w u = record { kept = λ e. absurd (false≢true e); under = λ _. (x, z, c, (k, h, w), u) }
-
-  pub links_kept : {links : ℕ} {heads : List ℕ} → Kept (Over from to out back links) n table heads → ArcsKept (Over from to out back links) n table heads true
-  links_kept q = record { kept = λ _. q; under = λ e. absurd (false≢true (sym e)) }
+-- an arc of a link that costs less than its cell
+pub links_under : (from to out back : List ℕ) (n : ℕ) (table : List ℕ) {links k x z c : ℕ} → k < links → Way from to out back k x z c → c < area_cell n table x z → Undercut (Over from to out back links) n table
+links_under from to out back n table {links} {k} {x} {z} {c} h w u = (x, z, c, (k, h, w), u)
 
 -- ---- the arcs of the links, as a list
 

@@ -1,38 +1,22 @@
--- The sums of one row over the routers of a set, column by column and router by router.
+-- The sums of one row over the routers of a set, router by router.
 -- Assumes nothing.
-use Prim.Native.Nat.{ℕ, ◌+◌, ◌-◌, ◌≤◌, ◌<◌, min}
-use mathlib.Core.Path.{◌≡◌, refl, sym, ap, ◌∙◌}
+use Prim.Native.Nat.{ℕ, ◌+◌, ◌-◌, ◌≤◌, ◌<◌}
+use mathlib.Core.Path.{◌≡◌, sym, ap, ◌∙◌}
 use mathlib.Core.Logic.{◌⊎◌, inl, inr}
-use mathlib.Core.Bool.{Bool, true, false, false≢true}
+use mathlib.Core.Bool.{Bool, true, false≢true}
 use mathlib.Core.List.{List}
 use native.Mathlib.Omega.{arith}
 use native.Mathlib.Decide.{ℕ_discrete, dec_lt}
-use lib.ListN.{length, get_or, set, replicate, length-set, length-replicate, get_or-replicate}
-use lib.Seq.{get_or-set_same, get_or-set_other, ext_get_or}
+use Rattle.std.proofs.lemmas.List.{drop-set-add, drop-replicate, take-replicate}
+use Rattle.std.proofs.Math.Seq.{take-set-lt}
+use lib.ListN.{get_or, set, take, drop, replicate, length-set, length-replicate, get_or-replicate}
+use lib.Seq.{get_or-set_same, get_or-set_other}
 use Rattle.lfa.specs.Space.{has}
 use Rattle.metric.specs.Area.{area_cell}
 use Rattle.metric.proofs.Laws.Set.{has_none}
 use Rattle.table.specs.Sums.{Same, SameCells}
-use Rattle.table.specs.Rows.{Little, LittleRow, SumsLowered, RowRight, RowTested, RowsRight, RowsTested}
+use Rattle.table.specs.Rows.{Little, LittleRow, SumsLowered, RowRight, RowTested, RowsRight}
 use Rattle.table.proofs.BitLaws.{Taken}
-
--- ---- the columns
-
-module _ {cost head : ℕ} {cells before : List ℕ} where
-  pub low_none : SumsLowered cost head 0 cells before before
-  low_none = record { long = refl; low = λ t h. absurd (omega arith); rest = λ t h. refl }
-
-  pub low_more : {m v : ℕ} {after : List ℕ} → m < length before → SumsLowered cost head m cells before after → v ≡ min (get_or after m 0) (cost + area_cell 64 cells head m) →
-      SumsLowered cost head (m + 1) cells before (set after m v)
-  low_more {m} {v} {after} h q e = record {
-    long = length-set after m v ∙ q.long;
-    low = λ t k. low t k (ℕ_discrete t m);
-    rest = λ t k. get_or-set_other after m t v 0 (λ s. omega arith) ∙ q.rest t (omega arith);
-  }
-    where
-      low : (t : ℕ) → t < m + 1 → Dec (t ≡ m) → get_or (set after m v) t 0 ≡ min (get_or before t 0) (cost + area_cell 64 cells head t)
-      low t k (yes s) = rw s (get_or-set_same after m v 0 (omega (arith, q.long)) ∙ e ∙ ap (λ (u : ℕ). min u (cost + area_cell 64 cells head m)) (q.rest m (omega arith)))
-      low t k (no s) = get_or-set_other after m t v 0 s ∙ q.low t (omega arith)
 
 -- ---- one row
 
@@ -51,36 +35,13 @@ pub record RowSums (x heads left : ℕ) (cells sums : List ℕ) : Type 0 where
 abbrev limits : List ℕ
 limits = replicate 64 16383
 
--- The first sums, read from place 64 - x on: the first t of them.
-pub record Started (x t : ℕ) (sums : List ℕ) : Type 0 where
-  pub long : length sums ≡ 64
-  pub each : (i : ℕ) → i < t → get_or sums i 0 ≡ get_or (set limits x 0) i 0
-
-abbrev starts : List ℕ
-starts = set (replicate 128 16383) 64 0
-
-pub started_none : (x : ℕ) → Started x 0 limits
-started_none x = record { long = length-replicate {A = ℕ} 64 16383; each = λ i h. absurd (omega arith) }
-
-pub started_more : {x t v : ℕ} {sums : List ℕ} → x < 64 → t < 64 → Started x t sums → v ≡ get_or starts (64 - x + t) 0 → Started x (t + 1) (set sums t v)
-started_more {x} {t} {v} {sums} hx ht q e = record { long = length-set sums t v ∙ q.long; each = λ i h. each i h (ℕ_discrete i t) }
-  where
-    here : Dec (t ≡ x) → get_or starts (64 - x + t) 0 ≡ get_or (set limits x 0) t 0
-    here (yes s) =
-        let at : 64 - x + t ≡ 64 = omega arith in
-        rw (at, s) (get_or-set_same (replicate 128 16383) 64 0 0 (omega (arith, length-replicate {A = ℕ} 128 16383)) ∙ sym (get_or-set_same limits x 0 0 (omega (arith, length-replicate {A = ℕ} 64 16383))))
-    here (no s) =
-        get_or-set_other (replicate 128 16383) 64 (64 - x + t) 0 0 (λ k. s (omega arith)) ∙ get_or-replicate 128 (64 - x + t) 16383 0 (omega arith)
-        ∙ sym (get_or-set_other limits x t 0 0 s ∙ get_or-replicate 64 t 16383 0 ht)
-
-    each : (i : ℕ) → i < t + 1 → Dec (i ≡ t) → get_or (set sums t v) i 0 ≡ get_or (set limits x 0) i 0
-    each i h (yes s) = rw s (get_or-set_same sums t v 0 (omega (arith, q.long)) ∙ e ∙ here (ℕ_discrete t x))
-    each i h (no s) = get_or-set_other sums t i v 0 s ∙ q.each i (omega arith)
-
-pub started_all : {x : ℕ} {sums : List ℕ} → Started x 64 sums → sums ≡ set limits x 0
-started_all {x} {sums} q =
-    let long : length (set limits x 0) ≡ 64 = length-set limits x 0 ∙ length-replicate {A = ℕ} 64 16383 in
-    ext_get_or 0 sums (set limits x 0) (q.long ∙ sym long) (λ i h. q.each i (omega (arith, q.long)))
+-- 64 numbers, read from place 64 - x on of 128 with a 0 at place 64: the 0 is at place x
+pub window : {x : ℕ} → x < 64 → take 64 (drop (64 - x) (set (replicate 128 16383) 64 0)) ≡ set limits x 0
+window {x} h =
+    let at : 64 ≡ 64 - x + x = omega arith in
+    ap (λ (i : ℕ). take 64 (drop (64 - x) (set (replicate 128 16383) i 0))) at
+    ∙ ap (λ (l : List ℕ). take 64 l) (drop-set-add (64 - x) (replicate 128 16383) x 0 ∙ ap (λ (l : List ℕ). set l x 0) (drop-replicate (64 - x) 128 16383))
+    ∙ take-set-lt 64 (replicate (128 - (64 - x)) 16383) x 0 h ∙ ap (λ (l : List ℕ). set l x 0) (take-replicate 64 (128 - (64 - x)) 16383 (omega arith))
 
 module _ {x heads : ℕ} (cells : List ℕ) where
   pub sums_first : x < 64 → RowSums x heads heads cells (set limits x 0)
@@ -165,9 +126,3 @@ module _ (heads cells : List ℕ) where
       go : Dec (x ≡ m) → RowRight x (get_or heads x 0) cells
       go (yes e) = rw e row
       go (no e) = q x (omega arith)
-
-  pub all_right : {n : ℕ} → RowsRight n heads cells → RowsTested n heads cells true
-  all_right q = record { right = λ _. q; passes = λ _. refl }
-
-  pub one_wrong : {n m : ℕ} {r : Bool} → m < n → RowTested m (get_or heads m 0) cells r → r ≡ false → RowsTested n heads cells false
-  one_wrong {n} {m} h q e = record { right = λ f. absurd (false≢true f); passes = λ w. sym e ∙ q.passes (w m h) }

@@ -42,9 +42,6 @@ cleared_more {f} {m} {sums} few h q = record {
 -- ---- one row
 
 module _ {f : Form} {a b cost : ℕ} {cells before : List ℕ} where
-  pub row_none : RowLowered f a b cost 0 cells before before
-  row_none = record { long = refl; low = λ t h. absurd (omega arith); rest = λ x t h k. refl }
-
   -- one cell more
   pub row_more : {m v : ℕ} {after : List ℕ} → f.width ≤ 64 → length before ≡ 4096 → a < f.width → m < f.width → RowLowered f a b cost m cells before after →
       v ≡ min (cell_of f after a m) (min cost f.top + cell_of f cells b m) → RowLowered f a b cost (m + 1) cells before (set after (a * f.width + m) v)
@@ -158,9 +155,6 @@ module _ {f : Form} {n : ℕ} {first : List ℕ} (clear : Cleared f n first) whe
       go : ((x ≡ t) × (x < n)) ⊎ (cell_of f first x t ≡ f.limit) → cell_of f first x t ≤ f.limit
       go (inl (e, h)) = rw (← e) (omega (arith, clear.diagonal x h hx))
       go (inr e) = omega arith
-
-  pub cleared_limited : f.width ≤ 64 → Limited f first
-  cleared_limited few = record { few = few; long = clear.long; small = λ x t hx ht. omega (arith, first_most x t hx ht) }
 
   module _ {hops : List Arc} {cells sums : List ℕ} (q : LeastSums f hops cells first sums) where
     pub sum_diagonal : (x : ℕ) → x < n → x < f.width → cell_of f sums x x ≡ 0

@@ -1,7 +1,7 @@
 -- The test of a table whose cells are small, in sums of 16 bits, row by row. Of the arcs only those are kept that cost what their cell
 -- says: the set of a router holds the routers that they lead to. A row of the copied table then has to be the least sums over its set.
 -- Assumes nothing.
-use Rattle.std.specs.Prelude.{ℕ, ◌+◌, ◌≤◌, ◌<◌, min, ◌≡◌, ◌⊎◌, Bool, true, false, List, length, get_or}
+use Rattle.std.specs.Prelude.{ℕ, ◌+◌, ◌≤◌, ◌<◌, min, ◌≡◌, ◌⊎◌, Bool, true, false, List, Option, MatchOption, length, get_or}
 use Rattle.lfa.specs.Space.{has}
 use Rattle.metric.specs.Area.{area_cell}
 
@@ -30,10 +30,13 @@ pub record ArcKept (n a b cost : ℕ) (table before after : List ℕ) (r : Bool)
   pub stays : (x z : ℕ) → has (get_or before x 0) z ≡ true → has (get_or after x 0) z ≡ true
   pub only : (x z : ℕ) → has (get_or after x 0) z ≡ true → (has (get_or before x 0) z ≡ true) ⊎ ((x ≡ a) × (z ≡ b) × (cost ≡ area_cell n table a b))
 
--- whether all arcs do
-pub record ArcsKept (Hop : ℕ → ℕ → ℕ → Type 0) (n : ℕ) (table heads : List ℕ) (r : Bool) : Type 0 where
-  pub kept : r ≡ true → Kept Hop n table heads
-  pub under : r ≡ false → (x : ℕ) × (z : ℕ) × (c : ℕ) × Hop x z c × (c < area_cell n table x z)
+-- an arc costs less than its cell
+abbrev pub Undercut : (Hop : ℕ → ℕ → ℕ → Type 0) → ℕ → List ℕ → Type 0
+Undercut Hop n table = (x : ℕ) × (z : ℕ) × (c : ℕ) × Hop x z c × (c < area_cell n table x z)
+
+-- the sets that hold the arcs that cost as much as their cells, or none, where an arc costs less
+abbrev pub ArcsKept : (Hop : ℕ → ℕ → ℕ → Type 0) → ℕ → List ℕ → Option (List ℕ) → Type 0
+ArcsKept Hop n table r = MatchOption r (Undercut Hop n table) (Kept Hop n table)
 
 -- ---- the rows
 

@@ -1,53 +1,44 @@
 // The arcs that cost what their cell says. In a right table no other arc shows a cell: an arc that costs more is not on a cheapest path, and
 // none costs less.
-ghost use Rattle.std.specs.Prelude.{◌≡◌, length, replicate, ◌*◌, ◌≤◌, ◌<◌};
+ghost use Rattle.std.specs.Prelude.{◌≡◌, length, ◌*◌, ◌≤◌, ◌<◌};
 ghost use Rattle.metric.specs.Fit.{ColumnsWithin};
 ghost use Rattle.table.specs.Rows.{Over, ArcKept, ArcsKept};
 
-use metric::read::{cost_of, wide};
+use metric::columns::Links;
+use metric::read::Area;
 
 // Whether an arc from a to b costs as much as its cell or more. Where it costs as much, b is put into the set of a.
-fn keep_arc(n: usize, a: usize, b: usize, cost: u16, table: &[u32], heads: &mut [u64; 64]) -> bool
-    requires { (n ≤ 64) × (a < n) × (b < n) × (n * n ≤ length table.now) × (length heads.old ≡ 64) }
-    ensures { ArcKept n a b cost table.now heads.old heads.new result }
+fn keep_arc(a: usize, b: usize, cost: u16, area: &Area<'_>, heads: &mut [u64; 64]) -> bool
+    requires { (area.now.n ≤ 64) × (a < area.now.n) × (b < area.now.n) × (area.now.n * area.now.n ≤ length area.now.cells.now) }
+    ensures { ArcKept area.now.n a b cost area.now.cells.now heads.old heads.new result }
 {
-    let hop = cost_of(cost);
-    let cell = table[a * n + b];
+    let hop = u32::from(cost);
+    let cell = area.cells[a * area.n + b];
     if hop < cell {
         return false;
     }
     if cell < hop {
         return true;
     }
-    heads[a] = heads[a] | (1u64 << b);
+    heads[a] |= 1u64 << b;
     true
 }
 
-// Whether all arcs cost as much as their cells or more. Those that cost as much are kept in the sets.
-pub(crate) fn keep_arcs<'a>(
-    n: usize,
-    links: usize,
-    from: &'a [u8; 128],
-    to: &'a [u8; 128],
-    out: &'a [u16; 128],
-    back: &'a [u16; 128],
-    table: &[u32],
-    heads: &mut [u64; 64],
-) -> bool
-    requires { ColumnsWithin n links from.now to.now × (n * n ≤ length table.now) × (heads.old ≡ replicate 64 0) }
-    ensures { ArcsKept (Over from.now to.now out.now back.now links) n table.now heads.new result }
+// The arcs that cost as much as their cells, in the sets of the routers that they leave, or `None` where an arc costs less.
+pub(crate) fn keep_arcs(links: &Links, area: &Area<'_>) -> Option<[u64; 64]>
+    requires { ColumnsWithin area.now.n links.now.links links.now.from links.now.to × (area.now.n * area.now.n ≤ length area.now.cells.now) }
+    ensures { ArcsKept (Over links.now.from links.now.to links.now.out links.now.back links.now.links) area.now.n area.now.cells.now result }
 {
-    let mut k = 0;
-    while k < links {
-        let a = wide(from[k]);
-        let b = wide(to[k]);
-        if !keep_arc(n, a, b, out[k], table, heads) {
-            return false;
+    let mut heads = [0u64; 64];
+    for k in 0..links.links {
+        let a = usize::from(links.from[k]);
+        let b = usize::from(links.to[k]);
+        if !keep_arc(a, b, links.out[k], area, &mut heads) {
+            return None;
         }
-        if !keep_arc(n, b, a, back[k], table, heads) {
-            return false;
+        if !keep_arc(b, a, links.back[k], area, &mut heads) {
+            return None;
         }
-        k += 1;
     }
-    true
+    Some(heads)
 }

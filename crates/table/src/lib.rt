@@ -15,7 +15,7 @@ ghost use Rattle.table.specs.Sums.{Tested};
 use costs::costs_fit;
 use fit::links_fit;
 use metric::columns::Links;
-use metric::read::cells_fit;
+use metric::read::Area;
 
 mod costs;
 mod keep;
@@ -25,50 +25,42 @@ mod sums;
 
 // Whether each cell is 0 on the diagonal, and elsewhere the least sum. No arc may cost less than its cell. The rest is tested by sums of 16
 // bits, over the arcs that cost as much, where each cell is small enough for them, and else by sums of 32 bits over all arcs.
-fn agrees<'a>(
-    n: usize,
-    links: usize,
-    from: &'a [u8; 128],
-    to: &'a [u8; 128],
-    out: &'a [u16; 128],
-    back: &'a [u16; 128],
-    table: &[u32],
-) -> bool
-    requires { ColumnsWithin n links from.now to.now × (n * n ≤ length table.now) × (costs_fit links out.now back.now ≡ true) }
-    ensures { Tested (arcs_in from.now to.now out.now back.now links) n table.now result }
+fn agrees(links: &Links, table: &[u32]) -> bool
+    requires { ColumnsWithin links.now.routers links.now.links links.now.from links.now.to × (links.now.routers * links.now.routers ≤ length table.now)
+        × (costs_fit links.now.links links.now.out links.now.back ≡ true) }
+    ensures { Tested (arcs_in links.now.from links.now.to links.now.out links.now.back links.now.links) links.now.routers table.now result }
 {
-    let mut heads = [0u64; 64];
-    if !keep::keep_arcs(n, links, from, to, out, back, table, &mut heads) {
+    let area = Area {
+        n: links.routers,
+        cells: table,
+    };
+    let Some(heads) = keep::keep_arcs(links, &area) else {
         return false;
-    }
-    if narrow::LONGEST < narrow::all_bits(n * n, table) {
-        return sums::agrees(n, links, from, to, out, back, table);
+    };
+    if narrow::LONGEST < narrow::all_bits(&table[..area.n * area.n]) {
+        return sums::agrees(links, table);
     }
     let mut cells = [narrow::LIMIT; 4096];
-    narrow::copy_rows(n, table, &mut cells);
-    row::rows_right(n, &heads, &cells)
+    narrow::copy_rows(&area, &mut cells);
+    row::rows_right(area.n, &heads, &cells)
 }
 
 // Whether the first routers * routers cells of the table are the distances, row by row, row = start.
 pub fn holds_distances(links: &Links, table: &[u32]) -> bool
     ensures { result ≡ table_holds links.now.routers links.now.links links.now.from links.now.to links.now.out links.now.back table.now }
 {
-    if !cells_fit(links.routers, table.len()) {
+    let lent = Area {
+        n: links.routers,
+        cells: table,
+    };
+    if !lent.fits() {
         return false;
     }
-    if !links_fit(links.routers, links.links, &links.from, &links.to) {
+    if !links_fit(links.routers, links) {
         return false;
     }
-    if !costs_fit(links.links, &links.out, &links.back) {
+    if !costs_fit(links) {
         return false;
     }
-    agrees(
-        links.routers,
-        links.links,
-        &links.from,
-        &links.to,
-        &links.out,
-        &links.back,
-        table,
-    )
+    agrees(links, table)
 }

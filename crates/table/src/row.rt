@@ -21,10 +21,8 @@ fn lower(cost: u16, head: usize, cells: &[u16; 4096], sums: &mut [u16; 64])
     ensures { SumsLowered cost head 64 cells.now sums.old sums.new }
 {
     let by = head * 64;
-    let mut t = 0;
-    while t < 64 {
+    for t in 0..64 {
         sums[t] = least(sums[t], cost + cells[by + t]);
-        t += 1;
     }
 }
 
@@ -42,10 +40,8 @@ fn same_row(x: usize, cells: &[u16; 4096], sums: &[u16; 64]) -> bool
 {
     let at = x * 64;
     let mut differing: u16 = 0;
-    let mut t = 0;
-    while t < 64 {
+    for t in 0..64 {
         differing += differs(cells[at + t], sums[t]);
-        t += 1;
     }
     differing == 0
 }
@@ -58,11 +54,7 @@ fn first_sums(x: usize, starts: &[u16; 128]) -> [u16; 64]
 {
     let at = 64 - x;
     let mut sums = [LIMIT; 64];
-    let mut t = 0;
-    while t < 64 {
-        sums[t] = starts[at + t];
-        t += 1;
-    }
+    sums.copy_from_slice(&starts[at..at + 64]);
     sums
 }
 
@@ -74,8 +66,8 @@ fn row_right(x: usize, heads: u64, starts: &[u16; 128], cells: &[u16; 4096]) -> 
     let mut sums = first_sums(x, starts);
     let mut rest = heads;
     while rest != 0 {
-        let head = u64::trailing_zeros(rest) as usize;
-        rest = rest & (rest - 1);
+        let head = rest.trailing_zeros() as usize;
+        rest &= rest - 1;
         lower(cells[x * 64 + head], head, cells, &mut sums);
     }
     same_row(x, cells, &sums)
@@ -88,12 +80,10 @@ pub(crate) fn rows_right(n: usize, heads: &[u64; 64], cells: &[u16; 4096]) -> bo
 {
     let mut starts = [LIMIT; 128];
     starts[64] = 0;
-    let mut x = 0;
-    while x < n {
+    for x in 0..n {
         if !row_right(x, heads[x], &starts, cells) {
             return false;
         }
-        x += 1;
     }
     true
 }

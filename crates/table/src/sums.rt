@@ -8,7 +8,7 @@ ghost use Rattle.metric.specs.Columns.{arcs_in};
 ghost use Rattle.table.specs.Sums.{form32, Stands, Summands, Limited, Cleared, RowLowered, LeastSums, Differs, SameCells, Tested};
 
 use metric::Distance;
-use metric::read::{cost_of, wide};
+use metric::columns::Links;
 
 // No finite distance of any network is larger.
 const LONGEST: u32 = 4194240;
@@ -31,13 +31,11 @@ fn summand_of(cell: u32) -> u32
 
 // Copies so many cells of the table, as summands.
 fn copy_summands(count: usize, table: &[u32], cells: &mut [u32; 4096])
-    requires { (count ≤ 4096) × (count ≤ length table.now) × (length cells.old ≡ 4096) }
+    requires { (count ≤ 4096) × (count ≤ length table.now) }
     ensures { Summands count table.now cells.new }
 {
-    let mut i = 0;
-    while i < count {
+    for i in 0..count {
         cells[i] = summand_of(table[i]);
-        i += 1;
     }
 }
 
@@ -46,10 +44,8 @@ fn clear_diagonal(n: usize, sums: &mut [u32; 4096])
     requires { (n ≤ 64) × (sums.old ≡ replicate 4096 1073741824) }
     ensures { Cleared (form32 n) n sums.new }
 {
-    let mut x = 0;
-    while x < n {
+    for x in 0..n {
         sums[x * n + x] = 0;
-        x += 1;
     }
 }
 
@@ -68,35 +64,22 @@ fn lower(n: usize, a: usize, b: usize, cost: u16, cells: &[u32; 4096], sums: &mu
 {
     let at = a * n;
     let by = b * n;
-    let hop = cost_of(cost);
-    let mut t = 0;
-    while t < n {
+    let hop = u32::from(cost);
+    for t in 0..n {
         sums[at + t] = least(sums[at + t], hop + cells[by + t]);
-        t += 1;
     }
 }
 
 // Lowers the sums by both arcs of each link.
-fn lower_links<'a>(
-    n: usize,
-    links: usize,
-    from: &'a [u8; 128],
-    to: &'a [u8; 128],
-    out: &'a [u16; 128],
-    back: &'a [u16; 128],
-    cells: &[u32; 4096],
-    sums: &mut [u32; 4096],
-)
-    requires { ColumnsWithin n links from.now to.now × Limited (form32 n) cells.now × Limited (form32 n) sums.old }
-    ensures { LeastSums (form32 n) (arcs_in from.now to.now out.now back.now links) cells.now sums.old sums.new }
+fn lower_links(links: &Links, cells: &[u32; 4096], sums: &mut [u32; 4096])
+    requires { ColumnsWithin links.now.routers links.now.links links.now.from links.now.to × Limited (form32 links.now.routers) cells.now × Limited (form32 links.now.routers) sums.old }
+    ensures { LeastSums (form32 links.now.routers) (arcs_in links.now.from links.now.to links.now.out links.now.back links.now.links) cells.now sums.old sums.new }
 {
-    let mut k = 0;
-    while k < links {
-        let a = wide(from[k]);
-        let b = wide(to[k]);
-        lower(n, a, b, out[k], cells, sums);
-        lower(n, b, a, back[k], cells, sums);
-        k += 1;
+    for k in 0..links.links {
+        let a = usize::from(links.from[k]);
+        let b = usize::from(links.to[k]);
+        lower(links.routers, a, b, links.out[k], cells, sums);
+        lower(links.routers, b, a, links.back[k], cells, sums);
     }
 }
 
@@ -113,32 +96,22 @@ fn same_cells(count: usize, cells: &[u32; 4096], sums: &[u32; 4096]) -> bool
     ensures { SameCells count (λ i. get_or cells.now i 0) (λ i. get_or sums.now i 0) result }
 {
     let mut differing: u32 = 0;
-    let mut i = 0;
-    while i < count {
+    for i in 0..count {
         differing += differs(cells[i], sums[i]);
-        i += 1;
     }
     differing == 0
 }
 
 // Whether each cell is 0 on the diagonal, and elsewhere the least sum.
-pub(crate) fn agrees<'a>(
-    n: usize,
-    links: usize,
-    from: &'a [u8; 128],
-    to: &'a [u8; 128],
-    out: &'a [u16; 128],
-    back: &'a [u16; 128],
-    table: &[u32],
-) -> bool
-    requires { ColumnsWithin n links from.now to.now × (n * n ≤ length table.now) }
-    ensures { Tested (arcs_in from.now to.now out.now back.now links) n table.now result }
+pub(crate) fn agrees(links: &Links, table: &[u32]) -> bool
+    requires { ColumnsWithin links.now.routers links.now.links links.now.from links.now.to × (links.now.routers * links.now.routers ≤ length table.now) }
+    ensures { Tested (arcs_in links.now.from links.now.to links.now.out links.now.back links.now.links) links.now.routers table.now result }
 {
-    let count = n * n;
+    let count = links.routers * links.routers;
     let mut cells = [0u32; 4096];
     copy_summands(count, table, &mut cells);
     let mut sums = [LIMIT; 4096];
-    clear_diagonal(n, &mut sums);
-    lower_links(n, links, from, to, out, back, &cells, &mut sums);
+    clear_diagonal(links.routers, &mut sums);
+    lower_links(links, &cells, &mut sums);
     same_cells(count, &cells, &sums)
 }
