@@ -7,30 +7,24 @@ ghost use Rattle.std.specs.Prelude.{◌≡◌};
 ghost use Rattle.distance.specs.Calls.{area_filled};
 
 use fit::links_fit;
-use metric::read::cells_fit;
+use metric::columns::Links;
+use metric::read::Area;
 use rows::fill_cells;
 
 mod direct;
 mod rows;
 
 // Fills the first routers * routers cells with the distances, row by row, row = start.
-pub fn fill<'a>(
-    routers: usize,
-    links: usize,
-    from: &'a [u8; 128],
-    to: &'a [u8; 128],
-    out: &'a [u16; 128],
-    back: &'a [u16; 128],
-    work: &mut [u32],
-)
-    ensures { work.new ≡ area_filled routers links from.now to.now out.now back.now work.old }
+pub fn fill(links: &Links, work: &mut [u32])
+    ensures { work.new ≡ area_filled links.now.routers links.now.links links.now.from links.now.to links.now.out links.now.back work.old }
 {
-    if !cells_fit(routers, work.len()) {
+    let n = links.routers;
+    let area = Area { n, cells: work };
+    if !area.fits() {
         return;
     }
-    if !links_fit(routers, links, from, to) {
+    if !links_fit(n, links) {
         return;
     }
-    let end = routers * routers;
-    fill_cells(routers, links, from, to, out, back, &mut work[0..end]);
+    fill_cells(links, &mut work[0..n * n]);
 }

@@ -13,6 +13,7 @@ ghost use Rattle.distance.specs.Cells.{Cells, Limited, Stored, RowReady, RowLowe
 
 use crate::direct::{LIMIT, clear, least, lower_links, lower_self_loops};
 use metric::Distance;
+use metric::columns::Links;
 
 // Copies so many cells from `at` on.
 fn copy_cells(count: usize, at: usize, cells: &[u32], copy: &mut [u32])
@@ -123,21 +124,23 @@ fn finish(cells: &mut [u32])
 }
 
 // Fills the cells, n rows of n, with the distances.
-pub(crate) fn fill_cells<'a>(
-    n: usize,
-    links: usize,
-    from: &'a [u8; 128],
-    to: &'a [u8; 128],
-    out: &'a [u16; 128],
-    back: &'a [u16; 128],
-    cells: &mut [u32],
-)
-    requires { ColumnsWithin n links from.now to.now × (length cells.old ≡ n * n) }
-    ensures { Cells n (distance_in (stage n (arcs_in from.now to.now out.now back.now links) n)) cells.new }
+pub(crate) fn fill_cells(links: &Links, cells: &mut [u32])
+    requires { ColumnsWithin links.now.routers links.now.links links.now.from links.now.to × (length cells.old ≡ links.now.routers * links.now.routers) }
+    ensures { Cells links.now.routers (distance_in (stage links.now.routers
+        (arcs_in links.now.from links.now.to links.now.out links.now.back links.now.links) links.now.routers)) cells.new }
 {
+    let n = links.routers;
     clear(cells);
     lower_self_loops(n, cells);
-    lower_links(n, links, from, to, out, back, cells);
+    lower_links(
+        n,
+        links.links,
+        &links.from,
+        &links.to,
+        &links.out,
+        &links.back,
+        cells,
+    );
     eliminate(n, cells);
     substitute(n, cells);
     finish(cells);
