@@ -1,2 +1,2 @@
-pub mod RowLaws
 pub mod RankLaws
+pub mod RowLaws

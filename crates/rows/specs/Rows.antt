@@ -1,6 +1,6 @@
 -- The question that the numbers of a call make, the inputs that its call has, and the row that decides.
 -- Assumes nothing.
-use Rattle.std.specs.Prelude.{ℕ, Bool, true, false, List}
+use Rattle.std.specs.Prelude.{ℕ, Bool, true, false, List, Result, Ok, Err, ⊤}
 use Rattle.std.proofs.Math.Option.{Option, none, some}
 use Rattle.lfa.specs.File.{Bytes}
 use Rattle.lfa.specs.Space as space
@@ -10,9 +10,23 @@ use Rattle.rows.specs.declared.Call.{Call}
 use Rattle.rows.specs.declared.Call.TheVariants.{Distances, Space, Link, Prefix, Route}
 use Rattle.rows.specs.declared.Asked.{Asked}
 use Rattle.rows.specs.declared.Cells.{Cells}
+use Rattle.rows.specs.declared.Cells.TheVariants.{Work, Table}
 use Rattle.rows.specs.declared.Inputs.{Inputs}
 use Rattle.rows.specs.declared.Row.{Row}
-use Rattle.rows.specs.declared.Row.TheVariants.{ShortArea, WrongTable, ShortBuffer, NoSuchLink, NoSuchPrefix, BadRanks, Passed}
+use Rattle.rows.specs.declared.Row.TheVariants.{ShortArea, WrongTable, ShortBuffer, NoSuchLink, NoSuchPrefix, BadRanks}
+
+-- how many cells there are, whether they are given as a table, and whether that is right: where none is lent, any judgement will do
+abbrev pub count_in : Cells → ℕ
+count_in (Work n) = n
+count_in (Table n r) = n
+
+abbrev pub given_in : Cells → Bool
+given_in (Work n) = false
+given_in (Table n r) = true
+
+abbrev pub right_in : Cells → Bool → Bool
+right_in (Work n) any = any
+right_in (Table n r) any = r
 
 -- where the distances come from
 unfoldable pub source_of : (given : Bool) → question.Source
@@ -31,9 +45,9 @@ call_of Route given s = question.route (source_of given)
 -- neither the space nor the choice bytes
 unfoldable pub question_about : Bytes → Cells → (table : List ℕ) → Asked → space.Space → (choices ranks : List ℕ) → question.Question
 question_about b cells table a s choices ranks = record {
-  call = call_of a.call cells.given s;
+  call = call_of a.call (given_in cells) s;
   file = b;
-  cells = cells.count;
+  cells = count_in cells;
   table = table;
   buffer = a.buffer;
   ranks = ranks;
@@ -54,18 +68,18 @@ inputs_in c = record {
   prefix = question.has_input c question.a_prefix;
 }
 
--- a row, where it is tried and its test does not pass, and else the later one
-unfoldable pub or_row : (tried passes : Bool) → (row later : Row) → Row
-or_row tried true row later = later
-or_row true false row later = row
-or_row false false row later = later
+-- a row, where it is tried and its test does not pass
+abbrev pub row_unless : (tried passes : Bool) → Row → Result ⊤ Row
+row_unless true false row = Err row
+row_unless true true row = Ok tt
+row_unless false passes row = Ok tt
 
--- the row that decides, with the value that it returns, for each case of the enum
-unfoldable pub row_decided : Row → Option (table.Decided table.EarlyRow)
-row_decided (ShortArea v) = some (table.decided table.short_area v)
-row_decided WrongTable = some (table.decided table.wrong_table 0)
-row_decided (ShortBuffer v) = some (table.decided table.short_buffer v)
-row_decided (NoSuchLink v) = some (table.decided table.no_such_link v)
-row_decided (NoSuchPrefix v) = some (table.decided table.no_such_prefix v)
-row_decided BadRanks = some (table.decided table.bad_ranks 0)
-row_decided Passed = none
+-- the row that decides, with the value that it returns, if any does
+unfoldable pub row_decided : Result ⊤ Row → Option (table.Decided table.EarlyRow)
+row_decided (Err (ShortArea v)) = some (table.decided table.short_area v)
+row_decided (Err WrongTable) = some (table.decided table.wrong_table 0)
+row_decided (Err (ShortBuffer v)) = some (table.decided table.short_buffer v)
+row_decided (Err (NoSuchLink v)) = some (table.decided table.no_such_link v)
+row_decided (Err (NoSuchPrefix v)) = some (table.decided table.no_such_prefix v)
+row_decided (Err BadRanks) = some (table.decided table.bad_ranks 0)
+row_decided (Ok done) = none

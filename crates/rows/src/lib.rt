@@ -3,15 +3,13 @@
 // distances that is lent is the file's.
 #![tactic(auto)]
 
-ghost use Rattle.std.specs.Prelude.{ℕ, ◌≡◌, ◌&&◌, List, ltb, leb};
+ghost use Rattle.std.specs.Prelude.{ℕ, ◌≡◌, Bool, true, ◌&&◌, List, ltb, leb};
 ghost use Rattle.lfa.specs.Lists.{select};
 ghost use Rattle.lfa.specs.File.{Bytes};
 ghost use Rattle.lfa.specs.Space.{Space};
 ghost use Rattle.lfa.specs.Ranks.{is_arrangement};
 ghost use Rattle.lfa.specs.Refusal.{early_rows, tries_early, first_row, sized_returned};
-ghost use Rattle.rows.specs.Rows.{call_of, question_about, inputs_in, or_row, row_decided};
-
-use metric::read::wide;
+ghost use Rattle.rows.specs.Rows.{given_in, count_in, right_in, call_of, question_about, inputs_in, row_unless, row_decided};
 
 pub mod ranks;
 
@@ -25,13 +23,36 @@ pub enum Call {
     Route,
 }
 
-// The cells for distances that every call is lent: how many they are; whether they are given as a table, as repair and route calls may have
-// it, or else a work area; and, of a table, whether it holds the file's distances.
+// The cells for distances that every call is lent: a work area of so many; or a table, as repair and route calls may have it, of so many,
+// and whether it holds the file's distances.
 #[derive(Clone, Copy)]
-pub struct Cells {
-    pub count: usize,
-    pub given: bool,
-    pub right: bool,
+pub enum Cells {
+    Work(usize),
+    Table { count: usize, right: bool },
+}
+
+impl Cells {
+    fn count(self) -> usize
+        ensures { result ≡ count_in self }
+    {
+        match self {
+            Cells::Work(count) | Cells::Table { count, .. } => count,
+        }
+    }
+
+    // Whether they are given as a table.
+    fn given(self) -> bool
+        ensures { result ≡ given_in self }
+    {
+        matches!(self, Cells::Table { .. })
+    }
+
+    // Whether no table is there that is not the file's.
+    fn right(self) -> bool
+        ensures { result ≡ right_in self true }
+    {
+        !matches!(self, Cells::Table { right: false, .. })
+    }
 }
 
 // The numbers of a question, beside those cells, and whether the lent table of ranks is an arrangement. Where the call has no such input,
@@ -55,7 +76,6 @@ pub enum Row {
     NoSuchLink(usize),
     NoSuchPrefix(usize),
     BadRanks,
-    Passed,
 }
 
 // Which inputs a call has, beside the file and the cells for distances.
@@ -71,41 +91,31 @@ struct Inputs {
 fn inputs_of(call: Call, given: bool) -> Inputs
     ensures { (s : Space) → result ≡ inputs_in (call_of call given s) }
 {
+    let none = Inputs {
+        table: false,
+        buffer: false,
+        ranks: false,
+        link: false,
+        prefix: false,
+    };
+    let link = Inputs { link: true, ..none };
+    let repair = Inputs {
+        table: given,
+        ranks: true,
+        ..link
+    };
+    let prefix = Inputs {
+        prefix: true,
+        ..repair
+    };
     match call {
-        Call::Distances => Inputs {
-            table: false,
-            buffer: false,
-            ranks: false,
-            link: false,
-            prefix: false,
-        },
-        Call::Space => Inputs {
-            table: false,
-            buffer: false,
-            ranks: false,
-            link: true,
-            prefix: false,
-        },
-        Call::Link => Inputs {
-            table: given,
-            buffer: false,
-            ranks: true,
-            link: true,
-            prefix: false,
-        },
-        Call::Prefix => Inputs {
-            table: given,
-            buffer: false,
-            ranks: true,
-            link: true,
-            prefix: true,
-        },
+        Call::Distances => none,
+        Call::Space => link,
+        Call::Link => repair,
+        Call::Prefix => prefix,
         Call::Route => Inputs {
-            table: given,
             buffer: true,
-            ranks: true,
-            link: true,
-            prefix: true,
+            ..prefix
         },
     }
 }
@@ -117,45 +127,38 @@ fn named(links: usize, link: usize, end: usize) -> bool
     link < links && end <= 1
 }
 
-// A row, where the call tries it and its test does not pass, and else what the later rows say.
-fn or_row(tried: bool, passes: bool, row: Row, later: Row) -> Row
-    ensures { result ≡ or_row tried passes row later }
+// A row, where the call tries it and its test does not pass.
+fn row_unless(tried: bool, passes: bool, row: Row) -> Result<(), Row>
+    ensures { result ≡ row_unless tried passes row }
 {
-    if passes {
-        return later;
-    }
-    if tried {
-        return row;
-    }
-    later
+    if tried && !passes { Err(row) } else { Ok(()) }
 }
 
-// The first of these rows that applies to a question about a file with these counts. The row is found from the last to the first, so that a
-// further row is one more step.
-pub fn first_row(routers: u8, links: usize, prefixes: usize, cells: Cells, asked: Asked) -> Row
-    ensures { (b : Bytes) (s : Space) (table choices ranks : List ℕ) → is_arrangement ranks ≡ asked.ranked → row_decided result
-        ≡ first_row (sized_returned routers links prefixes cells.right (question_about b cells table asked s choices ranks)) (select (tries_early (call_of asked.call cells.given s)) early_rows) }
+// The first of these rows that applies to a question about a file with these counts.
+pub fn first_row(
+    routers: u8,
+    links: usize,
+    prefixes: usize,
+    cells: Cells,
+    asked: Asked,
+) -> Result<(), Row>
+    ensures { (b : Bytes) (s : Space) (table choices ranks : List ℕ) (right : Bool) → is_arrangement ranks ≡ asked.ranked → row_decided result
+        ≡ first_row (sized_returned routers links prefixes (right_in cells right) (question_about b cells table asked s choices ranks)) (select (tries_early (call_of asked.call (given_in cells) s)) early_rows) }
 {
-    let call = asked.call;
-    let has = inputs_of(call, cells.given);
-    let n = wide(routers);
+    let has = inputs_of(asked.call, cells.given());
+    let n = usize::from(routers);
     let square = n * n;
     let bytes = 2 * n;
     let there = named(links, asked.link, asked.end);
-    let from13 = or_row(
+    let area = row_unless(true, square <= cells.count(), Row::ShortArea(square));
+    let table = row_unless(has.table, cells.right(), Row::WrongTable);
+    let buffer = row_unless(has.buffer, bytes <= asked.buffer, Row::ShortBuffer(bytes));
+    let ranks = row_unless(has.ranks, asked.ranked, Row::BadRanks);
+    let link = row_unless(has.link, there, Row::NoSuchLink(links));
+    let prefix = row_unless(
         has.prefix,
         asked.prefix < prefixes,
         Row::NoSuchPrefix(prefixes),
-        Row::Passed,
     );
-    let from12 = or_row(has.link, there, Row::NoSuchLink(links), from13);
-    let from15 = or_row(has.ranks, asked.ranked, Row::BadRanks, from12);
-    let from11 = or_row(
-        has.buffer,
-        bytes <= asked.buffer,
-        Row::ShortBuffer(bytes),
-        from15,
-    );
-    let from18 = or_row(has.table, cells.right, Row::WrongTable, from11);
-    or_row(true, square <= cells.count, Row::ShortArea(square), from18)
+    area.and(table).and(buffer).and(ranks).and(link).and(prefix)
 }

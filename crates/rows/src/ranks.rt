@@ -7,14 +7,11 @@ ghost use Rattle.lfa.specs.Ranks.{times_given, is_arrangement};
 fn times_given(ranks: &[u8], rank: u8) -> usize
     ensures { result ≡ times_given ranks.now rank }
 {
-    let n = ranks.len();
     let mut given: usize = 0;
-    let mut class: usize = 0;
-    while class < n {
-        if ranks[class] == rank {
+    for entry in ranks {
+        if *entry == rank {
             given += 1;
         }
-        class += 1;
     }
     given
 }
@@ -26,12 +23,10 @@ pub fn arranged(ranks: &[u8]) -> bool
     if ranks.len() != 8 {
         return false;
     }
-    let mut rank: u8 = 0;
-    while rank < 8 {
+    for rank in 0..8 {
         if times_given(ranks, rank) != 1 {
             return false;
         }
-        rank += 1;
     }
     true
 }
