@@ -10,28 +10,15 @@ use lib.Dec.{eqb}
 use native.Mathlib.Omega.{arith}
 use Rattle.lfa.specs.Lists.{count_up, below, flat}
 use Rattle.lfa.specs.Space.{Protected, FirstHop, has}
-use Rattle.lfa.specs.Repair.{Outcome, none_serves, serving}
 use Rattle.order.specs.declared.Ordered.{Ordered}
-use Rattle.order.specs.declared.Earliest.{Earliest}
-use Rattle.order.specs.declared.Earliest.TheVariants.{Nothing, Found}
-use Rattle.order.specs.Order.{told_in, earliest_in, earlier_of}
+use Rattle.order.specs.Order.{earlier_of}
 use Rattle.steps.specs.declared.Onward.{Onward}
 use Rattle.arcs.specs.Arcs.{side_of, hop_by}
 use Rattle.search.specs.Hops.{hops_in}
 use Rattle.search.specs.Spaces.{avoided_from}
-use Rattle.search.specs.Choice.{outcome_for, first_of, hop_pairs, protecting_from, pairs_over, pairs_tried}
+use Rattle.search.specs.Choice.{first_of, hop_pairs, protecting_from, pairs_over, pairs_tried}
 use Rattle.metric.proofs.Laws.Select.{flat_append}
 use Rattle.search.proofs.HopLaws.{hops_more}
-
--- ---- the pair that was found
-
--- what was found, passed on
-pub nothing_outcome : {o : Outcome} (r : Earliest) → ((p : Ordered) → r ≡ Found p → ⊥) → outcome_for (earliest_in r) ≡ o → none_serves ≡ o
-nothing_outcome Nothing t e = e
-nothing_outcome (Found p) t e = absurd (t p refl)
-
-pub pair_outcome : {o : Outcome} {r : Earliest} {p : Ordered} → r ≡ Found p → outcome_for (earliest_in r) ≡ o → serving (told_in p.pair) ≡ o
-pair_outcome e f = rw e at f
 
 -- ---- the first of some pairs
 

@@ -4,6 +4,8 @@ use Prim.Native.Nat.{ℕ, ◌+◌, ◌*◌, ◌≤◌, ◌<◌}
 use mathlib.Core.Path.{◌≡◌, refl, sym, ap, ◌∙◌}
 use mathlib.Core.Bool.{Bool, true, false}
 use mathlib.Core.Option.{Option, none, some}
+use Rattle.std.specs.Prelude.{Some, None}
+use Rattle.std.specs.Prelude as code
 use mathlib.Core.List.{List, [], ◌∷◌, ◌++◌, map, map-append, append-nil}
 use native.Mathlib.Omega.{arith}
 use native.Mathlib.Decide.{ℕ_discrete}
@@ -102,16 +104,16 @@ module _ (ranks : List ℕ) (n : ℕ) (area : List ℕ) (near far : ℕ) (column
       record { sum = k.sum ∙ ap (λ (x : ℕ). x + cell_in n area near y) own.0; small = own.1; short = k.short }
 
   -- what is known of the endpoints before y: the pair of the one found is the first of theirs, and `least` is its key
-  pub data EndAt (y best least : ℕ) : Type 0 where
-    nothing : best ≡ 64 → least ≡ 18446744073709551615 → first_of none (up_to y) ≡ none → EndAt y best least
-    found : best < y → KeyIs (at best) least → first_of none (up_to y) ≡ some (at best) → EndAt y best least
+  pub data EndAt (y : ℕ) : (best : code.Option ℕ) → (least : ℕ) → Type 0 where
+    nothing : first_of none (up_to y) ≡ none → EndAt y None 18446744073709551615
+    found : {best least : ℕ} → best < y → KeyIs (at best) least → first_of none (up_to y) ≡ some (at best) → EndAt y (Some best) least
 
-  pub none_yet : EndAt 0 64 18446744073709551615
+  pub none_yet : EndAt 0 None 18446744073709551615
   unfolding first_of hop_pairs below count_up select
-  none_yet = nothing refl refl refl
+  none_yet = nothing refl
 
-  pub end_passed : {best least : ℕ} (y : ℕ) → may_end set near far y ≡ false → EndAt y best least → EndAt (y + 1) best least
-  end_passed y t (nothing b l e) = nothing b l (ap (first_of none) (one_more y false t ∙ append-nil (up_to y)) ∙ e)
+  pub end_passed : {best : code.Option ℕ} {least : ℕ} (y : ℕ) → may_end set near far y ≡ false → EndAt y best least → EndAt (y + 1) best least
+  end_passed y t (nothing e) = nothing (ap (first_of none) (one_more y false t ∙ append-nil (up_to y)) ∙ e)
   end_passed y t (found b l e) = found (omega arith) l (ap (first_of none) (one_more y false t ∙ append-nil (up_to y)) ∙ e)
 
   tried : (y : ℕ) → may_end set near far y ≡ true → first_of none (up_to (y + 1)) ≡ earlier_of (first_of none (up_to y)) (at y)
@@ -120,20 +122,20 @@ module _ (ranks : List ℕ) (n : ℕ) (area : List ℕ) (near far : ℕ) (column
 
   -- one endpoint more is tried: it takes the place of the one found where its key is lower
   module _ {key : ℕ} (keys : List ℕ) (y : ℕ) (known : KeysOf ranks keys) (t : may_end set near far y ≡ true) (k : KeyOf keys n area near column f.router protecting y key) where
-    pub end_taken : {best least : ℕ} → key < least → EndAt y best least → EndAt (y + 1) y key
+    pub end_taken : {best : code.Option ℕ} {least : ℕ} → key < least → EndAt y best least → EndAt (y + 1) (Some y) key
     unfolding earlier_of ordered_at
-    end_taken h (nothing b l e) = found (omega arith) (key_is keys y known k) (tried y t ∙ ap (λ (o : Option Ordered). earlier_of o (at y)) e)
-    end_taken {best} h (found b l e) =
+    end_taken h (nothing e) = found (omega arith) (key_is keys y known k) (tried y t ∙ ap (λ (o : Option Ordered). earlier_of o (at y)) e)
+    end_taken h (found {best} b l e) =
         let own = key_is keys y known k in
         found (omega arith) own (tried y t ∙ ap (λ (o : Option Ordered). earlier_of o (at y)) e ∙ key_yields (at best) (at y) l own b h)
 
-    pub end_kept : {best least : ℕ} → least ≤ key → EndAt y best least → EndAt (y + 1) best least
+    pub end_kept : {best : code.Option ℕ} {least : ℕ} → least ≤ key → EndAt y best least → EndAt (y + 1) best least
     unfolding earlier_of ordered_at
-    end_kept h (nothing b l e) = let own = key_is keys y known k in absurd (omega (arith, own.sum, own.small, own.short, l))
-    end_kept {best} h (found b l e) =
+    end_kept h (nothing e) = let own = key_is keys y known k in absurd (omega (arith, own.sum, own.small, own.short))
+    end_kept h (found {best} b l e) =
         let own = key_is keys y known k in
         found (omega arith) l (tried y t ∙ ap (λ (o : Option Ordered). earlier_of o (at y)) e ∙ key_stays (at best) (at y) l own b h)
 
-  pub end_found : {y best least : ℕ} → n ≤ 64 → y ≡ n → EndAt y best least → FirstEnd at (up_to n) best
-  end_found h e (nothing b l q) = record { none_ends = λ k. ap (λ (m : ℕ). first_of none (up_to m)) (sym e) ∙ q; ends = λ k. absurd (omega (arith, b, k)) }
-  end_found h e (found b l q) = record { none_ends = λ k. absurd (omega (arith, b, k)); ends = λ k. ap (λ (m : ℕ). first_of none (up_to m)) (sym e) ∙ q }
+  pub end_found : {best : code.Option ℕ} {least : ℕ} → n ≤ 64 → EndAt n best least → FirstEnd at (up_to n) best
+  end_found h (nothing e) = e
+  end_found h (found b l e) = (omega arith, e)

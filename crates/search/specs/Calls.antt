@@ -8,7 +8,6 @@ use Rattle.lfa.specs.Space.{Protected, Space}
 use Rattle.lfa.specs.Repair.{Outcome, prefix_unreachable, prefix_untouched, none_serves}
 use Rattle.metric.specs.declared.columns.Links.{Links}
 use Rattle.network_file.specs.declared.network.Network.{Network}
-use Rattle.network_file.specs.Struct.{link_part}
 use Rattle.metric.specs.Columns.{arcs_in}
 use Rattle.column.specs.Calls.{router_column, prefix_column, attached_set}
 use Rattle.avoid.specs.Calls.{readable}
@@ -71,7 +70,7 @@ link_by columns ranks link end area = link_if ranks (searches columns link end a
 
 -- the distances to a prefix
 abbrev pub column_to : Network → (prefix : ℕ) → (area : List ℕ) → List ℕ
-column_to network prefix area = prefix_column network.routers network.at network.own (8 * prefix) (get_or network.attached prefix 0) area
+column_to network prefix area = prefix_column network.links.routers network.at network.own (8 * prefix) (get_or network.attached prefix 0) area
 
 -- the routers at which every walk towards a prefix ends: the attached ones
 abbrev pub ends_to : Network → (prefix : ℕ) → ℕ
@@ -86,5 +85,5 @@ unfoldable pub prefix_by : Network → (ranks : List ℕ) → (link end prefix :
 prefix_by network ranks link end prefix area =
     let column = column_to network prefix area in
     let ends = ends_to network prefix in
-    let columns = link_part network in
+    let columns = network.links in
     prefix_if ranks (ltb prefix 128 && searches columns link end area) columns.routers (hops_of columns) (protected_of columns link end) area ends column (onward_to columns link end ends column)

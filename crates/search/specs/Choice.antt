@@ -1,6 +1,7 @@
 -- The search for a pair, by the numbers that an area holds for n routers: the pairs that are tried, and the first of them.
 -- Assumes nothing.
-use Rattle.std.specs.Prelude.{ℕ, ◌+◌, ◌*◌, ◌≤◌, ◌<◌, min, ◌≡◌, Bool, not, ◌&&◌, List, [], ◌∷◌, map, eqb, get_or}
+use Rattle.std.specs.Prelude.{ℕ, ◌+◌, ◌*◌, ◌<◌, min, ◌≡◌, Bool, not, ◌&&◌, List, [], ◌∷◌, map, eqb, get_or, Some, None, MatchOption}
+use Rattle.std.specs.Prelude as code
 use Rattle.std.proofs.Math.Option.{Option, none, some}
 use Rattle.std.specs.Int.Bits.{bit_and}
 use Rattle.lfa.specs.Lists.{below, select, flat}
@@ -10,12 +11,13 @@ use Rattle.lfa.specs.Space.{Protected, FirstHop, first_hops, extended_p, has}
 use Rattle.lfa.specs.Ranks.{classes, rank_of}
 use Rattle.lfa.specs.Repair.{Outcome, prefix_unreachable, prefix_untouched, none_serves, serving}
 use Rattle.metric.specs.Area.{cell_in}
+use Rattle.order.specs.declared.Pair as declared
 use Rattle.order.specs.declared.Ordered.{Ordered}
 use Rattle.order.specs.Order.{told_in, earlier_of, class_by}
 use Rattle.avoid.specs.Calls.{missing_from}
 use Rattle.steps.specs.declared.Onward.{Onward}
 use Rattle.search.specs.declared.Found.{Found}
-use Rattle.search.specs.declared.Found.TheVariants.{Unreachable, Untouched, Nothing, Pair}
+use Rattle.search.specs.declared.Found.TheVariants.{Unreachable, Untouched, Pair}
 use Rattle.search.specs.Spaces.{avoided_from, space_for}
 
 -- ---- what is answered
@@ -25,12 +27,17 @@ abbrev pub outcome_for : Option Ordered → Outcome
 outcome_for none = none_serves
 outcome_for (some o) = serving (told_in o.pair)
 
--- the outcome of each case of what is found
-abbrev pub outcome_in : Found → Outcome
-outcome_in Unreachable = prefix_unreachable
-outcome_in Untouched = prefix_untouched
-outcome_in Nothing = none_serves
-outcome_in (Pair p) = serving (told_in p)
+-- the outcome of the pair that is found, if any is
+abbrev pub outcome_of_pair : code.Option declared.Pair → Outcome
+outcome_of_pair None = none_serves
+outcome_of_pair (Some p) = serving (told_in p)
+
+-- the outcome of each case of what is found for a prefix
+abbrev pub outcome_in : code.Option Found → Outcome
+outcome_in None = none_serves
+outcome_in (Some Unreachable) = prefix_unreachable
+outcome_in (Some Untouched) = prefix_untouched
+outcome_in (Some (Pair p)) = serving (told_in p)
 
 -- ---- the first of some pairs
 
@@ -39,10 +46,9 @@ unfoldable pub first_of : Option Ordered → List Ordered → Option Ordered
 first_of found [] = found
 first_of found (o ∷ os) = first_of (earlier_of found o) os
 
--- y is the endpoint of the first of some pairs, each of which has its endpoint; 64 where there are none
-pub record FirstEnd (at : ℕ → Ordered) (pairs : List Ordered) (y : ℕ) : Type 0 where
-  pub none_ends : 64 ≤ y → first_of none pairs ≡ none
-  pub ends : y < 64 → first_of none pairs ≡ some (at y)
+-- the endpoint of the first of some pairs, each of which has its endpoint, if there are any
+abbrev pub FirstEnd : (at : ℕ → Ordered) → (pairs : List Ordered) → code.Option ℕ → Type 0
+FirstEnd at pairs end = MatchOption end (first_of none pairs ≡ none) (λ y. (y < 64) × (first_of none pairs ≡ some (at y)))
 
 -- ---- the pairs that are tried
 

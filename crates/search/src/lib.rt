@@ -6,14 +6,15 @@
 
 ghost use Rattle.std.specs.Prelude.{◌≡◌};
 ghost use Rattle.search.specs.Spaces.{space_named};
-ghost use Rattle.search.specs.Choice.{outcome_in};
+ghost use Rattle.search.specs.Choice.{outcome_in, outcome_of_pair};
 ghost use Rattle.search.specs.Calls.{space_by, link_by, prefix_by};
 
 use column::{attached_routers, towards_prefix};
-use metric::read::wide;
-use network_file::network::{Links, Network};
+use metric::columns::{Links, Slots};
+use metric::read::Area;
+use network_file::network::Network;
 use order::Pair;
-use pair::{link_found, prefix_found};
+use pair::{Sought, link_found, prefix_found};
 use protected::protect;
 use space::space_of;
 
@@ -30,116 +31,82 @@ pub enum Which {
     Q,
 }
 
-// What a search found. Only a search for a prefix finds that it is unreachable or untouched.
+// What a search for a prefix found: that it is unreachable or untouched, or the pair that repairs the traffic to it.
 #[derive(Clone, Copy)]
 pub enum Found {
     Unreachable,
     Untouched,
-    Nothing,
     Pair(Pair),
 }
 
 // One of the three spaces, as the set of its routers: router r is the bit of weight 2 to the power r.
-pub fn space_in(which: Which, columns: Links, link: usize, end: usize, dist: &[u32]) -> u64
-    ensures { result ≡ space_by (space_named which) columns link end dist.now }
+pub fn space_in(which: Which, links: &Links, link: usize, end: usize, table: &[u32]) -> u64
+    ensures { result ≡ space_by (space_named which) links.now link end table.now }
 {
     if 128 <= link {
         return 0;
     }
-    let n = columns.routers;
-    let links = columns.links;
-    let protected = protect(
-        &columns.from,
-        &columns.to,
-        &columns.out,
-        &columns.back,
-        link,
-        end,
-    );
-    space_of(
-        which,
-        dist,
-        n,
-        links,
-        &columns.from,
-        &columns.to,
-        &columns.out,
-        &columns.back,
-        protected,
-    )
+    let area = Area {
+        n: links.routers,
+        cells: table,
+    };
+    space_of(which, links, protect(links, link, end), &area)
 }
 
 // The pair that repairs a link: around it, to its far router.
-pub fn link_pair(columns: Links, ranks: &[u8], link: usize, end: usize, dist: &[u32]) -> Found
-    ensures { outcome_in result ≡ link_by columns ranks.now link end dist.now }
+pub fn link_pair(
+    links: &Links,
+    ranks: &[u8],
+    link: usize,
+    end: usize,
+    table: &[u32],
+) -> Option<Pair>
+    ensures { outcome_of_pair result ≡ link_by links.now ranks.now link end table.now }
 {
     if 128 <= link {
-        return Found::Nothing;
+        return None;
     }
-    let n = columns.routers;
-    let links = columns.links;
-    let protected = protect(
-        &columns.from,
-        &columns.to,
-        &columns.out,
-        &columns.back,
-        link,
-        end,
-    );
-    link_found(
-        ranks,
-        dist,
-        n,
-        links,
-        &columns.from,
-        &columns.to,
-        &columns.out,
-        &columns.back,
-        protected,
-    )
+    let area = Area {
+        n: links.routers,
+        cells: table,
+    };
+    link_found(links, ranks, protect(links, link, end), &area)
 }
 
 // The pair that repairs the traffic to a prefix, where it may cross the link. A walk towards the prefix ends at an attached router.
 pub fn prefix_pair(
-    network: Network,
+    network: &Network,
     ranks: &[u8],
     link: usize,
     end: usize,
     prefix: usize,
-    dist: &[u32],
-) -> Found
-    ensures { outcome_in result ≡ prefix_by network ranks.now link end prefix dist.now }
+    table: &[u32],
+) -> Option<Found>
+    ensures { outcome_in result ≡ prefix_by network.now ranks.now link end prefix table.now }
 {
     if 128 <= prefix {
-        return Found::Nothing;
+        return None;
     }
     if 128 <= link {
-        return Found::Nothing;
+        return None;
     }
-    let n = network.routers;
-    let links = network.links;
-    let count = wide(network.attached[prefix]);
-    let target = towards_prefix(dist, n, &network.at, &network.own, 8 * prefix, count);
-    let ends = attached_routers(&network.at, 8 * prefix, count);
-    let protected = protect(
-        &network.from,
-        &network.to,
-        &network.out,
-        &network.back,
-        link,
-        end,
-    );
-    prefix_found(
+    let links = &network.links;
+    let area = Area {
+        n: links.routers,
+        cells: table,
+    };
+    let slots = Slots {
+        at: &network.at,
+        own: &network.own,
+        first: 8 * prefix,
+        count: usize::from(network.attached[prefix]),
+    };
+    let target = towards_prefix(&area, &slots);
+    let sought = Sought {
         ranks,
-        dist,
-        n,
-        links,
-        &network.from,
-        &network.to,
-        &network.out,
-        &network.back,
-        protected,
-        ends,
-        &target,
-    )
+        area,
+        protected: protect(links, link, end),
+        target: &target,
+    };
+    prefix_found(links, &sought, attached_routers(&slots))
 }

@@ -1,108 +1,78 @@
 // The three spaces, by the numbers that a table of distances holds.
 ghost use Rattle.std.specs.Prelude.{◌≡◌, List, [], ℕ, ◌≤◌, ◌<◌, length};
 ghost use Rattle.lfa.specs.Space.{q_space};
-ghost use Rattle.metric.specs.Columns.{arcs_in};
 ghost use Rattle.avoid.specs.Avoiding.{asked};
 ghost use Rattle.search.specs.Hops.{hops_in};
 ghost use Rattle.search.specs.Spaces.{gathered, Reached, space_for, space_named};
-ghost use Rattle.search.specs.Calls.{searchable, space_if};
+ghost use Rattle.search.specs.Calls.{searchable, space_if, hops_of};
 
 use crate::Which;
 use crate::hops::{FirstHops, first_hops};
 use arcs::head_of;
 use avoid::{Protected, avoiding_from, avoiding_to, can_read};
 use column::towards_router;
+use metric::columns::Links;
+use metric::read::Area;
 
 // Whether a question is searched for: the columns have a cell for each link, and the table one for each two routers, the ends of the
 // protected link among them.
-pub(crate) fn can_search(n: usize, links: usize, protected: Protected, cells: usize) -> bool
-    ensures { result ≡ searchable n links (asked protected) cells }
+#[tactic(auto, unfolding(crate::specs::Calls::searchable))]
+pub(crate) fn can_search(links: &Links, protected: Protected, area: &Area<'_>) -> bool
+    ensures { result ≡ searchable area.now.n links.now.links (asked protected) (length area.now.cells.now) }
 {
-    links <= 128 && can_read(n, protected, cells)
+    links.links <= 128 && can_read(protected, area)
 }
 
 // For each first hop, stores the set of the routers that it avoids the link on the way to, and tells those that one of them does: extended
 // P. Beyond which arcs are first hops, costs have no part in it.
 pub(crate) fn reached(
-    dist: &[u32],
-    n: usize,
-    from: &[u8; 128],
-    to: &[u8; 128],
+    links: &Links,
     protected: Protected,
-    hops: FirstHops,
+    area: &Area<'_>,
+    hops: &FirstHops,
     sets: &mut [u64; 256],
 ) -> u64
-    requires { (hops.count ≤ 256) × (length sets.old ≡ 256) }
-    ensures { Reached n (asked protected) dist.now from.now to.now hops.count hops.arcs sets.new result }
+    requires { (hops.now.count ≤ 256) × (length sets.old ≡ 256) }
+    ensures { Reached area.now.n (asked protected) area.now.cells.now links.now.from links.now.to hops.now.count hops.now.arcs sets.new result }
 {
-    let mut set: u64 = 0;
-    let mut i = 0;
-    while i < hops.count {
-        let hop = head_of(hops.arcs[i], from, to);
-        let one = avoiding_from(dist, dist, n, protected, hop);
+    let mut union = 0;
+    for i in 0..hops.count {
+        let hop = head_of(hops.arcs[i], links);
+        let one = avoiding_from(area.cells, area, protected, hop);
         sets[i] = one;
-        set = set | one;
-        i += 1;
+        union |= one;
     }
-    set
+    union
 }
 
 // Extended P.
-fn extended_p(
-    dist: &[u32],
-    n: usize,
-    from: &[u8; 128],
-    to: &[u8; 128],
-    protected: Protected,
-    hops: FirstHops,
-) -> u64
-    requires { hops.count ≤ 256 }
-    ensures { (out back : List ℕ) → result ≡ gathered n (asked protected) dist.now 0 (hops_in from.now to.now out back hops.count hops.arcs) }
+fn extended_p(links: &Links, protected: Protected, area: &Area<'_>, hops: &FirstHops) -> u64
+    requires { hops.now.count ≤ 256 }
+    ensures { (out back : List ℕ) → result ≡ gathered area.now.n (asked protected) area.now.cells.now 0 (hops_in links.now.from links.now.to out back hops.now.count hops.now.arcs) }
 {
-    let mut sets = [0u64; 256];
-    reached(dist, n, from, to, protected, hops, &mut sets)
+    let mut sets = [0; 256];
+    reached(links, protected, area, hops, &mut sets)
 }
 
 // Q space.
-fn q_space(dist: &[u32], n: usize, protected: Protected) -> u64
-    ensures { result ≡ space_for q_space n [] (asked protected) dist.now }
+fn q_space(protected: Protected, area: &Area<'_>) -> u64
+    ensures { result ≡ space_for q_space area.now.n [] (asked protected) area.now.cells.now }
 {
-    let far = protected.far;
-    let target = towards_router(dist, n, far);
-    avoiding_to(&target, dist, n, protected, &target)
+    let target = towards_router(area, protected.far);
+    avoiding_to(&target, area, protected, &target)
 }
 
 // The space that is asked for.
-pub(crate) fn space_of<'a>(
-    which: Which,
-    dist: &[u32],
-    n: usize,
-    links: usize,
-    from: &'a [u8; 128],
-    to: &'a [u8; 128],
-    out: &'a [u16; 128],
-    back: &'a [u16; 128],
-    protected: Protected,
-) -> u64
-    ensures { result ≡ space_if (searchable n links (asked protected) (length dist.now)) (space_named which) n
-        (arcs_in from.now to.now out.now back.now links) (asked protected) dist.now }
+pub(crate) fn space_of(which: Which, links: &Links, protected: Protected, area: &Area<'_>) -> u64
+    ensures { result ≡ space_if (searchable area.now.n links.now.links (asked protected) (length area.now.cells.now)) (space_named which) area.now.n
+        (hops_of links.now) (asked protected) area.now.cells.now }
 {
-    if !can_search(n, links, protected, dist.len()) {
+    if !can_search(links, protected, area) {
         return 0;
     }
-    let near = protected.near;
     match which {
-        Which::P => avoiding_from(dist, dist, n, protected, near),
-        Which::ExtendedP => {
-            extended_p(
-                dist,
-                n,
-                from,
-                to,
-                protected,
-                first_hops(links, from, to, out, back, protected),
-            )
-        }
-        Which::Q => q_space(dist, n, protected),
+        Which::P => avoiding_from(area.cells, area, protected, protected.near),
+        Which::ExtendedP => extended_p(links, protected, area, &first_hops(links, protected)),
+        Which::Q => q_space(protected, area),
     }
 }

@@ -12,7 +12,6 @@ use Rattle.lfa.proofs.Laws.Bound.{falls}
 use Rattle.lfa.proofs.Laws.Repair.{may_test}
 use Rattle.metric.specs.declared.columns.Links.{Links}
 use Rattle.network_file.specs.declared.network.Network.{Network}
-use Rattle.network_file.specs.Struct.{link_part}
 use Rattle.metric.specs.Area.{held}
 use Rattle.metric.specs.Column.{slots_in}
 use Rattle.metric.specs.Fit.{ColumnsWithin, SlotsWithin}
@@ -58,9 +57,9 @@ module _ {columns : Links} {l e : ℕ} {area : List ℕ} (a : Asking columns l e
       (pair_known ranks n (hops_of columns) q area known (router q.far) _ to-far _ (avoiding_known n (hops_of columns) q area known q.far _ to-far) (none_misses n (hops_of columns) q area known))
 
 -- A network is asked about by its links, and by the slots of a prefix.
-module _ (network : Network) {l e : ℕ} {area : List ℕ} (a : Asking (link_part network) l e area) where
+module _ (network : Network) {l e : ℕ} {area : List ℕ} (a : Asking network.links l e area) where
   abbrev columns : Links
-  columns = link_part network
+  columns = network.links
 
   pub prefix_found_lem : (ranks : List ℕ) (x : ℕ) → x < 128 → SlotsWithin columns.routers (8 * x) (get_or network.attached x 0) network.at →
       prefix_by network ranks l e x area ≡ prefix_outcome ranks columns.routers (hops_of columns) (held columns.routers area) (protected_of columns l e) (slots_in network.at network.own (8 * x) (get_or network.attached x 0))
@@ -74,7 +73,7 @@ module _ (network : Network) {l e : ℕ} {area : List ℕ} (a : Asking (link_par
       let target = slots_in network.at network.own (8 * x) (get_or network.attached x 0) in
       let to-prefix = column.prefix_known n area known.sound.few known.long network.at network.own (8 * x) (get_or network.attached x 0) slots refl in
       let ends : RightEnds n target (ends_to network x) = record { at = λ y h. column.attached_known network.own known.sound.few slots h } in
-      let avoiding = by-steps.avoiding_known a.within network.out network.back d target (ends_to network x) ends _ to-prefix q known.named in
-      let missing = by-steps.missing_known a.within network.out network.back d target (ends_to network x) ends _ to-prefix q known.named (falls known.sound d target).1 in
-      let crosses = by-steps.over_known a.within network.out network.back d target (ends_to network x) ends _ to-prefix q known.named ∙ sym (may_test n hops d q known.sound known.named target) in
+      let avoiding = by-steps.avoiding_known a.within network.links.out network.links.back d target (ends_to network x) ends _ to-prefix q known.named in
+      let missing = by-steps.missing_known a.within network.links.out network.links.back d target (ends_to network x) ends _ to-prefix q known.named (falls known.sound d target).1 in
+      let crosses = by-steps.over_known a.within network.links.out network.links.back d target (ends_to network x) ends _ to-prefix q known.named ∙ sym (may_test n hops d q known.sound known.named target) in
       rw (searched a, lt-ltb x 128 x-in, prefix_if) (prefix_known ranks n hops q area known target _ to-prefix _ avoiding (set_misses n hops d target q.far _ missing) (ends_to network x) crosses)

@@ -1,0 +1,25 @@
+use Rattle.std.proofs.Common.{◌≡◌, sym, ◌∙◌, arith}
+use Rattle.search.proofs.EndLaws.{none_yet, end_passed, end_taken, end_kept, end_found}
+use Rattle.search.proofs.pair.first_end.Goals as goal
+use Rattle.search.proofs.pair.first_end.Goals.{then-may_end+then-key-least, then-may_end+else-key-least, else-may_end}
+
+pub loop-y-init : goal.loop-y-init
+loop-y-init c = λ ranks f e known. none_yet _ _ _ _ _ _ _ _ _
+
+pub loop-y-preserved : goal.loop-y-preserved
+loop-y-preserved c = λ ranks f e known.
+    let a = c.args in
+    let s = a.sought.now in
+    let y = c.loop-y.y in
+    let before = c.loop-y.invariant ranks f e known in
+    elim c.if-may_end.branch [
+      | then-may_end+then-key-least w ↦ rw (w.best-is, w.least-is) (end_taken ranks s.area.n s.area.cells.now s.protected.near s.protected.far s.target.now f a.protecting a.endpoints a.keys.now y known (sym c.may_end.ensures ∙ w.if-may_end.true) (rw (← e) at w.key_of-key.ensures) w.if-key-least.true before)
+      | then-may_end+else-key-least w ↦ rw (w.best-is, w.least-is) (end_kept ranks s.area.n s.area.cells.now s.protected.near s.protected.far s.target.now f a.protecting a.endpoints a.keys.now y known (sym c.may_end.ensures ∙ w.if-may_end.true) (rw (← e) at w.key_of-key.ensures) w.if-key-least.false before)
+      | else-may_end w ↦ rw (w.best-is, w.least-is) (end_passed ranks s.area.n s.area.cells.now s.protected.near s.protected.far s.target.now f a.protecting a.endpoints y (sym c.may_end.ensures ∙ w.if-may_end.false) before)
+    ]
+
+pub returns : goal.returns
+returns c = λ ranks f e known.
+    let s = c.args.sought.now in
+    let all : c.loop-y.y ≡ s.area.n = omega arith in
+    end_found ranks s.area.n s.area.cells.now s.protected.near s.protected.far s.target.now f c.args.protecting c.args.endpoints c.requires.0 (rw all at (c.loop-y.invariant ranks f e known))

@@ -1,0 +1,17 @@
+use Rattle.std.proofs.Common.{◌≡◌, ap, ◌∙◌, ℕ, arith}
+use Rattle.std.proofs.Math.Option.{none}
+use Rattle.avoid.specs.Avoiding.{asked}
+use Rattle.search.specs.Hops.{hops_in}
+use Rattle.search.specs.Choice.{first_of, pairs_tried}
+use Rattle.search.proofs.ChoiceLaws.{none_tried, hop_tried}
+use Rattle.search.proofs.pair.search.Goals as goal
+
+pub loop-i-init : goal.loop-i-init
+loop-i-init c = none_tried _ _ _ _ _ _ _ _ _ _ _
+
+pub loop-i-preserved : goal.loop-i-preserved
+loop-i-preserved c =
+    let s = c.args.sought.now in
+    let k = c.args.links.now in
+    hop_tried s.ranks.now s.area.n (asked s.protected) s.area.cells.now s.target.now c.args.kept k.from k.to k.out k.back c.args.hops.now.arcs c.loop-i.i
+    c.loop-i.invariant c.hop_of-hop.ensures (c.requires.3 c.loop-i.i (omega arith)) c.protecting_from-protecting.ensures c.over_hop-best.ensures

@@ -1,0 +1,20 @@
+-- The end decides which router is S.
+use Rattle.std.proofs.Common.{◌≡◌, ℕ, zero, suc, refl}
+use Rattle.lfa.specs.Network.{link}
+use Rattle.lfa.specs.Space.{under_maintenance, protected_by}
+use Rattle.search.specs.Hops.{protected_in}
+use Rattle.search.proofs.protected.protect.Goals as goal
+
+-- an end that is not 0
+other_end : (l e a b ab ba : ℕ) → (e ≡ 0 → ⊥) → record { number = l; near = b; far = a; out = ba; back = ab; maintenance = under_maintenance } ≡ protected_by under_maintenance l e (link a b ab ba)
+unfolding protected_by
+other_end l zero a b ab ba h = absurd (h refl)
+other_end l (suc e) a b ab ba h = refl
+
+pub returns-then-end-eq0 : goal.returns-then-end-eq0
+unfolding protected_in protected_by
+returns-then-end-eq0 c = rw (c.if-end-eq0.true, c.from-near.ensures, c.from-far.ensures, c.from-out.ensures, c.from-back.ensures, protected_by)
+
+pub returns-else-end-eq0 : goal.returns-else-end-eq0
+unfolding protected_in
+returns-else-end-eq0 c = rw (c.from-near.ensures, c.from-far.ensures, c.from-out.ensures, c.from-back.ensures) (other_end _ _ _ _ _ _ c.if-end-eq0.false)
