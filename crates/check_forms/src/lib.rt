@@ -2,8 +2,8 @@
 // numbers of eight bytes of `block_check`. One promise holds for both, so that only their times can differ.
 #![tactic(auto)]
 
-ghost use Rattle.std.specs.Prelude.{◌≡◌, ◌+◌, ◌*◌, ◌≤◌, length};
-ghost use Rattle.lfa.specs.File.{check_of, check_good};
+ghost use Rattle.std.specs.Prelude.{◌≡◌, ◌+◌, ◌*◌, ◌≤◌, length, unwrap_or};
+ghost use Rattle.lfa.specs.File.{blocks_in, block_of, check_of};
 ghost use Rattle.check_forms.specs.FirstBad.{first_bad};
 
 use block_check::check_of;
@@ -15,35 +15,36 @@ fn word_by_word(block: &[u8]) -> u16
     ensures { result ≡ check_of block.now }
 {
     let mut sum: u16 = 0;
-    let mut i: usize = 0;
-    while i < 255 {
+    for i in 0..255 {
         let at = 2 * i;
-        sum = std::num::wrapping_add_u16(sum, word_of(block[at], block[at + 1]));
-        i += 1;
+        sum = sum.wrapping_add(word_of(block[at], block[at + 1]));
     }
     sum
 }
 
-// The check of a block, in the form asked for.
-fn check_by(block: &[u8], words: bool) -> u16
-    requires { length block.now ≡ 512 }
-    ensures { result ≡ check_of block.now }
-{
-    if words {
-        return word_by_word(block);
-    }
-    check_of(block)
-}
-
-// Whether block i holds its own check.
-fn check_good(file: &[u8], i: usize, words: bool) -> bool
+// Block i.
+fn block_at(file: &[u8], i: usize) -> &[u8]
     requires { 512 * i + 512 ≤ length file.now }
-    ensures { result ≡ check_good file.now i }
+    ensures { (result.now ≡ block_of file.now i) × (length result.now ≡ 512) }
 {
     let start = 512 * i;
     let end = start + 512;
-    let block = &file[start..end];
-    check_by(block, words) == word_at(block, 510)
+    &file[start..end]
+}
+
+// The first block that does not end with its check, as `check` works it out.
+fn first_bad<F: Fn(&[u8]) -> u16>(file: &[u8], check: F) -> Option<usize>
+    requires called { (block : _) → length block.now ≡ 512 → F.pre check block }
+    requires right { (block : _) → (r : _) → length block.now ≡ 512 → F.post check block r → r ≡ check_of block.now }
+    ensures { unwrap_or result (blocks_in file.now) ≡ first_bad file.now }
+{
+    for i in 0..file.len() / 512 {
+        let block = block_at(file, i);
+        if check(block) != word_at(block, 510) {
+            return Some(i);
+        }
+    }
+    None
 }
 
 // The first block whose check is not the one that it ends with, or the number of whole blocks: word by word where `words`, by numbers of
@@ -51,13 +52,10 @@ fn check_good(file: &[u8], i: usize, words: bool) -> bool
 pub fn check_forms_first_bad(file: &[u8], words: bool) -> usize
     ensures { result ≡ first_bad file.now }
 {
-    let n = file.len() / 512;
-    let mut i: usize = 0;
-    while i < n {
-        if !check_good(file, i, words) {
-            return i;
-        }
-        i += 1;
-    }
-    n
+    let bad = if words {
+        first_bad(file, word_by_word)
+    } else {
+        first_bad(file, check_of)
+    };
+    bad.unwrap_or(file.len() / 512)
 }
