@@ -4,75 +4,60 @@
 
 use drill::drill;
 use runs::print_runs;
+use told::print;
 
 mod runs;
 
-// Prints a number after a space.
-fn number(n: usize) {
-    io::write_all(1, b" ");
-    io::print_decimal(1, n as u64);
+#[derive(Drop)]
+struct Request {
+    seed: u32,
+    routers: usize,
+    length: usize,
 }
 
-// The number that two bytes hold, the least first.
+// A number of 16 bits.
 fn word(low: u8, high: u8) -> usize {
-    (low as usize) + 256 * (high as usize)
+    usize::from(u16::from_le_bytes([low, high]))
 }
 
-// The seed that four bytes hold, the least first.
-fn seed_of(a: u8, b: u8, c: u8, d: u8) -> u32 {
-    (a as u32) + 256 * (b as u32) + 65536 * (c as u32) + 16777216 * (d as u32)
-}
-
-// Prints the numbers of a request.
-fn print_request(seed: u32, routers: usize, length: usize) {
-    io::write_all(1, b"drill");
-    number(seed as usize);
-    number(routers);
-    number(length);
-}
-
-// Prints what 1,100 bytes hold. (As a parameter they have this length, whatever part of them was lent.)
-fn print_left(bytes: &[u8; 1100]) {
-    io::write_all(1, b" left");
-    print_runs(bytes);
-    io::write_all(1, b"\n");
+// The next request, unless the input ends.
+fn next_request() -> Option<Request> {
+    let mut bytes = [0u8; 8];
+    if io::read_full(0, &mut bytes) < 8 {
+        return None;
+    }
+    Some(Request {
+        seed: u32::from_le_bytes([bytes[0], bytes[1], bytes[2], bytes[3]]),
+        routers: word(bytes[4], bytes[5]),
+        length: word(bytes[6], bytes[7]),
+    })
 }
 
 // Prints the line of a request: what is answered for a buffer of so many bytes, and what 1,100 bytes hold after the call, of which
 // the buffer is the first part. Each of them is 7 before it.
-fn print_drill(seed: u32, routers: usize, length: usize) {
+fn print_drill(request: &Request) {
+    let Request {
+        seed,
+        routers,
+        length,
+    } = *request;
     if 1100 < length {
         return;
     }
-    print_request(seed, routers, length);
+    print(format_args!("drill {seed} {routers} {length}"));
     let mut bytes = [7u8; 1100];
     let count = drill(seed, routers, &mut bytes[..length]);
-    io::write_all(1, b" written");
-    number(count);
-    print_left(&bytes);
-}
-
-// Reads the next request and prints its line; says whether there was one.
-fn run_request() -> bool {
-    let mut request = [0u8; 8];
-    let read = io::read_full(0, &mut request);
-    if read < 8 {
-        return false;
-    }
-    let seed = seed_of(request[0], request[1], request[2], request[3]);
-    let routers = word(request[4], request[5]);
-    let length = word(request[6], request[7]);
-    print_drill(seed, routers, length);
-    true
+    print(format_args!(" written {count} left"));
+    print_runs(&bytes);
+    print("\n");
 }
 
 // Runs the requests, at most a thousand.
 fn main() {
-    let mut k: usize = 0;
-    while k < 1000 {
-        if !run_request() {
+    for _ in 0..1000 {
+        let Some(request) = next_request() else {
             return;
-        }
-        k += 1;
+        };
+        print_drill(&request);
     }
 }
