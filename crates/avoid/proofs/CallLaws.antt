@@ -19,18 +19,8 @@ use Rattle.avoid.specs.Avoiding.{clears, clears_to, misses_to}
 use Rattle.avoid.specs.Calls.{Readable, readable, avoiding_to, avoiding_from, missing_from}
 use Rattle.avoid.specs.Laws.Calls.{to_known, from_known}
 
--- ---- the test
+-- ---- the test, and what it tells once it passes
 
-module _ (n : ℕ) (q : Protected) (cells : ℕ) where
-  pub cells_refuse : cells_fit n cells ≡ false → false ≡ readable n q cells
-  unfolding readable
-  cells_refuse f = sym (fails_left _ _ f)
-
-  pub ends_decide : {r : Bool} → cells_fit n cells ≡ true → r ≡ (ltb q.near n && ltb q.far n) → r ≡ readable n q cells
-  unfolding readable
-  ends_decide t r = r ∙ rw t
-
--- what it tells once it passes
 pub reads : (n : ℕ) (q : Protected) (area : List ℕ) → readable n q (length area) ≡ true → Readable n q area
 unfolding readable
 reads n q area t =

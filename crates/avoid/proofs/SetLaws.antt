@@ -1,26 +1,14 @@
 -- Laws of the sets: the test of the cells that were read is the test of the distances.
 -- Assumes nothing.
-use Prim.Native.Nat.{ℕ, ◌≤◌, ◌<◌}
+use Prim.Native.Nat.{ℕ, ◌<◌}
 use mathlib.Core.Path.{◌≡◌}
-use mathlib.Core.Bool.{Bool, ◌&&◌}
+use mathlib.Core.Bool.{Bool}
 use mathlib.Core.List.{List}
-use lib.Dec.{ltb}
-use borrow.Author.Tests.{lt-ltb, le-ltb}
 use Rattle.lfa.specs.Space.{Protected}
 use Rattle.metric.specs.Area.{held, cell_in}
 use Rattle.metric.proofs.Laws.Area.{cell_known}
 use Rattle.avoid.specs.Avoiding.{below_both, clears, clears_to}
 use Rattle.avoid.specs.Calls.{Readable}
-
--- ---- two tests, the second tried where the first passes
-
-pub second_tried : {own r₁ s₁ r₂ s₂ : ℕ} → own < r₁ → r₁ ≡ s₁ → r₂ ≡ s₂ → ltb own r₂ ≡ (ltb own s₁ && ltb own s₂)
-second_tried {own} {r₁} h e₁ e₂ = rw (← e₁, ← e₂, lt-ltb own r₁ h)
-
-pub first_fails : {own r₁ s₁ : ℕ} (s₂ : ℕ) → r₁ ≤ own → r₁ ≡ s₁ → ltb own r₁ ≡ (ltb own s₁ && ltb own s₂)
-first_fails {own} {r₁} s₂ h e₁ = rw (← e₁, le-ltb own r₁ h)
-
--- ---- the test by distances
 
 -- the cell of two routers that was read
 pub known : {n v : ℕ} {q : Protected} {area : List ℕ} → Readable n q area → (x t : ℕ) → x < n → t < n → v ≡ cell_in n area x t → v ≡ held n area x t
