@@ -8,9 +8,8 @@ ghost use Rattle.lfa.specs.Route.{moves_of, option_taken};
 ghost use Rattle.options.specs.Options.{move_in, delivers_by, members_of, move_by};
 
 use metric::Distance;
-use metric::read::wide;
 
-// What an option does: it delivers the packet, or takes it to the next router.
+// What an option does: it delivers the packet, or takes it to the next router. The paper names both, and `Deliver` is plainer than None.
 #[derive(Clone, Copy)]
 pub enum Move {
     Deliver,
@@ -22,26 +21,22 @@ fn delivers(ends: u64, target: &[u32; 64], x: usize) -> bool
     requires { x < 64 }
     ensures { result ≡ delivers_by ends (get_or target.now x 0) x }
 {
-    if Distance::UNREACHABLE <= target[x] {
-        return false;
-    }
-    (ends >> x) & 1 == 1
+    target[x] < Distance::UNREACHABLE && (ends >> x) & 1 == 1
 }
 
-// The member of a set with k members before it, and 0 where the set has none such.
+// The member of a set with k members before it. It is 0 where the set has none such, and no Option: the callers take k below the number of
+// members, so that they would only unwrap it.
 fn member(set: u64, k: usize) -> usize
     ensures { result ≡ get_or (members_of set) k 0 }
 {
     let mut left = k;
-    let mut r = 0;
-    while r < 64 {
+    for r in 0..64 {
         if (set >> r) & 1 == 1 {
             if left == 0 {
                 return r;
             }
             left -= 1;
         }
-        r += 1;
     }
     0
 }
@@ -50,14 +45,14 @@ fn member(set: u64, k: usize) -> usize
 fn option_taken(deliver: bool, next: u64, byte: u8) -> Move
     ensures { move_in result ≡ option_taken (moves_of deliver (members_of next)) byte }
 {
-    let steps = u64::count_ones(next) as usize;
+    let steps = next.count_ones() as usize;
     if !deliver {
         if steps == 0 {
             return Move::Deliver;
         }
-        return Move::Go(member(next, wide(byte) % steps));
+        return Move::Go(member(next, usize::from(byte) % steps));
     }
-    let number = wide(byte) % (steps + 1);
+    let number = usize::from(byte) % (steps + 1);
     if number == 0 {
         return Move::Deliver;
     }
