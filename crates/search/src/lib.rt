@@ -102,11 +102,12 @@ pub fn prefix_pair(
         count: usize::from(network.attached[prefix]),
     };
     let target = towards_prefix(&area, &slots);
+    let ends = attached_routers(&slots);
     let sought = Sought {
         ranks,
         area,
         protected: protect(links, link, end),
         target: &target,
     };
-    prefix_found(links, &sought, attached_routers(&slots))
+    prefix_found(links, &sought, ends)
 }

@@ -60,8 +60,9 @@ fn pair_of(sought: &Sought<'_>, hop: Hop, protecting: u64, endpoint: usize) -> O
         sought.target[near],
         protects,
     );
+    let rank = rank_of(sought.ranks, class);
     Ordered {
-        rank: rank_of(sought.ranks, class),
+        rank,
         distance: sought.area.distance(near, endpoint),
         pair: Pair {
             first,

@@ -26,6 +26,6 @@ returns c =
     prefix_if a.ranks.now (searchable k.routers k.links q (length a.table.now)) k.routers (hops_of k) q a.table.now ends l
     (onward_by_steps k.routers k.links k.from k.to k.out k.back q ends l) in
     let target = c.towards_prefix-target.ensures ∙ ap (λ (m : ℕ). prefix_column k.routers w.at w.own (8 * a.prefix) m a.table.now) c.from.ensures in
-    let ends = c.attached_routers.ensures ∙ ap (λ (m : ℕ). attached_set w.at (8 * a.prefix) m) c.from.ensures in
+    let ends = c.attached_routers-ends.ensures ∙ ap (λ (m : ℕ). attached_set w.at (8 * a.prefix) m) c.from.ensures in
     rw (lt-ltb _ _ c.if-prefix-ge128.false, lt-ltb _ _ c.if-link-ge128.false)
-    (c.prefix_found.ensures ∙ ap₂ (λ (q : Protected) (l : List ℕ). found q l c.attached_routers.result) c.protect.ensures target ∙ ap (found _ _) ends)
+    (c.prefix_found.ensures ∙ ap₂ (λ (q : Protected) (l : List ℕ). found q l c.attached_routers-ends.result) c.protect.ensures target ∙ ap (found _ _) ends)

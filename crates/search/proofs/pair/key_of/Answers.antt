@@ -1,5 +1,5 @@
 -- There are eight classes.
-use Rattle.std.proofs.Common.{◌<◌, get_or, arith}
+use Rattle.std.proofs.Common.{get_or}
 use Rattle.lfa.specs.Space.{has}
 use Rattle.search.proofs.EndLaws.{class_small}
 use Rattle.search.proofs.pair.key_of.Goals as goal

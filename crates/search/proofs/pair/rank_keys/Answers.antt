@@ -1,4 +1,4 @@
-use Rattle.std.proofs.Common.{◌<◌, ◌≡◌, length, ◌∙◌, length-set, arith}
+use Rattle.std.proofs.Common.{◌<◌, ◌≡◌, ◌∙◌, length-set, arith}
 use Rattle.lfa.specs.Ranks.{rank_of}
 use Rattle.search.proofs.EndLaws.{key_more}
 use Rattle.search.proofs.pair.rank_keys.Goals as goal

@@ -1,8 +1,5 @@
-use Rattle.std.proofs.Common.{◌≡◌, ap, ◌∙◌, ℕ, arith}
-use Rattle.std.proofs.Math.Option.{none}
+use Rattle.std.proofs.Common.{arith}
 use Rattle.avoid.specs.Avoiding.{asked}
-use Rattle.search.specs.Hops.{hops_in}
-use Rattle.search.specs.Choice.{first_of, pairs_tried}
 use Rattle.search.proofs.ChoiceLaws.{none_tried, hop_tried}
 use Rattle.search.proofs.pair.search.Goals as goal
 

@@ -1,5 +1,4 @@
 -- The distances to E are read first.
-use Rattle.std.proofs.Common.{sym}
 use Rattle.search.specs.Spaces.{space_for}
 use Rattle.search.proofs.space.q_space.Goals as goal
 
