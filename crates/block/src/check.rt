@@ -2,7 +2,7 @@
 ghost use Rattle.std.specs.Prelude.{◌≡◌, ◌+◌, ◌*◌, ◌≤◌, length};
 ghost use Rattle.lfa.specs.Lists.{first_failing};
 ghost use Rattle.lfa.specs.File.{block_of, check_good};
-ghost use Rattle.block.specs.First.{first_or};
+ghost use Rattle.block.specs.First.{found_in};
 
 use block_check::check_of;
 use field::word_at;
@@ -26,17 +26,15 @@ fn check_good(file: &[u8], i: usize) -> bool
     check_of(block) == word_at(block, 510)
 }
 
-// The first of n blocks whose check is wrong, or n.
-pub(crate) fn first_bad_check(file: &[u8], n: usize) -> usize
+// The first of n blocks whose check is wrong.
+pub(crate) fn first_bad_check(file: &[u8], n: usize) -> Option<usize>
     requires { 512 * n ≤ length file.now }
-    ensures { result ≡ first_or n (first_failing (check_good file.now) 0 n) }
+    ensures { found_in result ≡ first_failing (check_good file.now) 0 n }
 {
-    let mut i: usize = 0;
-    while i < n {
+    for i in 0..n {
         if !check_good(file, i) {
-            return i;
+            return Some(i);
         }
-        i += 1;
     }
-    n
+    None
 }

@@ -11,13 +11,7 @@ pub(crate) fn length_good(file: &[u8]) -> bool
     ensures { result ≡ length_good file.now }
 {
     let n = file.len();
-    if n == 0 {
-        return false;
-    }
-    if n % 512 != 0 {
-        return false;
-    }
-    n <= 6656
+    n != 0 && n % 512 == 0 && n <= 6656
 }
 
 // Whether the head's numbers of routers, links and prefixes are within the limits.

@@ -3,7 +3,7 @@ ghost use Rattle.std.specs.Prelude.{◌≡◌, ◌+◌, ◌-◌, ◌*◌, ◌≤
 ghost use Rattle.lfa.specs.Lists.{first_failing};
 ghost use Rattle.lfa.specs.File.{links_of, prefixes_of, link_blocks, prefix_blocks, blocks_needed};
 ghost use Rattle.lfa.specs.File.{block_of, later_good, entries_in, sound_block, block_good};
-ghost use Rattle.block.specs.First.{first_or};
+ghost use Rattle.block.specs.First.{found_in};
 ghost use Rattle.block.specs.Head.{label_good};
 
 use super::check::block_at;
@@ -14,13 +14,13 @@ pub(crate) fn label_good(block: &[u8], number: usize, kind: u8, entries: usize) 
     requires { 4 ≤ length block.now }
     ensures { result ≡ label_good block.now number kind entries }
 {
-    if word_at(block, 2) as usize != number {
+    if usize::from(word_at(block, 2)) != number {
         return false;
     }
     if block[0] != kind {
         return false;
     }
-    block[1] as usize == entries
+    usize::from(block[1]) == entries
 }
 
 // Whether a later block has this number, this kind and this many entries of this size, and zeros after the last entry.
@@ -37,18 +37,16 @@ fn later_good(block: &[u8], number: usize, kind: u8, entries: usize, size: usize
 
 // Blocks that hold so many links, 84 to a block.
 fn link_blocks(links: usize) -> usize
-    requires { links ≤ 65535 }
     ensures { result ≡ link_blocks links }
 {
-    (links + 83) / 84
+    links.div_ceil(84)
 }
 
 // Blocks that hold so many prefixes, 14 to a block.
 fn prefix_blocks(prefixes: usize) -> usize
-    requires { prefixes ≤ 65535 }
     ensures { result ≡ prefix_blocks prefixes }
 {
-    (prefixes + 13) / 14
+    prefixes.div_ceil(14)
 }
 
 // Blocks of a whole file, with its head.
@@ -64,20 +62,12 @@ fn entries_in(each: usize, total: usize, j: usize) -> usize
     requires { each * j ≤ 65535 }
     ensures { result ≡ entries_in each total j }
 {
-    let before = each * j;
-    if total <= before {
-        return 0;
-    }
-    let left = total - before;
-    if left < each {
-        return left;
-    }
-    each
+    each.min(total.saturating_sub(each * j))
 }
 
 // Whether later block i is as the numbers of links and prefixes want it.
 fn block_good(file: &[u8], i: usize, links: usize, prefixes: usize) -> bool
-    requires { (1 ≤ i) × (i ≤ 13) × (512 * i + 512 ≤ length file.now) × (links ≤ 65535) }
+    requires { (1 ≤ i) × (i ≤ 13) × (512 * i + 512 ≤ length file.now) }
     ensures { result ≡ sound_block links prefixes i (block_of file.now i) }
 {
     let block = block_at(file, i);
@@ -88,17 +78,20 @@ fn block_good(file: &[u8], i: usize, links: usize, prefixes: usize) -> bool
     later_good(block, i, 3, entries_in(14, prefixes, i - 1 - before), 34)
 }
 
-// The first block after the head that is not as the head wants it, or the number of blocks.
-pub(crate) fn first_bad_block(file: &[u8], blocks: usize, links: usize, prefixes: usize) -> usize
-    requires { (1 ≤ blocks) × (blocks ≤ 13) × (512 * blocks ≤ length file.now) × (links ≡ links_of file.now) × (prefixes ≡ prefixes_of file.now) × (links ≤ 65535) }
-    ensures { result ≡ first_or blocks (first_failing (block_good file.now) 1 (blocks - 1)) }
+// The first block after the head that is not as the head wants it.
+pub(crate) fn first_bad_block(
+    file: &[u8],
+    blocks: usize,
+    links: usize,
+    prefixes: usize,
+) -> Option<usize>
+    requires { (1 ≤ blocks) × (blocks ≤ 13) × (512 * blocks ≤ length file.now) × (links ≡ links_of file.now) × (prefixes ≡ prefixes_of file.now) }
+    ensures { found_in result ≡ first_failing (block_good file.now) 1 (blocks - 1) }
 {
-    let mut i: usize = 1;
-    while i < blocks {
+    for i in 1..blocks {
         if !block_good(file, i, links, prefixes) {
-            return i;
+            return Some(i);
         }
-        i += 1;
     }
-    blocks
+    None
 }

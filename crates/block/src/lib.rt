@@ -30,17 +30,16 @@ fn judge_later(file: &[u8], n: usize) -> Result<(), BlockFault>
     requires { (n ≡ blocks_in file.now) × (1 ≤ n) × (n ≤ 13) × (512 * n ≤ length file.now) }
     ensures { blocks_decided result ≡ first_row (file_returned file.now) later_rows }
 {
-    let links = word_at(file, 6) as usize;
-    let prefixes = word_at(file, 8) as usize;
+    let links = usize::from(word_at(file, 6));
+    let prefixes = usize::from(word_at(file, 8));
     let needed = blocks_needed(links, prefixes);
     if n != needed {
         return Err(BlockFault::BlockCount(needed));
     }
-    let bad = first_bad_block(file, n, links, prefixes);
-    if bad < n {
-        return Err(BlockFault::Block(bad));
+    match first_bad_block(file, n, links, prefixes) {
+        Some(i) => Err(BlockFault::Block(i)),
+        None => Ok(()),
     }
-    Ok(())
 }
 
 // Rows 1 to 5, each over the whole file before the next.
@@ -51,9 +50,8 @@ pub fn judge_blocks(file: &[u8]) -> Result<(), BlockFault>
         return Err(BlockFault::Length);
     }
     let n = file.len() / 512;
-    let bad = first_bad_check(file, n);
-    if bad < n {
-        return Err(BlockFault::Check(bad));
+    if let Some(i) = first_bad_check(file, n) {
+        return Err(BlockFault::Check(i));
     }
     if !head_good(file) {
         return Err(BlockFault::Head);

@@ -11,9 +11,9 @@ pub returns-then-not-length_good : goal.returns-then-not-length_good
 unfolding blocks_decided fault_decided
 returns-then-not-length_good c = length_decides _ (sym c.length_good.ensures ∙ c.if-not-length_good.true)
 
-pub returns-then-bad-n : goal.returns-then-bad-n
+pub returns-in-Some : goal.returns-in-Some
 unfolding blocks_decided fault_decided
-returns-then-bad-n c = check_decides _ (sym c.length_good.ensures ∙ c.if-not-length_good.false) _ c.first_bad_check-bad.ensures c.if-bad-n.true
+returns-in-Some c = check_decides _ (sym c.length_good.ensures ∙ c.if-not-length_good.false) _ c.in-Some.ensures
 
 pub head_good-requires : goal.head_good-requires
 unfolding blocks_in
@@ -24,7 +24,7 @@ head_good-requires c =
 pub returns-then-not-head_good : goal.returns-then-not-head_good
 unfolding blocks_decided fault_decided
 returns-then-not-head_good c =
-    head_decides _ (sym c.length_good.ensures ∙ c.if-not-length_good.false) _ c.first_bad_check-bad.ensures c.if-bad-n.false (sym c.head_good.ensures ∙ c.if-not-head_good.true)
+    head_decides _ (sym c.length_good.ensures ∙ c.if-not-length_good.false) c.in_default.ensures (sym c.head_good.ensures ∙ c.if-not-head_good.true)
 
 pub judge_later-requires : goal.judge_later-requires
 unfolding blocks_in
@@ -35,4 +35,4 @@ judge_later-requires c =
 pub returns : goal.returns
 returns c =
     c.judge_later.ensures
-    ∙ head_passed _ (sym c.length_good.ensures ∙ c.if-not-length_good.false) _ c.first_bad_check-bad.ensures c.if-bad-n.false (sym c.head_good.ensures ∙ c.if-not-head_good.false)
+    ∙ head_passed _ (sym c.length_good.ensures ∙ c.if-not-length_good.false) c.in_default.ensures (sym c.head_good.ensures ∙ c.if-not-head_good.false)
