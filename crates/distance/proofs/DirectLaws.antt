@@ -9,8 +9,9 @@ use mathlib.Core.List.{List, [], ◌∷◌, ◌++◌, map, map-append, append_as
 use native.Mathlib.Omega.{arith}
 use lib.Arith.{digits_lt}
 use lib.Dec.{eqb}
-use lib.ListN.{length, get_or, set, length-set}
+use lib.ListN.{length, get_or, set, replicate, length-set, length-replicate}
 use lib.Seq.{get_or-set_same, get_or-set_other}
+use Rattle.std.proofs.lemmas.List.{get_or-replicate}
 use borrow.Author.Tests.{eq-eqb, eqb-true}
 use Rattle.lfa.specs.Lists.{below, count_up}
 use Rattle.lfa.specs.Network.{Arc, arc, arcs_from}
@@ -21,7 +22,7 @@ use Rattle.metric.specs.Area.{area_cell}
 use Rattle.metric.specs.Columns.{links_in, arcs_in}
 use Rattle.metric.proofs.Laws.List.{map_below_more}
 use Rattle.metric.proofs.Laws.Columns.{arcs_in_more}
-use Rattle.distance.specs.Cells.{limit, Cells, Limited, Stored, cheapest, self_loops, Lowered, CostsCapped}
+use Rattle.distance.specs.Cells.{limit, Cells, Limited, cheapest, self_loops, Lowered, CostsCapped}
 use Rattle.distance.proofs.StoreLaws.{square_few, one_place}
 
 -- ---- one arc more
@@ -60,9 +61,12 @@ unfolding cheapest
 cheapest_limited hops few cells = record { few = few; long = cells.long; small = λ i j hi hj. omega (arith, cells.cell i j hi hj) }
 
 -- every cell is the limit
-pub cheapest_none : (n : ℕ) {before cells : List ℕ} → length before ≡ n * n → Stored (length before) (λ j. limit) before cells → Cells n (cheapest (self_loops 0)) cells
+pub cheapest_none : (n m : ℕ) {cells : List ℕ} → m ≡ n * n → cells ≡ replicate m limit → Cells n (cheapest (self_loops 0)) cells
 unfolding cheapest self_loops below count_up least
-cheapest_none n long stored = record { long = stored.long ∙ long; cell = λ i j hi hj. stored.done (i * n + j) (omega (arith, digits_lt hi hj)) }
+cheapest_none n m long is = record {
+  long = ap length is ∙ length-replicate m limit ∙ long;
+  cell = λ i j hi hj. rw is (get_or-replicate m (i * n + j) limit 0 (omega (arith, digits_lt hi hj)));
+}
 
 least_append : (k l : List ℕ) → least (k ++ l) ≡ min (least k) (least l)
 unfolding least

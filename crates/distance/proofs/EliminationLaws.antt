@@ -8,7 +8,7 @@ use native.Mathlib.Omega.{arith}
 use native.Mathlib.Nat.{zero-add}
 use native.Mathlib.Decide.{dec_lt, ℕ_discrete}
 use lib.Arith.{digits_lt}
-use lib.ListN.{length, get_or}
+use lib.ListN.{get_or}
 use Rattle.metric.specs.Area.{area_cell}
 use Rattle.distance.specs.Cells.{Limited, Stored, RowsLowered, Triangular, Above, Fallen, Eliminated, Substituted}
 
@@ -16,9 +16,6 @@ use Rattle.distance.specs.Cells.{Limited, Stored, RowsLowered, Triangular, Above
 
 pub fallen_limited : {n : ℕ} {before after : List ℕ} → Limited n before → Fallen n before after → Limited n after
 fallen_limited limited fallen = record { few = limited.few; long = fallen.long; small = λ i j hi hj. omega (arith, fallen.lower i j hi hj, limited.small i j hi hj) }
-
-fallen_none : {n : ℕ} {cells : List ℕ} → length cells ≡ n * n → Fallen n cells cells
-fallen_none long = record { long = long; lower = λ i j hi hj. omega arith; kept = λ d t h. h }
 
 -- Rows are lowered by row k. Where the weights are not below a table in which no detour is shorter, what a cell is lowered to is not
 -- either: it is a detour over router k or more.
@@ -42,9 +39,6 @@ fallen_more {n} {k} {first} {last} {weight} {before} {cells} {after} hk fallen l
         omega (arith, low.low i j (omega arith) l hi hj, fallen.kept d t h i j hi hj, fallen.kept d t h k j hk hj, above d t h i hi, t.detour i k j hi hk hj)
 
 -- ---- elimination
-
-pub eliminated_none : {n : ℕ} {cells : List ℕ} → length cells ≡ n * n → Eliminated n n cells cells
-eliminated_none long = record { fallen = fallen_none long; over = λ i k j l h hk. absurd (omega arith) }
 
 -- Router m is eliminated too. Over m no detour is shorter, since the row was lowered by row m. Over a later router k none is either: where
 -- the cell of k was lowered, it is a detour over m, and from m on the detour over k was no shorter.
@@ -83,9 +77,6 @@ pub record Copied (n : ℕ) (cells copy : List ℕ) : Type 0 where
 
 pub stored_copied : (n : ℕ) (cells : List ℕ) {old copy : List ℕ} → Stored (n * n) (λ j. get_or cells (0 + j) 0) old copy → Copied n cells copy
 stored_copied n cells stored = record { same = λ i j hi hj. stored.done (i * n + j) (digits_lt hi hj) ∙ ap (λ (x : ℕ). get_or cells x 0) (zero-add (i * n + j)) }
-
-pub substituted_none : {n : ℕ} {cells : List ℕ} → length cells ≡ n * n → Substituted n 0 cells cells
-substituted_none long = record { fallen = fallen_none long; over = λ i k j l h. absurd (omega arith) }
 
 -- The row of router m is substituted too. The rows after it are lowered by it, and it is not lowered any more.
 pub substituted_more : {n m : ℕ} {weights before cells after : List ℕ} → m < n → Copied n before weights →

@@ -1,7 +1,7 @@
 -- Rows of cells that are lowered by another row.
 -- Assumes nothing.
 use Prim.Native.Nat.{ℕ, ◌+◌, ◌*◌, ◌≤◌, ◌<◌, min}
-use mathlib.Core.Path.{◌≡◌, refl, ◌∙◌}
+use mathlib.Core.Path.{◌≡◌, ◌∙◌}
 use mathlib.Core.Logic.{◌⊎◌, inl, inr}
 use mathlib.Core.List.{List}
 use native.Mathlib.Omega.{arith}
@@ -9,8 +9,8 @@ use native.Mathlib.Decide.{dec_lt}
 use lib.ListN.{length, get_or, set, length-set}
 use lib.Seq.{get_or-set_same, get_or-set_other}
 use Rattle.metric.specs.Area.{area_cell}
-use Rattle.distance.specs.Cells.{limit, Limited, RowOf, RowReady, RowLowered, RowsLowered}
-use Rattle.distance.proofs.StoreLaws.{below, square_few}
+use Rattle.distance.specs.Cells.{RowOf, RowLowered, RowsLowered}
+use Rattle.distance.proofs.StoreLaws.{below}
 
 -- ---- one row
 
@@ -28,43 +28,24 @@ module _ {d at : ℕ} {by before : List ℕ} where
       done j l (yes s) = get_or-set_other after (at + m) (at + j) v 0 (λ p. omega arith) ∙ low.done j s
       done j l (no s) = let same : j ≡ m = omega arith in rw same (get_or-set_same after (at + m) v 0 (omega (arith, low.long)) ∙ e)
 
-  -- where d is the limit nothing falls
-  pub row_far : {n : ℕ} → RowReady n d at by before → limit ≤ d → RowLowered d at n by before before
-  row_far ready far = record { long = refl; done = λ j h. omega (arith, ready.small j h); rest = λ i h. refl }
-
 -- ---- many rows
 
-pub rows_none : {n k first : ℕ} {weight : ℕ → ℕ} {before : List ℕ} → length before ≡ n * n → RowsLowered n k first first weight before before
-rows_none long = record { long = long; low = λ i j h l. absurd (omega arith); rest = λ i j h hi hj. refl }
+module _ {n k first x at : ℕ} {weight : ℕ → ℕ} {before by cells : List ℕ} (of : RowOf n k before by) (place : at ≡ x * n) (row : x < n) (lowered : RowsLowered n k first x weight before cells) where
+  -- one row more
+  pub rows_more : {d : ℕ} {after : List ℕ} → first ≤ x → d ≡ weight x → RowLowered d at n by cells after → RowsLowered n k first (x + 1) weight before after
+  rows_more {d} {after} from e low = record {
+    long = low.long ∙ lowered.long;
+    low = λ i j f h hi hj. done i j f h hi hj (dec_lt i x);
+    rest = λ i j o hi hj. rest i j o hi hj;
+  }
+    where
+      done : (i j : ℕ) → first ≤ i → i < x + 1 → i < n → j < n → Dec (i < x) → area_cell n after i j ≡ min (area_cell n before i j) (weight i + area_cell n before k j)
+      done i j f h hi hj (yes l) = low.rest (i * n + j) (λ u s p. omega (arith, below i x n l)) ∙ lowered.low i j f l hi hj
+      done i j f h hi hj (no l) =
+          let s : i ≡ x = omega arith in
+          let here : area_cell n after x j ≡ min (area_cell n cells x j) (d + get_or by j 0) = rw place at (low.done j hj) in
+          rw s (omega (arith, lowered.rest x j (inr (omega arith)) row hj, of.same j hj))
 
-module _ {n k : ℕ} {before : List ℕ} (limited : Limited n before) (passes : k < n) where
-  pub row_inside : (k * n + n ≤ length before) × (length before ≤ 4096)
-  row_inside = omega (arith, below k n n passes, square_few n limited.few, limited.long)
-
-  module _ {first x at : ℕ} {weight : ℕ → ℕ} {by cells : List ℕ} (of : RowOf n k before by) (place : at ≡ x * n) (row : x < n) (lowered : RowsLowered n k first x weight before cells) where
-    pub row_ready : (d : ℕ) → RowReady n d at by cells
-    row_ready d = rw place (record {
-      few = limited.few;
-      inside = omega (arith, below x n n row, lowered.long);
-      small_by = λ j h. omega (arith, of.same j h, limited.small k j passes h);
-      small = λ j h. omega (arith, lowered.rest x j (inr (omega arith)) row h, limited.small x j row h);
-    })
-
-    -- one row more
-    pub rows_more : {d : ℕ} {after : List ℕ} → first ≤ x → d ≡ weight x → RowLowered d at n by cells after → RowsLowered n k first (x + 1) weight before after
-    rows_more {d} {after} from e low = record {
-      long = low.long ∙ lowered.long;
-      low = λ i j f h hi hj. done i j f h hi hj (dec_lt i x);
-      rest = λ i j o hi hj. rest i j o hi hj;
-    }
-      where
-        done : (i j : ℕ) → first ≤ i → i < x + 1 → i < n → j < n → Dec (i < x) → area_cell n after i j ≡ min (area_cell n before i j) (weight i + area_cell n before k j)
-        done i j f h hi hj (yes l) = low.rest (i * n + j) (λ u s p. omega (arith, below i x n l)) ∙ lowered.low i j f l hi hj
-        done i j f h hi hj (no l) =
-            let s : i ≡ x = omega arith in
-            let here : area_cell n after x j ≡ min (area_cell n cells x j) (d + get_or by j 0) = rw place at (low.done j hj) in
-            rw s (omega (arith, lowered.rest x j (inr (omega arith)) row hj, of.same j hj))
-
-        rest : (i j : ℕ) → (i < first) ⊎ (x + 1 ≤ i) → i < n → j < n → area_cell n after i j ≡ area_cell n before i j
-        rest i j (inl o) hi hj = low.rest (i * n + j) (λ u s p. omega (arith, below i x n (omega arith))) ∙ lowered.rest i j (inl o) hi hj
-        rest i j (inr o) hi hj = low.rest (i * n + j) (λ u s p. omega (arith, below x i n (omega arith))) ∙ lowered.rest i j (inr (omega arith)) hi hj
+      rest : (i j : ℕ) → (i < first) ⊎ (x + 1 ≤ i) → i < n → j < n → area_cell n after i j ≡ area_cell n before i j
+      rest i j (inl o) hi hj = low.rest (i * n + j) (λ u s p. omega (arith, below i x n (omega arith))) ∙ lowered.rest i j (inl o) hi hj
+      rest i j (inr o) hi hj = low.rest (i * n + j) (λ u s p. omega (arith, below x i n (omega arith))) ∙ lowered.rest i j (inr (omega arith)) hi hj

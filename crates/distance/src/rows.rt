@@ -11,7 +11,7 @@ ghost use Rattle.metric.specs.Area.{area_cell};
 ghost use Rattle.metric.specs.Columns.{arcs_in};
 ghost use Rattle.distance.specs.Cells.{Cells, Limited, Stored, RowReady, RowLowered, RowOf, RowsLowered, Eliminated, Substituted, finished};
 
-use crate::direct::{LIMIT, clear, least, lower_links, lower_self_loops};
+use crate::direct::{LIMIT, least, lower_links, lower_self_loops};
 use metric::Distance;
 use metric::columns::Links;
 
@@ -20,11 +20,7 @@ fn copy_cells(count: usize, at: usize, cells: &[u32], copy: &mut [u32])
     requires { (at + count ≤ length cells.now) × (count ≤ length copy.old) }
     ensures { Stored count (λ j. get_or cells.now (at + j) 0) copy.old copy.new }
 {
-    let mut j = 0;
-    while j < count {
-        copy[j] = cells[at + j];
-        j += 1;
-    }
+    copy[..count].copy_from_slice(&cells[at..at + count]);
 }
 
 // Lowers each cell of the row from `at` on to d plus the cell of another row. Where d is the limit nothing falls. There is no branch in
@@ -36,10 +32,8 @@ fn lower_row(n: usize, d: u32, at: usize, by: &[u32; 64], cells: &mut [u32])
     if LIMIT <= d {
         return;
     }
-    let mut j = 0;
-    while j < n {
+    for j in 0..n {
         cells[at + j] = least(d + by[j], cells[at + j]);
-        j += 1;
     }
 }
 
@@ -48,12 +42,9 @@ fn lower_earlier(n: usize, k: usize, by: &[u32; 64], cells: &mut [u32])
     requires { Limited n cells.old × (k < n) × RowOf n k cells.old by.now }
     ensures { RowsLowered n k 0 k (λ i. area_cell n cells.old i k) cells.old cells.new }
 {
-    let mut i = 0;
-    let mut at = 0;
-    while i < k {
+    for i in 0..k {
+        let at = i * n;
         lower_row(n, cells[at + k], at, by, cells);
-        at += n;
-        i += 1;
     }
 }
 
@@ -62,12 +53,9 @@ fn lower_later(n: usize, k: usize, weights: &[u32; 4096], by: &[u32; 64], cells:
     requires { Limited n cells.old × (k < n) × RowOf n k cells.old by.now }
     ensures { RowsLowered n k (k + 1) n (λ i. area_cell n weights.now i k) cells.old cells.new }
 {
-    let mut i = k + 1;
-    let mut at = i * n;
-    while i < n {
+    for i in k + 1..n {
+        let at = i * n;
         lower_row(n, weights[at + k], at, by, cells);
-        at += n;
-        i += 1;
     }
 }
 
@@ -76,10 +64,8 @@ fn eliminate(n: usize, cells: &mut [u32])
     requires { Limited n cells.old }
     ensures { Eliminated n 0 cells.old cells.new }
 {
-    let mut by = [0u32; 64];
-    let mut k = n;
-    while 0 < k {
-        k -= 1;
+    let mut by = [0; 64];
+    for k in (0..n).rev() {
         copy_cells(n, k * n, cells, &mut by);
         lower_earlier(n, k, &by, cells);
     }
@@ -90,18 +76,17 @@ fn substitute(n: usize, cells: &mut [u32])
     requires { Limited n cells.old }
     ensures { Substituted n n cells.old cells.new }
 {
-    let mut weights = [0u32; 4096];
+    let mut weights = [0; 4096];
     copy_cells(n * n, 0, cells, &mut weights);
-    let mut by = [0u32; 64];
-    let mut k = 0;
-    while k < n {
+    let mut by = [0; 64];
+    for k in 0..n {
         copy_cells(n, k * n, cells, &mut by);
         lower_later(n, k, &weights, &by, cells);
-        k += 1;
     }
 }
 
 // What a cell stands for at the end: at the limit it is unreachable.
+#[tactic(auto, unfolding(crate::specs::Cells::finished))]
 fn shown(cell: u32) -> u32
     ensures { result ≡ finished cell }
 {
@@ -116,10 +101,8 @@ fn shown(cell: u32) -> u32
 fn finish(cells: &mut [u32])
     ensures { Stored (length cells.old) (λ j. finished (get_or cells.old j 0)) cells.old cells.new }
 {
-    let mut i = 0;
-    while i < cells.len() {
-        cells[i] = shown(cells[i]);
-        i += 1;
+    for cell in cells.iter_mut() {
+        *cell = shown(*cell);
     }
 }
 
@@ -130,17 +113,9 @@ pub(crate) fn fill_cells(links: &Links, cells: &mut [u32])
         (arcs_in links.now.from links.now.to links.now.out links.now.back links.now.links) links.now.routers)) cells.new }
 {
     let n = links.routers;
-    clear(cells);
+    cells.fill(LIMIT);
     lower_self_loops(n, cells);
-    lower_links(
-        n,
-        links.links,
-        &links.from,
-        &links.to,
-        &links.out,
-        &links.back,
-        cells,
-    );
+    lower_links(links, cells);
     eliminate(n, cells);
     substitute(n, cells);
     finish(cells);

@@ -7,7 +7,7 @@ use Rattle.distance.proofs.CloseLaws.{cells_closed, cells_finished}
 use Rattle.distance.proofs.rows.fill_cells.Goals as goal
 
 pub lower_self_loops-requires : goal.lower_self_loops-requires
-lower_self_loops-requires c = (c.requires.0.few_routers, cheapest_none c.args.links.now.routers c.requires.1 c.clear.ensures)
+lower_self_loops-requires c = (c.requires.0.few_routers, cheapest_none c.args.links.now.routers _ c.requires.1 (c.fill.ensures.after (λ y is. is)))
 
 pub eliminate-requires : goal.eliminate-requires
 eliminate-requires c = cheapest_limited _ c.requires.0.few_routers c.lower_links.ensures.1
