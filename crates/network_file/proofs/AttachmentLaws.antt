@@ -13,7 +13,7 @@ use Rattle.lfa.specs.File.{Bytes, byte_at, word_at, routers_of, prefix_entry, pr
 use Rattle.lfa.specs.FileOf.{pad}
 use Rattle.lfa.proofs.Laws.Counting.{map_below_same}
 use Rattle.lfa.proofs.Laws.File.RowFacts.{prefix_facts, prefix_length}
-use Rattle.network_file.specs.Struct.{router_of, cost_of, column, stored, attached_column, slot_column, prefix_columns, prefixes_in}
+use Rattle.network_file.specs.Struct.{router_of, cost_of, column, stored, attached_column, slot_column, prefixes_in}
 use Rattle.network_file.specs.Entry.{PrefixesSound}
 use Rattle.network_file.proofs.SlotLaws.{zero_from}
 use Rattle.network_file.proofs.ColumnLaws.{column_map, column_same, column_full, stored_column, eights}
@@ -101,6 +101,6 @@ module _ (b : Bytes) (n : ℕ) (sound : PrefixesSound b n) where
 
   -- all three columns
   pub columns_filled : {attached at own : List ℕ} → attached ≡ column 128 n (λ p. attachments (prefix_entry b p)) → at ≡ column 1024 (8 * n) (λ k. router_of (slot (prefix_entry b (k / 8)) (k % 8))) →
-      own ≡ column 1024 (8 * n) (λ k. cost_of (slot (prefix_entry b (k / 8)) (k % 8))) → record { attached = attached; at = at; own = own } ≡ prefix_columns (prefixes_in b n)
-  unfolding prefix_columns
-  columns_filled a r c = rw (a, r, c, column_attached b n, column_routers, column_costs)
+      own ≡ column 1024 (8 * n) (λ k. cost_of (slot (prefix_entry b (k / 8)) (k % 8))) →
+      (attached ≡ attached_column (prefixes_in b n)) × (at ≡ slot_column router_of (prefixes_in b n)) × (own ≡ slot_column cost_of (prefixes_in b n))
+  columns_filled a r c = (a ∙ column_attached b n, r ∙ column_routers, c ∙ column_costs)

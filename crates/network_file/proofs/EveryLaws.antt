@@ -1,8 +1,9 @@
 -- Loops that test every number below n: what is known of the numbers below i becomes known of those below i + 1.
 -- Assumes nothing.
-use Prim.Native.Nat.{ℕ, ◌+◌, ◌<◌}
+use Prim.Native.Nat.{ℕ, zero, suc, ◌+◌, ◌<◌}
 use mathlib.Core.Path.{◌≡◌, refl, sym, ◌∙◌}
 use mathlib.Core.Bool.{Bool, true, false}
+use native.Mathlib.Omega.{arith}
 use native.Mathlib.Numerals.{add-one}
 use Rattle.lfa.specs.Lists.{every_below}
 use Rattle.lfa.proofs.Laws.List.{every_gives}
@@ -22,3 +23,9 @@ every_fails p n i h e = go (every_below p n) refl
     go : (b : Bool) → every_below p n ≡ b → false ≡ b
     go true q = sym e ∙ every_gives p n q i h
     go false q = refl
+
+-- tests that agree below n
+pub every_same : (p q : ℕ → Bool) (n : ℕ) → ((k : ℕ) → k < n → p k ≡ q k) → every_below p n ≡ every_below q n
+unfolding every_below
+every_same p q zero same = refl
+every_same p q (suc n) same = rw (every_same p q n (λ k h. same k (omega arith)), same n (omega arith))

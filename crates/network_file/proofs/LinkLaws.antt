@@ -4,22 +4,27 @@ use Prim.Native.Nat.{ℕ, zero, suc, ◌+◌, ◌*◌, ◌/◌, ◌%◌, ◌≤�
 use mathlib.Core.Path.{◌≡◌, refl, sym, ap, ◌∙◌}
 use mathlib.Core.Bool.{Bool, true, false, not, ◌&&◌, ◌||◌}
 use mathlib.Core.List.{List}
+use mathlib.Core.Option.{Option, none, some}
 use native.Mathlib.Omega.{arith}
 use native.Mathlib.Numerals.{add-one}
 use lib.Dec.{eqb}
 use lib.ListN.{length, get_or, set, replicate, length-set, length-replicate, get_or-replicate}
 use borrow.Author.Tests.{not-true, not-false}
-use Rattle.lfa.specs.Lists.{every_below}
+use Rattle.lfa.specs.Lists.{every_below, first_failing}
 use Rattle.lfa.specs.Network.{Link, link}
-use Rattle.lfa.specs.File.{Bytes, byte_at, word_at, part_of, ceil, link_blocks, prefix_blocks, blocks_needed, routers_of, links_of}
-use Rattle.lfa.specs.File.{link_entry, link_in, link_of, sound_link, link_good, join_same, link_new}
+use Rattle.lfa.specs.File.{Bytes, byte_at, word_at, part_of, ceil, link_blocks, prefix_blocks, blocks_needed, routers_of, links_of, prefixes_of}
+use Rattle.lfa.specs.File.{link_entry, link_in, link_of, prefix_of, network_of, link_good, join_same, link_new}
 use Rattle.lfa.proofs.Laws.Chunks.{part_element}
+use Rattle.lfa.proofs.Laws.Counting.{length_map_below, map_below_at}
+use Rattle.lfa.proofs.Laws.FirstFailing.{none_failing, all_passing, first_failing_lem, failing_first}
 use Rattle.block.specs.Judged.{Sized}
-use Rattle.network_file.specs.declared.link.LinkColumns.{LinkColumns}
-use Rattle.network_file.specs.Struct.{from_of, to_of, out_of, back_of, column, link_column, link_columns, links_in}
-use Rattle.network_file.specs.Entry.{link_place, EndsIn, EndsBelow, pair_cell}
+use Rattle.metric.specs.declared.columns.Links.{Links}
+use Rattle.network_file.specs.Laws.Struct.{struct_link}
+use Rattle.network_file.specs.Struct.{from_of, to_of, out_of, back_of, column, link_column, links_in, links_struct_of}
+use Rattle.network_file.specs.Entry.{LinksOf, FewLinks, EndsBelow, link_place, link_at, link_sound, pair_new, pair_cell}
+use Rattle.network_file.proofs.EveryLaws.{every_same}
 use Rattle.network_file.proofs.TableLaws.{mark, cell_small, cell_same}
-use Rattle.network_file.proofs.ColumnLaws.{column_map, column_cell}
+use Rattle.network_file.proofs.ColumnLaws.{column_map}
 
 -- ---- places
 
@@ -50,9 +55,10 @@ module _ (k place : ℕ) (is : place ≡ link_place k) where
   unfolding link_place
   link_there b links s right h = rw is (link_inside b s k (rw right at h))
 
-  pub link_small : k < 128 → place ≤ 6656
+  -- and so does one of few links
+  pub link_end : k ≤ 128 → place ≤ 6656
   unfolding link_place
-  link_small h = omega arith
+  link_end h = omega arith
 
   -- ---- the numbers of link k, as they stand at its place
   module _ (b : Bytes) where
@@ -83,75 +89,109 @@ pub column_links : (b : Bytes) (n : ℕ) (f : Link → ℕ) → column 128 n (λ
 unfolding link_column links_in
 column_links b n f = column_map 128 n f (link_of b)
 
--- its cell k is the number of link k
-pub cell_read : (b : Bytes) (n : ℕ) (f : Link → ℕ) (k : ℕ) → k < n → get_or (link_column f (links_in b n)) k 0 ≡ f (link_of b k)
-cell_read b n f k h = rw (← column_links b n f) (column_cell 128 n (λ j. f (link_of b j)) k h)
+-- link k, as the columns hold it
+pub link_read : (b : Bytes) (l : Links) → LinksOf b l → (k : ℕ) → k < l.links → link_at l k ≡ link_of b k
+unfolding link_at links_struct_of network_of
+link_read b l of k h =
+    let n : length (network_of b).links ≡ links_of b = length_map_below (link_of b) (links_of b) in
+    let m : k < links_of b = rw (of.same, n) at h in
+    rw of.same (struct_link (network_of b) k (rw n m) ∙ map_below_at (link_of b) (link 0 0 0 0) (links_of b) k m)
 
--- the columns of routers
-pub ends_in : (b : Bytes) (n : ℕ) (columns : LinkColumns) → columns ≡ link_columns (links_in b n) → EndsIn b n columns.from columns.to
-unfolding link_columns
-ends_in b n columns is = record { from_is = λ k h. rw is (cell_read b n from_of k h); to_is = λ k h. rw is (cell_read b n to_of k h) }
+-- ---- rows 6 and 7
 
--- ---- row 6
+-- tests that agree find the same number
+first_same : (f g : ℕ → Bool) (i n : ℕ) → ((k : ℕ) → i ≤ k → k < i + n → f k ≡ g k) → first_failing f i n ≡ first_failing g i n
+first_same f g i n same = go (first_failing f i n) refl
+  where
+    go : (o : Option ℕ) → first_failing f i n ≡ o → first_failing f i n ≡ first_failing g i n
+    go none p = p ∙ sym (all_passing g i n (λ k a h. sym (same k a h) ∙ none_failing f i n p k a h))
+    go (some k) p =
+        let r = first_failing_lem f i n k p in
+        p ∙ sym (failing_first g i n k (record {
+          from = r.from;
+          to = r.to;
+          fails = sym (same k r.from r.to) ∙ r.fails;
+          before = λ j a h. sym (same j a (omega (arith, r.to))) ∙ r.before j a h;
+        }))
 
--- the test of link k, done on its entry
-pub link_tested : (b e : Bytes) (routers k : ℕ) {r : Bool} → routers ≡ routers_of b → e ≡ link_entry b k → r ≡ sound_link routers (link_in e) → link_good b k ≡ r
-unfolding link_good link_of
-link_tested b e routers k n is q = rw (← n, ← is) (sym q)
+module _ (b : Bytes) (l : Links) (of : LinksOf b l) where
+  pub routers_read : l.routers ≡ routers_of b
+  unfolding links_struct_of network_of
+  routers_read = ap (λ (x : Links). x.routers) of.same
+
+  pub links_read : l.links ≡ links_of b
+  unfolding links_struct_of network_of
+  links_read = ap (λ (x : Links). x.links) of.same ∙ length_map_below (link_of b) (links_of b)
+
+  pub prefixes_read : l.prefixes ≡ prefixes_of b
+  unfolding links_struct_of network_of
+  prefixes_read = ap (λ (x : Links). x.prefixes) of.same ∙ length_map_below (prefix_of b) (prefixes_of b)
+
+  pub few_links : FewLinks l
+  few_links = record { few_routers = omega (arith, routers_read, of.sized.few_routers); few_links = omega (arith, links_read, of.sized.few_links) }
+
+  -- what the rows find among the columns is what they find in the file
+  pub row_6 : first_failing (link_sound l) 0 l.links ≡ first_failing (link_good b) 0 (links_of b)
+  unfolding link_sound link_good
+  row_6 = first_same _ _ 0 l.links (λ k _ h. rw (link_read b l of k (omega arith), routers_read)) ∙ ap (first_failing (link_good b) 0) links_read
+
+  pub row_7 : first_failing (pair_new l) 0 l.links ≡ first_failing (link_new b) 0 (links_of b)
+  unfolding pair_new link_new
+  row_7 = first_same (pair_new l) (link_new b) 0 l.links (λ k _ h. new_same k (omega arith)) ∙ ap (first_failing (link_new b) 0) links_read
+    where
+      new_same : (k : ℕ) → k < l.links → pair_new l k ≡ link_new b k
+      new_same k h = every_same _ _ k (λ j m. rw (link_read b l of k h, link_read b l of j (omega arith)))
 
 -- ---- row 7: the table of joined pairs
 
 -- the table after k links: true at the cell of each pair that one of them joins
-unfoldable pub joined_by : Bytes → ℕ → List Bool
-joined_by b zero = replicate 4096 false
-joined_by b (suc k) = set (joined_by b k) (pair_cell (from_of (link_of b k)) (to_of (link_of b k))) true
+unfoldable pub joined_by : Links → ℕ → List Bool
+joined_by l zero = replicate 4096 false
+joined_by l (suc k) = set (joined_by l k) (pair_cell (get_or l.from k 0) (get_or l.to k 0)) true
 
-pub joined_none : (b : Bytes) → replicate 4096 false ≡ joined_by b 0
+pub joined_none : (l : Links) → replicate 4096 false ≡ joined_by l 0
 unfolding joined_by
-joined_none b = refl
+joined_none l = refl
 
-pub joined_length : (b : Bytes) (k : ℕ) → length (joined_by b k) ≡ 4096
+pub joined_length : (l : Links) (k : ℕ) → length (joined_by l k) ≡ 4096
 unfolding joined_by
-joined_length b zero = length-replicate 4096 false
-joined_length b (suc k) = simp length-set (joined_length b k)
+joined_length l zero = length-replicate 4096 false
+joined_length l (suc k) = simp length-set (joined_length l k)
 
 -- The cell of x and y is true exactly when one of the first k links joins them. By recursion on k: link k sets the cell of its
 -- pair.
-joined_cell : (b : Bytes) (x y xy yx k : ℕ) → x < 64 → y < 64 → ((j : ℕ) → j < k → (from_of (link_of b j) < 64) × (to_of (link_of b j) < 64)) →
-    get_or (joined_by b k) (pair_cell x y) false ≡ not (every_below (λ j. not (join_same (link x y xy yx) (link_of b j))) k)
-unfolding joined_by every_below join_same link_of link_in from_of to_of
-joined_cell b x y xy yx zero hx hy ends = get_or-replicate 4096 (pair_cell x y) false false (cell_small x y hx hy)
-joined_cell b x y xy yx (suc k) hx hy ends =
-    go (from_of (link_of b k)) (to_of (link_of b k)) (ends k (omega arith)) (every_below (λ j. not (join_same (link x y xy yx) (link_of b j))) k)
-    (joined_cell b x y xy yx k hx hy (λ j h. ends j (omega arith)))
+joined_cell : (l : Links) (x y xy yx k : ℕ) → x < 64 → y < 64 → ((j : ℕ) → j < k → (get_or l.from j 0 < 64) × (get_or l.to j 0 < 64)) →
+    get_or (joined_by l k) (pair_cell x y) false ≡ not (every_below (λ j. not (join_same (link x y xy yx) (link_at l j))) k)
+unfolding joined_by every_below join_same link_at
+joined_cell l x y xy yx zero hx hy ends = get_or-replicate 4096 (pair_cell x y) false false (cell_small x y hx hy)
+joined_cell l x y xy yx (suc k) hx hy ends =
+    go (get_or l.from k 0) (get_or l.to k 0) (ends k (omega arith)) (every_below (λ j. not (join_same (link x y xy yx) (link_at l j))) k)
+    (joined_cell l x y xy yx k hx hy (λ j h. ends j (omega arith)))
   where
-    go : (a b' : ℕ) → (a < 64) × (b' < 64) → (p : Bool) → get_or (joined_by b k) (pair_cell x y) false ≡ not p →
-        get_or (set (joined_by b k) (pair_cell a b') true) (pair_cell x y) false ≡ not (p && not ((eqb x a && eqb y b') || (eqb x b' && eqb y a)))
+    go : (a b' : ℕ) → (a < 64) × (b' < 64) → (p : Bool) → get_or (joined_by l k) (pair_cell x y) false ≡ not p →
+        get_or (set (joined_by l k) (pair_cell a b') true) (pair_cell x y) false ≡ not (p && not ((eqb x a && eqb y b') || (eqb x b' && eqb y a)))
     go a b' h p e =
         rw (← cell_same x y a b' hx hy h.0 h.1)
-        (mark (joined_by b k) (pair_cell a b') (pair_cell x y) p (omega (arith, joined_length b k, cell_small a b' h.0 h.1)) e)
+        (mark (joined_by l k) (pair_cell a b') (pair_cell x y) p (omega (arith, joined_length l k, cell_small a b' h.0 h.1)) e)
 
--- What a look at the table tells of link k, where the ends of the links are below 64: the cell of its pair is true exactly when an
+-- What a look at the table tells of link k, where the routers of the links are below 64: the cell of its pair is true exactly when an
 -- earlier link joins the pair.
-module _ (b : Bytes) (from to : List ℕ) (links k : ℕ) (table : List Bool) (are : EndsIn b links from to) (ends : EndsBelow from to links) (h : k < links)
-    (filled : table ≡ joined_by b k) {cell : ℕ} (at : cell ≡ pair_cell (get_or from k 0) (get_or to k 0)) where
-  small : (j : ℕ) → j < links → (from_of (link_of b j) < 64) × (to_of (link_of b j) < 64)
-  small j l = let here = ends j l in (rw (are.from_is j l) at here.0, rw (are.to_is j l) at here.1)
-
-  seen : get_or table cell false ≡ not (link_new b k)
-  unfolding link_new link_of link_in from_of to_of out_of back_of
+module _ (l : Links) (k : ℕ) (table : List Bool) (ends : EndsBelow l) (h : k < l.links) (filled : table ≡ joined_by l k)
+    {cell : ℕ} (at : cell ≡ pair_cell (get_or l.from k 0) (get_or l.to k 0)) where
+  seen : get_or table cell false ≡ not (pair_new l k)
+  unfolding pair_new link_at
   seen =
-      let here = small k h in
-      rw (filled, at, are.from_is k h, are.to_is k h)
-      (joined_cell b (from_of (link_of b k)) (to_of (link_of b k)) (out_of (link_of b k)) (back_of (link_of b k)) k here.0 here.1 (λ j l. small j (omega arith)))
+      let here = ends k h in
+      rw (filled, at)
+      (joined_cell l (get_or l.from k 0) (get_or l.to k 0) (get_or l.out k 0) (get_or l.back k 0) k here.0 here.1 (λ j m. ends j (omega arith)))
 
-  pub not_new : get_or table cell false ≡ true → link_new b k ≡ false
+  pub not_new : get_or table cell false ≡ true → pair_new l k ≡ false
   not_new e = not-true _ (sym seen ∙ e)
 
-  pub is_new : get_or table cell false ≡ false → link_new b k ≡ true
+  pub is_new : get_or table cell false ≡ false → pair_new l k ≡ true
   is_new e = not-false _ (sym seen ∙ e)
 
   -- the cell of the pair is set
-  pub joined_more : set table cell true ≡ joined_by b (k + 1)
+  pub joined_more : set table cell true ≡ joined_by l (k + 1)
   unfolding joined_by
-  joined_more = rw (filled, at, are.from_is k h, are.to_is k h, add-one k)
+  joined_more = rw (filled, at, add-one k)

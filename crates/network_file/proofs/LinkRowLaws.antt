@@ -2,25 +2,24 @@
 -- turned down.
 -- Assumes nothing.
 use Prim.Native.Nat.{ℕ, ◌+◌, ◌≤◌, ◌<◌, min}
-use mathlib.Core.Path.{◌≡◌, sym, ap, ◌∙◌}
-use mathlib.Core.Bool.{true, not, ◌&&◌}
-use mathlib.Core.List.{List}
+use mathlib.Core.Path.{◌≡◌, refl, sym, ◌∙◌}
+use mathlib.Core.Bool.{Bool, true, false, not, ◌&&◌}
+use mathlib.Core.Logic.{◌⊎◌, inl, inr}
+use mathlib.Core.Option.{none}
 use native.Mathlib.Omega.{arith}
 use native.Mathlib.Numerals.{add-one}
 use lib.Dec.{eqb, ltb, leb}
 use lib.ListN.{get_or}
-use borrow.Author.Tests.{leb-true, le-leb, eq-eqb}
+use borrow.Author.Tests.{leb-true, le-leb, lt-leb, eq-eqb, ne_eqb}
+use Rattle.std.specs.Prelude.{◌≢◌}
 use Rattle.lfa.specs.Lists.{every_below, first_failing}
-use Rattle.lfa.specs.Network.{link}
-use Rattle.lfa.specs.File.{Bytes, routers_of, link_of, link_in, sound_link, link_good}
+use Rattle.lfa.specs.File.{sound_link}
 use Rattle.lfa.proofs.Laws.Test.{and_left, and_right, and_make, same_test}
 use Rattle.lfa.proofs.Laws.List.{every_gives}
-use Rattle.lfa.proofs.Laws.FirstFailing.{all_passing}
-use Rattle.block.specs.First.{first_or}
-use Rattle.network_file.specs.declared.link.LinkColumns.{LinkColumns}
-use Rattle.network_file.specs.Struct.{from_of, to_of, out_of, back_of, link_columns, links_in}
-use Rattle.network_file.specs.Entry.{ends_good, costs_good}
-use Rattle.network_file.proofs.LinkLaws.{cell_read}
+use Rattle.lfa.proofs.Laws.FirstFailing.{all_passing, none_failing}
+use Rattle.lfa.proofs.Laws.File.RowFacts.{link_facts}
+use Rattle.metric.specs.declared.columns.Links.{Links}
+use Rattle.network_file.specs.Entry.{FewLinks, EndsBelow, link_at, link_sound, ends_good, costs_good}
 
 -- ---- the least cost
 
@@ -32,32 +31,57 @@ both_some_lem a b =
     (λ t. le-leb 1 (min a b) (omega (arith, leb-true 1 a (and_left _ _ t), leb-true 1 b (and_right (leb 1 a) _ t))))
 
 -- One turn of the loop: the least cost of the links before k becomes that of the links up to k.
-pub least_more : (out back : List ℕ) (k least : ℕ) {here next : ℕ} → leb 1 least ≡ every_below (costs_good out back) k →
-    here ≡ min (get_or out k 0) (get_or back k 0) → next ≡ min least here → leb 1 next ≡ every_below (costs_good out back) (k + 1)
+pub least_more : (l : Links) (k least : ℕ) {here next : ℕ} → leb 1 least ≡ every_below (costs_good l) k →
+    here ≡ min (get_or l.out k 0) (get_or l.back k 0) → next ≡ min least here → leb 1 next ≡ every_below (costs_good l) (k + 1)
 unfolding every_below costs_good
-least_more out back k least inv here next =
-    rw (next, here, both_some_lem least (min (get_or out k 0) (get_or back k 0)), both_some_lem (get_or out k 0) (get_or back k 0), inv, add-one k)
+least_more l k least inv here next =
+    rw (next, here, both_some_lem least (min (get_or l.out k 0) (get_or l.back k 0)), both_some_lem (get_or l.out k 0) (get_or l.back k 0), inv, add-one k)
 
--- ---- no link is turned down
+-- ---- row 6 at a link, and at all
+
+parts : (a b c d e : Bool) → (a && b && c && d && e) ≡ ((a && b && c) && (d && e))
+parts true true true d e = refl
+parts true true false d e = refl
+parts true false c d e = refl
+parts false b c d e = refl
 
 -- the two tests of one link, of its routers and of its costs, are row 6's
-sound_made : (n a b ab ba : ℕ) → (ltb a n && ltb b n && not (eqb a b)) ≡ true → (leb 1 ab && leb 1 ba) ≡ true → sound_link n (link a b ab ba) ≡ true
-unfolding sound_link
-sound_made n a b ab ba ends costs = and_make _ _ (and_make _ _ ends (and_left _ _ costs)) (and_right (leb 1 ab) _ costs)
+sound_split : (l : Links) (k : ℕ) → link_sound l k ≡ (ends_good l k && costs_good l k)
+unfolding link_sound link_at ends_good costs_good sound_link
+sound_split l k =
+    parts (ltb (get_or l.from k 0) l.routers) (ltb (get_or l.to k 0) l.routers) (not (eqb (get_or l.from k 0) (get_or l.to k 0)))
+    (leb 1 (get_or l.out k 0)) (leb 1 (get_or l.back k 0))
+
+no_right : (p : Bool) → (p && false) ≡ false
+no_right true = refl
+no_right false = refl
+
+-- a link that one of the two tests turns down, and one that both pass
+module _ (l : Links) (k bad least : ℕ) (ends : eqb bad 0 ≡ ends_good l k) (costs : least ≡ min (get_or l.out k 0) (get_or l.back k 0)) where
+  both : link_sound l k ≡ (eqb bad 0 && leb 1 least)
+  unfolding costs_good
+  both = sound_split l k ∙ rw (ends, costs, both_some_lem (get_or l.out k 0) (get_or l.back k 0))
+
+  pub turned_down : (bad ≢ 0) ⊎ ((bad ≡ 0) × (least < 1)) → link_sound l k ≡ false
+  turned_down (inl h) = both ∙ rw (ne_eqb bad 0 h)
+  turned_down (inr (z, h)) = both ∙ rw (lt-leb 1 least h) (no_right (eqb bad 0))
+
+  pub passed : bad ≡ 0 → 1 ≤ least → link_sound l k ≡ true
+  passed h m = both ∙ rw (eq-eqb bad 0 h, le-leb 1 least m)
 
 -- Where both pass at all links, row 6 passes each link, so that the first one that it turns down is none.
-module _ (b : Bytes) (routers links : ℕ) (columns : LinkColumns) (n : routers ≡ routers_of b) (is : columns ≡ link_columns (links_in b links)) where
-  link_good_lem : (k : ℕ) → k < links → ends_good routers columns.from columns.to k ≡ true → costs_good columns.out columns.back k ≡ true → link_good b k ≡ true
-  unfolding link_good link_of link_in ends_good costs_good link_columns from_of to_of out_of back_of
-  link_good_lem k h ends costs =
-      sound_made (routers_of b) _ _ _ _
-      (rw (n, is, cell_read b links from_of k h, cell_read b links to_of k h) at ends)
-      (rw (is, cell_read b links out_of k h, cell_read b links back_of k h) at costs)
+pub none_bad : (l : Links) (bad least : ℕ) → eqb bad 0 ≡ every_below (ends_good l) l.links → leb 1 least ≡ every_below (costs_good l) l.links →
+    bad ≡ 0 → 1 ≤ least → none ≡ first_failing (link_sound l) 0 l.links
+none_bad l bad least ends costs zero some =
+    sym (all_passing (link_sound l) 0 l.links (λ k _ h.
+    sound_split l k ∙ rw (
+      every_gives _ l.links (sym ends ∙ eq-eqb bad 0 zero) k (omega arith),
+      every_gives _ l.links (sym costs ∙ le-leb 1 least some) k (omega arith),
+    )))
 
-  pub none_bad : (bad least : ℕ) → eqb bad 0 ≡ every_below (ends_good routers columns.from columns.to) links →
-      leb 1 least ≡ every_below (costs_good columns.out columns.back) links → bad ≡ 0 → 1 ≤ least → links ≡ first_or links (first_failing (link_good b) 0 links)
-  unfolding first_or
-  none_bad bad least ends costs zero some =
-      sym (ap (first_or links) (all_passing (link_good b) 0 links (λ k _ l.
-      let h : k < links = omega arith in
-      link_good_lem k h (every_gives _ links (sym ends ∙ eq-eqb bad 0 zero) k h) (every_gives _ links (sym costs ∙ le-leb 1 least some) k h))))
+-- Where row 6 turns none down, the routers are below 64.
+pub ends_below : (l : Links) → FewLinks l → none ≡ first_failing (link_sound l) 0 l.links → EndsBelow l
+unfolding link_sound link_at
+ends_below l few e k h =
+    let f = link_facts _ _ _ _ _ (none_failing (link_sound l) 0 l.links (sym e) k (omega arith) (omega arith)) in
+    (omega (arith, f.a_in, few.few_routers), omega (arith, f.b_in, few.few_routers))

@@ -1,11 +1,13 @@
 -- Rows 6 to 9, the rows of the entries: what is known when they are tried, and what they look at.
 -- Assumes nothing.
 use Rattle.std.specs.Prelude.{ℕ, ◌+◌, ◌-◌, ◌*◌, ◌/◌, ◌%◌, ◌≤◌, ◌<◌, min, ◌≡◌, Bool, true, false, not, ◌&&◌, ◌||◌, List, [], ◌∷◌, ◌++◌, map, eqb, ltb, leb, length, get_or}
-use Rattle.lfa.specs.Lists.{below}
-use Rattle.lfa.specs.File.{Bytes, word_at, links_of, prefixes_of, link_blocks, link_of, prefix_good}
+use Rattle.lfa.specs.Lists.{below, every_below}
+use Rattle.lfa.specs.Network.{Link, link}
+use Rattle.lfa.specs.File.{Bytes, word_at, links_of, link_blocks, network_of, sound_link, join_same, prefix_good}
 use Rattle.lfa.specs.Refusal.{FileRow, bad_link, parallel_link, bad_prefix, router_twice}
 use Rattle.block.specs.Judged.{Sized}
-use Rattle.network_file.specs.Struct.{from_of, to_of}
+use Rattle.metric.specs.declared.columns.Links.{Links}
+use Rattle.network_file.specs.Struct.{links_struct_of}
 
 -- the rows that speak of links, then those that speak of prefixes, which are tried after those of blocks
 unfoldable pub link_rows : List FileRow
@@ -19,11 +21,15 @@ entry_rows = link_rows ++ prefix_rows
 
 -- ---- what is known when rows 6 to 9 are tried
 
--- the numbers of links and prefixes of a file to which none of rows 1 to 5 applies
-pub record Counted (b : Bytes) (links prefixes : ℕ) : Type 0 where
+-- the links by value of a file to which none of rows 1 to 5 applies ..
+pub record LinksOf (b : Bytes) (l : Links) : Type 0 where
   pub sized : Sized b
-  pub links_right : links ≡ links_of b
-  pub prefixes_right : prefixes ≡ prefixes_of b
+  pub same : l ≡ links_struct_of (network_of b)
+
+-- .. are few
+pub record FewLinks (l : Links) : Type 0 where
+  pub few_routers : l.routers ≤ 64
+  pub few_links : l.links ≤ 128
 
 -- row 8 turns down none of the first n prefixes
 abbrev pub PrefixesSound : Bytes → ℕ → Type 0
@@ -35,21 +41,27 @@ PrefixesSound b n = (p : ℕ) → p < n → prefix_good b p ≡ true
 unfoldable pub link_place : ℕ → ℕ
 link_place k = 512 * (1 + k / 84) + 4 + 6 * (k % 84)
 
--- two columns hold the routers of the first n links ..
-pub record EndsIn (b : Bytes) (n : ℕ) (from to : List ℕ) : Type 0 where
-  pub from_is : (k : ℕ) → k < n → get_or from k 0 ≡ from_of (link_of b k)
-  pub to_is : (k : ℕ) → k < n → get_or to k 0 ≡ to_of (link_of b k)
+-- the routers of each link are below 64
+abbrev pub EndsBelow : Links → Type 0
+EndsBelow l = (k : ℕ) → k < l.links → (get_or l.from k 0 < 64) × (get_or l.to k 0 < 64)
 
--- .. and routers that are all below 64
-abbrev pub EndsBelow : (from to : List ℕ) → ℕ → Type 0
-EndsBelow from to n = (k : ℕ) → k < n → (get_or from k 0 < 64) × (get_or to k 0 < 64)
+-- link k
+unfoldable pub link_at : Links → ℕ → Link
+link_at l k = link (get_or l.from k 0) (get_or l.to k 0) (get_or l.out k 0) (get_or l.back k 0)
 
--- row 6 at link k of the columns: its routers, and its costs
-unfoldable pub ends_good : ℕ → (from to : List ℕ) → ℕ → Bool
-ends_good n from to k = ltb (get_or from k 0) n && ltb (get_or to k 0) n && not (eqb (get_or from k 0) (get_or to k 0))
+-- rows 6 and 7 at link k
+unfoldable pub link_sound : Links → ℕ → Bool
+link_sound l k = sound_link l.routers (link_at l k)
 
-unfoldable pub costs_good : (out back : List ℕ) → ℕ → Bool
-costs_good out back k = leb 1 (get_or out k 0) && leb 1 (get_or back k 0)
+unfoldable pub pair_new : Links → ℕ → Bool
+pair_new l k = every_below (λ j. not (join_same (link_at l k) (link_at l j))) k
+
+-- the two parts of row 6, of which each has a loop of its own: the routers, and the costs
+unfoldable pub ends_good : Links → ℕ → Bool
+ends_good l k = ltb (get_or l.from k 0) l.routers && ltb (get_or l.to k 0) l.routers && not (eqb (get_or l.from k 0) (get_or l.to k 0))
+
+unfoldable pub costs_good : Links → ℕ → Bool
+costs_good l k = leb 1 (get_or l.out k 0) && leb 1 (get_or l.back k 0)
 
 -- the cell of two routers in a table of 64 rows and columns: the lower router's row, the other's column
 unfoldable pub pair_cell : ℕ → ℕ → ℕ

@@ -8,8 +8,6 @@ use Rattle.lfa.specs.File.{Bytes, link_of, prefix_of}
 use Rattle.lfa.specs.FileOf.{pad}
 use Rattle.network_file.specs.declared.network.Network.{Network}
 use Rattle.metric.specs.declared.columns.Links.{Links}
-use Rattle.network_file.specs.declared.link.LinkColumns.{LinkColumns}
-use Rattle.network_file.specs.declared.prefix.PrefixColumns.{PrefixColumns}
 
 -- ---- one number of a link or of an attachment
 
@@ -55,13 +53,6 @@ unfoldable pub attached_column : List Target → List ℕ
 attached_column prefixes = pad 128 (map length prefixes)
 
 -- ---- structs
-
-unfoldable pub link_columns : List Link → LinkColumns
-link_columns links =
-    record { from = link_column from_of links; to = link_column to_of links; out = link_column out_of links; back = link_column back_of links }
-
-unfoldable pub prefix_columns : List Target → PrefixColumns
-prefix_columns prefixes = record { attached = attached_column prefixes; at = slot_column router_of prefixes; own = slot_column cost_of prefixes }
 
 -- the counts and the links of a network, by value
 unfoldable pub links_struct_of : lfa.Network → Links

@@ -12,11 +12,11 @@ ghost use Rattle.network_file.specs.Struct.{struct_of, links_struct_of};
 ghost use Rattle.network_file.specs.Load.{fault_row, answer_of, verdict_decided};
 
 use block::{BlockFault, judge_blocks};
-use entry::{judge_links, judge_prefixes, network_of};
-use field::word_at;
+use entry::{judge_links, judge_prefixes};
 use link::fill_links;
 use metric::columns::Links;
 use network::Network;
+use prefix::network_of;
 
 mod entry;
 mod link;
@@ -60,25 +60,10 @@ fn load_entries(file: &[u8]) -> Result<Links, Fault>
     ensures row { verdict_decided result ≡ file_refusal file.now }
     ensures links { IfOk result (λ links. links ≡ links_struct_of (network_of file.now)) }
 {
-    let routers = file[4] as usize;
-    let links = word_at(file, 6) as usize;
-    let prefixes = word_at(file, 8) as usize;
-    let ends = fill_links(file, links);
-    judge_links(file, routers, links, ends)?;
-    judge_prefixes(file)?;
-    let from = ends.from;
-    let to = ends.to;
-    let out = ends.out;
-    let back = ends.back;
-    Ok(Links {
-        routers,
-        links,
-        prefixes,
-        from,
-        to,
-        out,
-        back,
-    })
+    let links = fill_links(file);
+    judge_links(&links)?;
+    judge_prefixes(file, &links)?;
+    Ok(links)
 }
 
 // Judges a file by all its rows and hands over its links. Rows 6 to 9 are tried only where rows 1 to 5 pass.

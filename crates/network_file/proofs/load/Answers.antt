@@ -16,7 +16,7 @@ pub network_of-requires : goal.network_of-requires
 unfolding verdict_decided
 network_of-requires c =
     let e = c.in_ok-links.ensures.row in
-    (accepted_sized _ e, c.in_ok-links.ensures.links, accepted_prefixes _ e)
+    (record { sized = accepted_sized _ e; same = c.in_ok-links.ensures.links }, accepted_prefixes _ e)
 
 pub returns-clause-answer : goal.returns-clause-answer
 unfolding answer_of

@@ -1,29 +1,20 @@
 -- `judge_links` answers with the first of rows 6 and 7 that applies.
-use Rattle.std.proofs.Common.{arith}
 use Rattle.network_file.specs.Load.{fault_row, verdict_decided}
-use Rattle.network_file.proofs.LinkLaws.{ends_in}
-use Rattle.network_file.proofs.EntryLaws.{ends_below, bad_link_decides, parallel_decides, no_link_decides}
+use Rattle.network_file.proofs.LinkRowLaws.{ends_below}
+use Rattle.network_file.proofs.EntryLaws.{bad_link_decides, parallel_decides, no_link_decides}
 use Rattle.network_file.proofs.entry.judge_links.Goals as goal
 
-pub returns-then-bad-links : goal.returns-then-bad-links
+pub returns-in-Some : goal.returns-in-Some
 unfolding verdict_decided fault_row
-returns-then-bad-links c = bad_link_decides _ _ c.requires.2 _ c.bad_link-bad.ensures c.if-bad-links.true
+returns-in-Some c = λ b of. bad_link_decides b _ of c.in-Some.ensures
 
-pub parallel_link-parallel-requires : goal.parallel_link-parallel-requires
-parallel_link-parallel-requires c =
-    let pre = c.requires in
-    (omega (arith, pre.2, pre.0.few_links), ends_below _ _ pre.2 _ c.bad_link-bad.ensures c.if-bad-links.false pre.0 _ _ (ends_in _ _ _ pre.3))
+pub parallel_link-requires : goal.parallel_link-requires
+parallel_link-requires c = (c.requires, ends_below _ c.requires c.in_default.ensures)
 
-pub returns-then-parallel-links : goal.returns-then-parallel-links
+pub returns-in-Some-parallel_link : goal.returns-in-Some-parallel_link
 unfolding verdict_decided fault_row
-returns-then-parallel-links c =
-    let pre = c.requires in
-    parallel_decides _ _ pre.2 _ c.bad_link-bad.ensures c.if-bad-links.false
-    _ (c.parallel_link-parallel.ensures _ (ends_in _ _ _ pre.3)) c.if-parallel-links.true
+returns-in-Some-parallel_link c = λ b of. parallel_decides b _ of c.in_default.ensures c.in-Some-parallel_link.ensures
 
 pub returns : goal.returns
 unfolding verdict_decided
-returns c =
-    let pre = c.requires in
-    no_link_decides _ _ pre.2 _ c.bad_link-bad.ensures c.if-bad-links.false
-    _ (c.parallel_link-parallel.ensures _ (ends_in _ _ _ pre.3)) c.if-parallel-links.false
+returns c = λ b of. no_link_decides b _ of c.in_default.ensures c.in_default-parallel_link.ensures
