@@ -5,9 +5,8 @@ use mathlib.Core.Path.{◌≡◌, refl, sym, ap, ap₂, ◌∙◌}
 use mathlib.Core.Option.{Option, none}
 use mathlib.Core.List.{List, [], ◌∷◌, ◌++◌, map, map-append, append-nil}
 use lib.ListN.{get_or}
-use lib.Bits.{bit_and, and_mask, and_le_r}
+use lib.Bits.{bit_and, and_mask}
 use lib.Dec.{eqb}
-use native.Mathlib.Omega.{arith}
 use Rattle.lfa.specs.Lists.{count_up, below, flat}
 use Rattle.lfa.specs.Space.{Protected, FirstHop, has}
 use Rattle.order.specs.declared.Ordered.{Ordered}
@@ -31,10 +30,6 @@ first_append found (o ∷ l) m = first_append (earlier_of found o) l m
 pub bit_read : (set y : ℕ) → eqb (bit_and (set / 2 ^ y) 1) 1 ≡ has set y
 unfolding has
 bit_read set y = ap (λ (k : ℕ). eqb k 1) (and_mask (set / 2 ^ y) 1)
-
--- no router of the empty set is a member of another one too
-pub none_common : (set other : ℕ) → other ≡ 0 → 0 ≡ bit_and set other
-none_common set other e = omega (arith, and_le_r set other)
 
 -- the pairs of one first hop more of a column
 module _ (ranks : List ℕ) (n : ℕ) (q : Protected) (area column : List ℕ) (kept : Onward) (from to out back arcs : List ℕ) where

@@ -40,6 +40,7 @@ pub enum Found {
 }
 
 // One of the three spaces, as the set of its routers: router r is the bit of weight 2 to the power r.
+#[tactic(auto, unfolding(crate::specs::Calls::space_by, crate::specs::Calls::space_if))]
 pub fn space_in(which: Which, links: &Links, link: usize, end: usize, table: &[u32]) -> u64
     ensures { result ≡ space_by (space_named which) links.now link end table.now }
 {
@@ -54,6 +55,7 @@ pub fn space_in(which: Which, links: &Links, link: usize, end: usize, table: &[u
 }
 
 // The pair that repairs a link: around it, to its far router.
+#[tactic(auto, unfolding(crate::specs::Calls::link_by, crate::specs::Calls::link_if))]
 pub fn link_pair(
     links: &Links,
     ranks: &[u8],
@@ -74,6 +76,7 @@ pub fn link_pair(
 }
 
 // The pair that repairs the traffic to a prefix, where it may cross the link. A walk towards the prefix ends at an attached router.
+#[tactic(auto, unfolding(crate::specs::Calls::prefix_by, crate::specs::Calls::prefix_if))]
 pub fn prefix_pair(
     network: &Network,
     ranks: &[u8],

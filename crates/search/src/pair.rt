@@ -36,6 +36,7 @@ pub(crate) struct Sought<'a> {
 }
 
 // Whether router y is in the set.
+#[tactic(auto, using(crate::proofs::ChoiceLaws::bit_read))]
 fn has(set: u64, y: usize) -> bool
     requires { y < 64 }
     ensures { result ≡ has set y }
@@ -45,6 +46,7 @@ fn has(set: u64, y: usize) -> bool
 
 // The pair of a first hop and an endpoint, where the set `protecting` holds the endpoints that make it node-protecting. Its first key is
 // the rank of its class.
+#[tactic(auto, unfolding(crate::specs::Choice::ordered_at))]
 fn pair_of(sought: &Sought<'_>, hop: Hop, protecting: u64, endpoint: usize) -> Ordered
     requires { (sought.now.protected.near < 64) × (endpoint < 64) }
     ensures { result ≡ ordered_at sought.now.ranks.now sought.now.area.n sought.now.area.cells.now sought.now.protected.near sought.now.target.now
@@ -85,6 +87,7 @@ fn may_end(set: u64, near: usize, far: usize, y: usize) -> bool
 const BY_RANK: u64 = 4294967296;
 
 // The part of an endpoint's key that its class gives, for each of the eight classes.
+#[tactic(auto, using(crate::proofs::EndLaws::key_more))]
 fn rank_keys(ranks: &[u8]) -> [u64; 8]
     ensures { KeysOf ranks.now result }
 {
@@ -135,6 +138,7 @@ fn first_end(
 }
 
 // The earliest of what was found and the pairs of one first hop with an endpoint in the set. Only the earliest of these pairs is made.
+#[tactic(auto, using(crate::proofs::EndLaws::keys_fit, crate::proofs::Laws::First::first_nothing, crate::proofs::Laws::First::first_one))]
 fn over_hop(
     keys: &[u64; 8],
     sought: &Sought<'_>,
@@ -166,6 +170,7 @@ fn protecting_from(area: &Area<'_>, far: usize, missing: u64, first: usize) -> u
 
 // The earliest of the pairs of the first hops with an endpoint in the set `kept.avoiding` that the first hop avoids the link on the way to,
 // as the first hop's set tells.
+#[tactic(auto, using(crate::proofs::ChoiceLaws::none_tried))]
 fn search(
     links: &Links,
     sought: &Sought<'_>,
@@ -198,6 +203,7 @@ fn search(
 
 // The first of the pairs that serve the target, `onward` telling the routers from which the second leg avoids the link, and those from
 // which it misses E. The endpoints are those of extended P from which it avoids: for the link repair, the intersection of extended P and Q.
+#[tactic(auto, using(crate::proofs::HopLaws::listed_hops), unfolding(crate::specs::Choice::first_serving, crate::specs::Spaces::space_for))]
 fn first_pair(links: &Links, sought: &Sought<'_>, onward: Onward) -> Option<Ordered>
     requires { (sought.now.area.n ≤ 64) × (sought.now.protected.near < 64) × (links.now.links ≤ 128) }
     ensures { earliest_in result ≡ first_serving sought.now.ranks.now sought.now.area.n (hops_of links.now) (asked sought.now.protected) sought.now.area.cells.now sought.now.target.now onward }
@@ -213,6 +219,7 @@ fn first_pair(links: &Links, sought: &Sought<'_>, onward: Onward) -> Option<Orde
 }
 
 // The pair that serves the target, told without what only orders it.
+#[tactic(auto, unfolding(crate::specs::Calls::pair_for))]
 fn pair_found(links: &Links, sought: &Sought<'_>, onward: Onward) -> Option<Pair>
     requires { (sought.now.area.n ≤ 64) × (sought.now.protected.near < 64) × (links.now.links ≤ 128) }
     ensures { outcome_of_pair result ≡ pair_for sought.now.ranks.now sought.now.area.n (hops_of links.now) (asked sought.now.protected) sought.now.area.cells.now sought.now.target.now onward }
@@ -222,6 +229,7 @@ fn pair_found(links: &Links, sought: &Sought<'_>, onward: Onward) -> Option<Pair
 }
 
 // What a link repair finds: its target is E, so that every second leg visits E.
+#[tactic(auto, using(crate::proofs::SpaceLaws::can_search), unfolding(crate::specs::Calls::link_if, crate::specs::Calls::link_for))]
 pub(crate) fn link_found(
     links: &Links,
     ranks: &[u8],
@@ -249,6 +257,7 @@ pub(crate) fn link_found(
 }
 
 // What a prefix repair finds, the target being the prefix, and `ends` the routers at which every walk towards it ends.
+#[tactic(auto, using(crate::proofs::SpaceLaws::can_search), unfolding(crate::specs::Calls::prefix_if, crate::specs::Calls::prefix_for))]
 pub(crate) fn prefix_found(links: &Links, sought: &Sought<'_>, ends: u64) -> Option<Found>
     ensures { outcome_in result ≡ prefix_if sought.now.ranks.now (searchable sought.now.area.n links.now.links (asked sought.now.protected) (length sought.now.area.cells.now)) sought.now.area.n
         (hops_of links.now) (asked sought.now.protected) sought.now.area.cells.now ends sought.now.target.now

@@ -7,6 +7,7 @@ use avoid::Protected;
 use metric::columns::Links;
 
 // The protected link, seen from its end.
+#[tactic(auto, unfolding(crate::specs::Hops::protected_in, lfa::specs::Space::protected_by))]
 pub(crate) fn protect(links: &Links, number: usize, end: usize) -> Protected
     requires { number < 128 }
     ensures { asked result ≡ protected_in links.now.from links.now.to links.now.out links.now.back number end }

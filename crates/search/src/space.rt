@@ -55,6 +55,7 @@ fn extended_p(links: &Links, protected: Protected, area: &Area<'_>, hops: &First
 }
 
 // Q space.
+#[tactic(auto, unfolding(crate::specs::Spaces::space_for))]
 fn q_space(protected: Protected, area: &Area<'_>) -> u64
     ensures { result ≡ space_for q_space area.now.n [] (asked protected) area.now.cells.now }
 {
@@ -63,6 +64,7 @@ fn q_space(protected: Protected, area: &Area<'_>) -> u64
 }
 
 // The space that is asked for.
+#[tactic(auto, using(crate::proofs::SpaceLaws::can_search), unfolding(crate::specs::Calls::space_if, crate::specs::Spaces::space_for))]
 pub(crate) fn space_of(which: Which, links: &Links, protected: Protected, area: &Area<'_>) -> u64
     ensures { result ≡ space_if (searchable area.now.n links.now.links (asked protected) (length area.now.cells.now)) (space_named which) area.now.n
         (hops_of links.now) (asked protected) area.now.cells.now }

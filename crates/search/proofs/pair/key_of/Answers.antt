@@ -8,6 +8,3 @@ pub bounds-keys-class : goal.bounds-keys-class
 bounds-keys-class c =
     let s = c.args.sought.now in
     rw (c.class_of-class.ensures, c.has-protects.ensures) (class_small c.args.first c.args.y (get_or s.target.now c.args.y 0) (get_or s.target.now s.protected.near 0) (has c.args.protecting c.args.y))
-
-pub returns : goal.returns
-returns c = record { sum = rw (c.from.ensures, c.distance.ensures, c.class_of-class.ensures, c.has-protects.ensures); short = rw (← c.distance.ensures) c.distance.type_inv }

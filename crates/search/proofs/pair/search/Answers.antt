@@ -1,10 +1,7 @@
 use Rattle.std.proofs.Common.{arith}
 use Rattle.avoid.specs.Avoiding.{asked}
-use Rattle.search.proofs.ChoiceLaws.{none_tried, hop_tried}
+use Rattle.search.proofs.ChoiceLaws.{hop_tried}
 use Rattle.search.proofs.pair.search.Goals as goal
-
-pub loop-i-init : goal.loop-i-init
-loop-i-init c = none_tried _ _ _ _ _ _ _ _ _ _ _
 
 pub loop-i-preserved : goal.loop-i-preserved
 loop-i-preserved c =
