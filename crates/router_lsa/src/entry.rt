@@ -35,16 +35,11 @@ fn entry_good(l: &[u8], router: u32, k: usize) -> bool
 }
 
 // Whether two links are point-to-point links to one router.
+#[tactic(auto, unfolding(ospf::specs::Lsa::same_neighbour))]
 fn both_to(kind: u8, id: u32, kind2: u8, id2: u32) -> bool
     ensures { result ≡ same_neighbour (entry id 0 kind 0 0) (entry id2 0 kind2 0 0) }
 {
-    if kind != 1 {
-        return false;
-    }
-    if kind2 != 1 {
-        return false;
-    }
-    id == id2
+    kind == 1 && kind2 == 1 && id == id2
 }
 
 // Whether links k and j are.
@@ -62,12 +57,10 @@ fn entry_new(l: &[u8], k: usize) -> bool
     requires { 36 + 12 * k ≤ length l.now }
     ensures { result ≡ entry_new l.now k }
 {
-    let mut j: usize = 0;
-    while j < k {
+    for j in 0..k {
         if same_neighbour(l, k, j) {
             return false;
         }
-        j += 1;
     }
     true
 }
@@ -77,12 +70,10 @@ pub(crate) fn entries_good(l: &[u8], router: u32, n: usize) -> bool
     requires { (24 + 12 * n ≤ length l.now) × (router ≡ router_field l.now) }
     ensures { result ≡ every_below (entry_good l.now) n }
 {
-    let mut k: usize = 0;
-    while k < n {
+    for k in 0..n {
         if !entry_good(l, router, k) {
             return false;
         }
-        k += 1;
     }
     true
 }
@@ -92,12 +83,10 @@ pub(crate) fn entries_new(l: &[u8], n: usize) -> bool
     requires { 24 + 12 * n ≤ length l.now }
     ensures { result ≡ every_below (entry_new l.now) n }
 {
-    let mut k: usize = 0;
-    while k < n {
+    for k in 0..n {
         if !entry_new(l, k) {
             return false;
         }
-        k += 1;
     }
     true
 }

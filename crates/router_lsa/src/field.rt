@@ -2,18 +2,11 @@
 ghost use Rattle.std.specs.Prelude.{◌≡◌, ◌+◌, ◌*◌};
 ghost use Rattle.ospf.specs.Lsa.{be16, be32};
 
-// A 16-bit field from its two bytes.
-fn half(high: u8, low: u8) -> u16
-    ensures { result ≡ 256 * high + low }
-{
-    256 * (high as u16) + (low as u16)
-}
-
 // A 32-bit field from its two halves.
 fn word(high: u16, low: u16) -> u32
     ensures { result ≡ 65536 * high + low }
 {
-    65536 * (high as u32) + (low as u32)
+    65536 * u32::from(high) + u32::from(low)
 }
 
 // The 16-bit field at an offset.
@@ -26,9 +19,9 @@ pub fn be16_at(s: &[u8], at: usize) -> u16
     }
     let next = at + 1;
     if n <= next {
-        return half(s[at], 0);
+        return u16::from_be_bytes([s[at], 0]);
     }
-    half(s[at], s[next])
+    u16::from_be_bytes([s[at], s[next]])
 }
 
 // The 32-bit field at an offset.

@@ -1,12 +1,6 @@
 // The LSA checksum.
-ghost use Rattle.std.specs.Prelude.{◌≡◌, length, drop, ◌≤◌, ◌<◌};
+ghost use Rattle.std.specs.Prelude.{◌≡◌, length, drop, ◌≤◌};
 ghost use Rattle.ospf.specs.Lsa.{fletcher, both_zero};
-
-fn wide(x: u8) -> u32
-    ensures { (result ≡ x) × (result < 256) }
-{
-    x as u32
-}
 
 // Whether the Fletcher sums over an LSA without its age are both 0.
 pub(crate) fn sums_zero(l: &[u8]) -> bool
@@ -15,14 +9,10 @@ pub(crate) fn sums_zero(l: &[u8]) -> bool
 {
     let mut c0: u32 = 0;
     let mut c1: u32 = 0;
-    let mut i: usize = 2;
-    while i < l.len() {
-        c0 = (c0 + wide(l[i])) % 255;
+    let summed = &l[2..];
+    for x in summed {
+        c0 = (c0 + u32::from(*x)) % 255;
         c1 = (c1 + c0) % 255;
-        i += 1;
     }
-    if c0 != 0 {
-        return false;
-    }
-    c1 == 0
+    c0 == 0 && c1 == 0
 }

@@ -6,7 +6,7 @@ ghost use Rattle.ospf.specs.Run.{scan};
 ghost use Rattle.router_lsa.specs.Scan.{scanned};
 
 use field::be32_at;
-use scan::lsa_good;
+use scan::{Hand, lsa_good};
 
 mod entry;
 pub mod field;
@@ -14,32 +14,30 @@ mod fletcher;
 mod lsa;
 mod scan;
 
-// What a run is: its first bad LSA, or how many LSAs it is.
-#[derive(Clone, Copy)]
-pub enum Run {
-    Bad(usize),
-    Whole(usize),
-}
+// The number of the first bad LSA of a run.
+#[derive(Clone, Copy, PartialEq, Eq, Debug)]
+pub struct Bad(pub usize);
 
-// Goes over a run. `ids` holds the identifiers of the first 64 LSAs, and `start` is where the LSAs begin that are not among them.
-pub fn scan_run(run: &[u8]) -> Run
+// Goes over a run, and tells how many LSAs it is.
+pub fn scan_run(run: &[u8]) -> Result<usize, Bad>
     ensures { scanned result ≡ scan run.now }
 {
-    let mut ids = [0u32; 64];
-    let mut start: usize = 0;
+    let mut hand = Hand {
+        ids: [0u32; 64],
+        start: 0,
+    };
     let mut i: usize = 0;
     let mut at: usize = 0;
     while at < run.len() {
-        let next = lsa_good(run, at, i, &ids, start);
-        if next == at {
-            return Run::Bad(i);
-        }
+        let Some(next) = lsa_good(run, at, i, &hand) else {
+            return Err(Bad(i));
+        };
         if i < 64 {
-            ids[i] = be32_at(run, at + 4);
-            start = next;
+            hand.ids[i] = be32_at(run, at + 4);
+            hand.start = next;
         }
         at = next;
         i += 1;
     }
-    Run::Whole(i)
+    Ok(i)
 }

@@ -11,7 +11,7 @@ pub(crate) fn sound_lsa(l: &[u8]) -> bool
     requires { (24 ≤ length l.now) × (length_field l.now ≡ length l.now) }
     ensures { result ≡ sound_lsa l.now }
 {
-    let links = be16_at(l, 22) as usize;
+    let links = usize::from(be16_at(l, 22));
     if l.len() != 24 + 12 * links {
         return false;
     }
