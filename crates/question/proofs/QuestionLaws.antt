@@ -1,162 +1,123 @@
 -- The rows before 14 in one place: what the file part refuses is refused early, and where it refuses nothing, the counts of the network
 -- that it hands over decide the rows of the question.
 -- Assumes nothing.
-use Prim.Native.Nat.{ℕ, ◌*◌, ◌%◌, ◌≤◌, ◌<◌}
-use mathlib.Core.Path.{◌≡◌, refl, sym, ap, ◌∙◌, subst}
-use mathlib.Core.Logic.{inl}
-use mathlib.Core.Bool.{Bool, true, false, true≢false}
-use mathlib.Core.Option.{Option, none, some}
-use mathlib.Core.List.{List}
-use native.Mathlib.Omega.{arith}
-use lib.ListN.{length}
-use Rattle.lfa.specs.Lists.{unless, select}
+use Rattle.std.proofs.Common.{◌≡◌, ℕ, ◌*◌, ◌%◌, ◌≤◌, Bool, List, length, refl, sym, ap, ◌∙◌, subst, arith}
+use Rattle.std.proofs.lemmas.Bool.{false≢true}
+use Rattle.std.proofs.Math.Option.{Option, none, some}
+use Rattle.std.specs.Prelude.{Result, Ok, Err, ⊤, IsErr, IsErrAnd}
+use Rattle.lfa.specs.Lists.{select}
 use Rattle.lfa.specs.Network as lfa
 use Rattle.lfa.specs.Distance.{holds_distances, filled}
-use Rattle.lfa.specs.Space.{Space}
-use Rattle.lfa.specs.File.{Bytes, byte_at, routers_of, links_of, prefixes_of, network_of}
-use Rattle.lfa.specs.Question.{Question, some_cells, a_table, has_input, HasInput, network_asked}
-use Rattle.lfa.specs.Refusal.{EarlyRow, short_area, wrong_table, short_buffer, bad_ranks, no_such_link, no_such_prefix, Row, entry_of, early_rows, tries, tries_early, Decided, first_row, in_early, sized_returned, Accepted, Posed}
-use Rattle.lfa.specs.Answer.{Answer, refusal, early_answer, network_loaded}
-use Rattle.lfa.proofs.Laws.Turned.{load_early, loaded_early, answer_posed}
+use Rattle.lfa.specs.File.{Bytes, routers_of, links_of, prefixes_of, network_of}
+use Rattle.lfa.specs.Question.{Question, loading, some_cells, HasInput, network_asked}
+use Rattle.lfa.specs.Refusal.{Row, early_rows, tries_early, Decided, first_row, in_file, in_early, sized_returned, Accepted, Posed}
+use Rattle.lfa.specs.Answer.{Answer, accepted, refusal, early_answer, answer_to, network_loaded}
+use Rattle.lfa.proofs.Laws.Turned.{load_answer, load_answer_lem, load_early, loaded_early, answer_posed}
+use Rattle.lfa.proofs.Laws.FileRows.{accepted_passes_rows}
 use Rattle.lfa.proofs.Laws.Accepted.{accepted_loaded}
-use Rattle.lfa.proofs.Laws.Rows.{alike_decides}
 use Rattle.network_file.specs.declared.Fault.{Fault}
-use Rattle.network_file.specs.declared.Verdict.{Verdict}
-use Rattle.network_file.specs.declared.Verdict.TheVariants as verdict
+use Rattle.network_file.specs.declared.network.Network.{Network}
 use Rattle.network_file.specs.Load.{fault_row, fault_of, answer_of}
-use Rattle.metric.specs.declared.columns.Links.{Links}
-use Rattle.network_file.specs.declared.network.Network as struct
 use Rattle.network_file.specs.Struct.{struct_of, links_struct_of, link_part}
+use Rattle.metric.specs.declared.columns.Links.{Links}
 use Rattle.table.specs.Calls.{table_holds}
 use Rattle.table.specs.Laws.Calls.{holds_is}
 use Rattle.distance.specs.Calls.{area_filled}
 use Rattle.distance.specs.Laws.Calls.{filled_columns}
+use Rattle.rows.specs.declared.Cells.{Cells}
 use Rattle.rows.specs.declared.Row as enum
-use Rattle.rows.specs.declared.Call as rows
-use Rattle.rows.specs.Rows.{call_of, row_decided}
-use Rattle.rows.specs.Laws.{has_no_table}
-use Rattle.question.specs.Turning.{row_of, turned_row, turned_answer, area_posed, IsLoaded, Counts, Columns, TableJudged, Judges}
+use Rattle.rows.specs.Rows.{right_in, row_decided}
+use Rattle.question.specs.Turning.{row_of, turned_row, turned_answer, area_posed, links_posed, TableJudged}
 use Rattle.question.specs.declared.Refusal.{Refusal}
-use Rattle.question.specs.declared.Refusal.TheVariants.{File}
-use Rattle.question.specs.declared.Turned.{Turned}
-use Rattle.question.specs.declared.Turned.TheVariants.{Refused, Ready}
 use Rattle.question.specs.Taken.{Taken}
-use Rattle.question.specs.Laws.Loaded.{taken, taken_posed, limits, columns_within, network_columns, routers_same, routers_are, links_are, prefixes_are}
+use Rattle.question.specs.Laws.Loaded.{limits, columns_within, network_columns, routers_same, routers_are, links_are, prefixes_are}
 
--- a call that has none does not try row 18, so that any judgement will do
-by_table : (q : Question) → Accepted q.file → (right : Bool) → TableJudged q right → (n l p : ℕ) →
-    first_row (sized_returned n l p right q) (select (tries_early q.call) early_rows) ≡ first_row (sized_returned n l p (holds_distances (network_asked q) q.table) q) (select (tries_early q.call) early_rows)
-unfolding sized_returned tries entry_of
-by_table q a right judged n l p = alike_decides _ _ (tries_early q.call) (tries_early q.call) early_rows (λ r m. inl (refl, same r))
-  where
-    same : (r : EarlyRow) → tries_early q.call r ≡ true → sized_returned n l p right q r ≡ sized_returned n l p (holds_distances (network_asked q) q.table) q r
-    same short_area h = refl
-    same wrong_table h = ap (λ (b : Bool). unless b 0) (judged a h)
-    same short_buffer h = refl
-    same bad_ranks h = refl
-    same no_such_link h = refl
-    same no_such_prefix h = refl
+-- ---- refusals that are handed on
 
--- no table is lent with a work area
-pub no_table : (call : rows.Call) (s : Space) {right told : Bool} → has_input (call_of call false s) a_table ≡ true → right ≡ told
-no_table call s has = absurd (true≢false (sym has ∙ has_no_table call s))
+-- a row as a refusal
+pub row_gone : {T : Type 0} (row : enum.Row) (o : Result T Refusal) → IsErrAnd o (λ x. some (row_of x) ≡ in_early (row_decided (Err row))) → turned_row o ≡ in_early (row_decided (Err row))
+unfolding turned_row
+row_gone row (Err x) e = e
+row_gone row (Ok held) e = absurd e
 
--- what was loaded, as counts and columns
-pub own_counts : (links : Links) → Counts links links.routers links.links links.prefixes
-own_counts links = record { routers_are = refl; links_are = refl; prefixes_are = refl }
+-- a refusal as it is
+pub refusal_gone : {T : Type 0} (U : Type 0) (x : Refusal) (o : Result T Refusal) {a : Option Answer} → IsErrAnd o (λ y. y ≡ x) → turned_answer {T = U} (Err x) ≡ a → turned_answer o ≡ a
+unfolding turned_answer turned_row
+refusal_gone U x (Err y) e h = ap (λ (z : Refusal). some (refusal (row_of z))) e ∙ h
+refusal_gone U x (Ok held) e h = absurd e
 
-pub own_columns : (links : Links) → Columns links links.from links.to links.out links.back
-own_columns links = record { from_is = refl; to_is = refl; out_is = refl; back_is = refl }
+-- what the file part refuses is refused early
+pub fault_early : {T : Type 0} (L : Type 0) (q : Question) (f : Fault) (o : Result T Refusal) → IsErrAnd o (λ x. row_of x ≡ in_file (fault_row f)) → answer_of {T = L} (Err f) ≡ answer_to (loading q.file) → turned_answer o ≡ early_answer q
+unfolding answer_of fault_of turned_answer turned_row
+fault_early L q f (Err x) e told = ap (λ (d : Decided Row). some (refusal d)) e ∙ load_early q (fault_row f) (sym told)
+fault_early L q f (Ok held) e told = absurd e
+
+-- the area that a refused question leaves
+pub area_gone : {T : Type 0} (o : Result T Refusal) → IsErr o → (net : lfa.Network) (area : List ℕ) → area ≡ area_posed o net area
+unfolding area_posed
+area_gone (Err x) e net area = refl
+area_gone (Ok held) e net area = absurd (false≢true e)
+
+pub area_left : {T : Type 0} (U : Type 0) (x : Refusal) (o : Result T Refusal) → IsErr o → (net : lfa.Network) (area after : List ℕ) → after ≡ area_posed {T = U} (Err x) net area → after ≡ area_posed o net area
+unfolding area_posed
+area_left U x (Err y) e net area after h = h
+area_left U x (Ok held) e net area after h = absurd (false≢true e)
+
+-- and the same where it was handed the whole network
+pub network_gone : (P : Refusal → Type 0) (o : Result Network Refusal) → IsErrAnd o P → IsErrAnd (links_posed o) P
+network_gone P (Err x) e = e
+network_gone P (Ok network) e = absurd e
+
+pub network_refused : (o : Result Network Refusal) → IsErr o → IsErr (links_posed o)
+network_refused (Err x) e = e
+network_refused (Ok network) e = e
 
 -- the links of a network by value
-pub part_is : {network : struct.Network} (net : lfa.Network) → network ≡ struct_of net → link_part network ≡ links_struct_of net
-unfolding struct_of links_struct_of
+pub part_is : {network : Network} (net : lfa.Network) → network ≡ struct_of net → network.links ≡ links_struct_of net
+unfolding struct_of
 part_is net e = ap link_part e
 
--- The check's answer, by the counts and columns of the links, is about the network of an accepted file.
-pub checked : {b : Bytes} {links : Links} (table : List ℕ) {r : Bool} → links ≡ links_struct_of (network_loaded b) → {n l p : ℕ} → Counts links n l p → {from to out back : List ℕ} → Columns links from to out back →
-    r ≡ table_holds n l from to out back table → Accepted b → r ≡ holds_distances (network_of b) table
-checked {b} {links} table {r} e counts columns tested a = held ∙ holds_is (limits t) (network_columns t) table
-  where
-    t : Taken b links
-    t = record { is_accepted = a; links_is = e ∙ ap links_struct_of (accepted_loaded b a) }
+-- ---- an accepted file
 
-    held : r ≡ table_holds links.routers links.links links.from links.to links.out links.back table
-    held = rw (counts.routers_are, counts.links_are, columns.from_is, columns.to_is, columns.out_is, columns.back_is) at tested
+accepted_answer : (b : Bytes) → Accepted b → answer_to (loading b) ≡ accepted
+unfolding load_answer
+accepted_answer b a = load_answer_lem b ∙ ap load_answer (accepted_passes_rows b a)
 
--- ---- the rows
+-- The check's answer is about the network of the file.
+pub checked : {b : Bytes} {links : Links} (t : Taken b links) (table : List ℕ) {r : Bool} → r ≡ table_holds links.routers links.links links.from links.to links.out links.back table → r ≡ holds_distances (network_of b) table
+checked t table tested = tested ∙ holds_is (limits t) (network_columns t) table
 
--- a question that is not refused is ready
-pub not_turned : (t : Turned) → ((x : Refusal) → t ≡ Refused x → ⊥) → t ≡ Ready
-not_turned (Refused x) f = absurd (f x refl)
-not_turned Ready f = refl
-
--- a verdict that refuses nothing accepts
-pub not_refused : (v : Verdict) → ((x : Fault) → v ≡ verdict.Refused x → ⊥) → v ≡ verdict.Accepted
-not_refused (verdict.Refused x) f = absurd (f x refl)
-not_refused verdict.Accepted f = refl
-
-module _ (q : Question) (told : Verdict) (links : Links) (is : IsLoaded q.file told links) where
-  -- a refusal of the file
-  pub fault_early : (f : Fault) → told ≡ verdict.Refused f → turned_answer (Refused (File f)) ≡ early_answer q
-  unfolding answer_of fault_of turned_answer turned_row row_of
-  fault_early f v = load_early q (fault_row f) (sym is.verdict_is ∙ ap answer_of v)
-
-  -- where it is accepted
-  pub took : told ≡ verdict.Accepted → Taken q.file links
-  unfolding byte_at
-  took v = taken q.file is.verdict_is is.links_is is.bytes v
-
-  -- The rows of the question, by the counts of the network: the file part has accepted the file, so that these counts are those in its
-  -- head, by which the rows of the question are defined.
-  pub row_early : told ≡ verdict.Accepted → {routers l p : ℕ} → Counts links routers l p → {n : ℕ} → n ≡ routers % 256 → {right : Bool} → TableJudged q right → (row : enum.Row) →
-      row_decided row ≡ first_row (sized_returned n l p right q) (select (tries_early q.call) early_rows) → (turned : Turned) → turned_row turned ≡ in_early (row_decided row) → turned_answer turned ≡ early_answer q
-  unfolding turned_answer early_answer answer_of
-  row_early v {routers} counts {n} cut {right} table row decides turned by = ap answered (by ∙ ap in_early same ∙ sym (loaded_early q (sym is.verdict_is ∙ ap answer_of v)))
+module _ (q : Question) {links : Links} (t : Taken q.file links) where
+  -- The rows of the question, by the counts of the network: the file is accepted, so that these counts are those in its head, by which the
+  -- rows of the question are defined.
+  pub row_early : {n : ℕ} → n ≡ links.routers % 256 → (cells : Cells) → TableJudged q cells → (row : Result ⊤ enum.Row) →
+      row_decided row ≡ first_row (sized_returned n links.links links.prefixes (right_in cells (holds_distances (network_asked q) q.table)) q) (select (tries_early q.call) early_rows) →
+      {T : Type 0} (turned : Result T Refusal) → turned_row turned ≡ in_early (row_decided row) → turned_answer turned ≡ early_answer q
+  unfolding turned_answer early_answer
+  row_early {n} cut cells judged row decides turned by = ap answered (by ∙ ap in_early same ∙ sym (loaded_early q (accepted_answer q.file t.is_accepted)))
     where
-      t : Taken q.file links
-      t = took v
-
       answered : Option (Decided Row) → Option Answer
       answered o = elim o [ some d ↦ some (refusal d) | none ↦ none ]
 
       whole : n ≡ links.routers
-      whole = omega (arith, (columns_within t).few_routers, counts.routers_are)
+      whole = omega (arith, (columns_within t).few_routers)
 
       same : row_decided row ≡ first_row (sized_returned (routers_of q.file) (links_of q.file) (prefixes_of q.file) (holds_distances (network_asked q) q.table) q) (select (tries_early q.call) early_rows)
-      same = let counted = rw (whole, counts.links_are, counts.prefixes_are, routers_are t, links_are t, prefixes_are t) at decides in counted ∙ by_table q t.is_accepted right table _ _ _
+      same = rw (whole, judged, routers_are t, links_are t, prefixes_are t) at decides
 
--- ---- the work area
+  -- Where no row applies, the area holds the distances of the network: it is long enough.
+  pub filled_posed : (area : List ℕ) {after : List ℕ} → HasInput q some_cells → q.cells ≡ length area → none ≡ early_answer q →
+      after ≡ area_filled links.routers links.links links.from links.to links.out links.back area → {T : Type 0} (held : T) → after ≡ area_posed (Ok held) (network_loaded q.file) area
+  unfolding area_posed network_asked
+  filled_posed area {after} has cells passes full held =
+      let net = network_of q.file in
+      let done : after ≡ filled net area = filled_columns (columns_within t) links.out links.back area enough net (network_columns t) full in
+      done ∙ sym (ap (λ (n : lfa.Network). filled n area) (accepted_loaded q.file t.is_accepted))
+    where
+      p : Posed q
+      p = answer_posed q t.is_accepted.bytes (sym passes)
 
--- where the question is turned away, it stays as it was
-pub lent_posed : {turned : Turned} {x : Refusal} (net : lfa.Network) (area : List ℕ) → turned ≡ Refused x → area ≡ area_posed turned net area
-unfolding area_posed
-lent_posed net area e = sym (ap (λ (t : Turned). area_posed t net area) e)
-
-pub lent_not_ready : (turned : Turned) (net : lfa.Network) (area : List ℕ) → (turned ≡ Ready → ⊥) → area ≡ area_posed turned net area
-unfolding area_posed
-lent_not_ready (Refused x) net area f = refl
-lent_not_ready Ready net area f = absurd (f refl)
-
--- and else it holds the distances of the network: no row applies, so that it is long enough
-pub filled_posed : {turned : Turned} {links : Links} {q : Question} (area : List ℕ) {after : List ℕ} → HasInput q some_cells → q.cells ≡ length area → turned ≡ Ready → Judges q turned links →
-    ((i : ℕ) → byte_at q.file i < 256) → {n l k : ℕ} → Counts links n l k → {from to out back : List ℕ} → Columns links from to out back → after ≡ area_filled n l from to out back area →
-    after ≡ area_posed turned (network_loaded q.file) area
-unfolding area_posed turned_answer turned_row network_asked
-filled_posed {turned} {links} {q} area {after} has cells e judged bytes counts columns full =
-    let net = network_of q.file in
-    let held : after ≡ area_filled links.routers links.links links.from links.to links.out links.back area =
-    rw (counts.routers_are, counts.links_are, columns.from_is, columns.to_is, columns.out_is, columns.back_is) at full in
-    let done : after ≡ filled net area = filled_columns (columns_within t) links.out links.back area enough net (network_columns t) held in
-    done ∙ sym (ap (λ (n : lfa.Network). filled n area) (accepted_loaded q.file t.is_accepted)) ∙ sym (ap (λ (s : Turned). area_posed s (network_loaded q.file) area) e)
-  where
-    p : Posed q
-    p = answer_posed q bytes (sym judged.turned_is ∙ ap turned_answer e)
-
-    t : Taken q.file links
-    t = taken_posed q p judged.links_is
-
-    enough : links.routers * links.routers ≤ length area
-    enough =
-        let k : (network_of q.file).routers * (network_of q.file).routers ≤ length area = omega (arith, cells, p.cells has) in
-        subst (λ (n : ℕ). n * n ≤ length area) (sym (routers_same t)) k
+      enough : links.routers * links.routers ≤ length area
+      enough =
+          let k : (network_of q.file).routers * (network_of q.file).routers ≤ length area = omega (arith, cells, p.cells has) in
+          subst (λ (n : ℕ). n * n ≤ length area) (sym (routers_same t)) k

@@ -1,23 +1,22 @@
 -- What turns a question away, in document 01's rows and values, and what is told of a question that is put.
 -- Assumes nothing.
-use Rattle.std.specs.Prelude.{ℕ, ◌<◌, ◌≡◌, Bool, true, false, List, length}
+use Rattle.std.specs.Prelude.{ℕ, ◌≡◌, List, length, Result, Ok, Err, IfOk}
 use Rattle.std.proofs.Math.Option.{Option, none, some}
 use Rattle.lfa.specs.Network as lfa
-use Rattle.lfa.specs.File.{Bytes, byte_at}
 use Rattle.lfa.specs.Distance.{holds_distances, filled}
 use Rattle.lfa.specs.Space.{under_maintenance}
-use Rattle.lfa.specs.Question.{Question, loading, a_table, HasInput, network_asked}
-use Rattle.lfa.specs.Refusal.{Row, early, short_area, wrong_table, short_buffer, bad_ranks, no_such_link, no_such_prefix, no_pair, Decided, decided, in_file, Accepted}
-use Rattle.lfa.specs.Answer.{Answer, refusal, early_answer, answer_to, network_loaded}
-use Rattle.network_file.specs.declared.Verdict.{Verdict}
-use Rattle.network_file.specs.Load.{fault_row, answer_of}
-use Rattle.network_file.specs.Struct.{links_struct_of}
+use Rattle.lfa.specs.Question.{Question, network_asked}
+use Rattle.lfa.specs.Refusal.{Row, early, short_area, wrong_table, short_buffer, bad_ranks, no_such_link, no_such_prefix, no_pair, Decided, decided, in_file}
+use Rattle.lfa.specs.Answer.{Answer, refusal, early_answer, network_loaded}
+use Rattle.network_file.specs.Load.{fault_row}
+use Rattle.network_file.specs.Struct.{links_struct_of, link_part}
+use Rattle.network_file.specs.declared.network.Network.{Network}
 use Rattle.metric.specs.declared.columns.Links.{Links}
 use Rattle.rows.specs.declared.Cells.{Cells}
+use Rattle.rows.specs.declared.Cells.TheVariants.{Work, Table}
+use Rattle.rows.specs.Rows.{right_in}
 use Rattle.question.specs.declared.Refusal.{Refusal}
 use Rattle.question.specs.declared.Refusal.TheVariants.{File, ShortArea, ShortBuffer, NoSuchLink, NoSuchPrefix, NoPair, BadRanks, WrongTable}
-use Rattle.question.specs.declared.Turned as question
-use Rattle.question.specs.declared.Turned.TheVariants.{Refused as TurnedAway, Ready}
 
 -- the row of each refusal, with the value that it returns
 unfoldable pub row_of : Refusal → Decided Row
@@ -33,57 +32,43 @@ row_of WrongTable = decided (early wrong_table) 0
 unfoldable pub refusal_answer : Refusal → Answer
 refusal_answer x = refusal (row_of x)
 
--- the row that turns a question away, if any does, and the answer by it
-unfoldable pub turned_row : question.Turned → Option (Decided Row)
-turned_row (TurnedAway r) = some (row_of r)
-turned_row Ready = none
+-- the row that turns a question away, if any does, and the answer by it, whatever is handed over where none does
+unfoldable pub turned_row : {T : Type 0} → Result T Refusal → Option (Decided Row)
+turned_row (Err r) = some (row_of r)
+turned_row (Ok held) = none
 
-unfoldable pub turned_answer : question.Turned → Option Answer
-turned_answer turned = elim (turned_row turned) [ some d ↦ some (refusal d) | none ↦ none ]
+unfoldable pub turned_answer : {T : Type 0} → Result T Refusal → Option Answer
+turned_answer posed = elim (turned_row posed) [ some d ↦ some (refusal d) | none ↦ none ]
 
 -- the work area once a question is posed: the distances, unless it is turned away
-unfoldable pub area_posed : question.Turned → lfa.Network → List ℕ → List ℕ
-area_posed (TurnedAway r) net area = area
-area_posed Ready net area = filled net area
+unfoldable pub area_posed : {T : Type 0} → Result T Refusal → lfa.Network → List ℕ → List ℕ
+area_posed (Err r) net area = area
+area_posed (Ok held) net area = filled net area
+
+-- the links of a network that is handed over
+abbrev pub links_posed : Result Network Refusal → Result Links Refusal
+links_posed (Err r) = Err r
+links_posed (Ok network) = Ok (link_part network)
 
 -- the cells for distances of a question: a work area of so many; or this table, which holds the distances of a network or does not
 unfoldable pub work_cells : ℕ → Cells
-work_cells count = record { count = count; given = false; right = false }
+work_cells count = Work count
 
 unfoldable pub table_cells : lfa.Network → List ℕ → Cells
-table_cells net table = record { count = length table; given = true; right = holds_distances net table }
+table_cells net table = Table (length table) (holds_distances net table)
 
--- what is loaded is the file's
-pub record IsLoaded (b : Bytes) (verdict : Verdict) (links : Links) : Type 0 where
-  pub bytes : (i : ℕ) → byte_at b i < 256
-  pub verdict_is : answer_of verdict ≡ answer_to (loading b)
-  pub links_is : links ≡ links_struct_of (network_loaded b)
-
--- the counts of a network
-pub record Counts (held : Links) (routers links prefixes : ℕ) : Type 0 where
-  pub routers_are : routers ≡ held.routers
-  pub links_are : links ≡ held.links
-  pub prefixes_are : prefixes ≡ held.prefixes
-
--- and the columns of its links
-pub record Columns (held : Links) (from to out back : List ℕ) : Type 0 where
-  pub from_is : from ≡ held.from
-  pub to_is : to ≡ held.to
-  pub out_is : out ≡ held.out
-  pub back_is : back ≡ held.back
-
--- the lent table was judged rightly, where the call has one
-abbrev pub TableJudged : Question → Bool → Type 0
-TableJudged q right = Accepted q.file → HasInput q a_table → right ≡ holds_distances (network_asked q) q.table
+-- a table that is lent was judged rightly
+abbrev pub TableJudged : Question → Cells → Type 0
+TableJudged q cells = right_in cells (holds_distances (network_asked q) q.table) ≡ holds_distances (network_asked q) q.table
 
 -- What the calls that put a question tell of it; links are under maintenance at 65,535.
-pub record Judges (q : Question) (turned : question.Turned) (links : Links) : Type 0 where
+pub record Judges (q : Question) (posed : Result Links Refusal) : Type 0 where
   pub limit_is : q.maintenance ≡ under_maintenance
-  pub turned_is : turned_answer turned ≡ early_answer q
-  pub links_is : links ≡ links_struct_of (network_loaded q.file)
+  pub turned_is : turned_answer posed ≡ early_answer q
+  pub links_is : IfOk posed (λ links. links ≡ links_struct_of (network_loaded q.file))
 
 -- and what is in the cells for distances, which the question counts, before and after
-pub record Poses (q : Question) (turned : question.Turned) (links : Links) (area after : List ℕ) : Type 0 where
-  pub judges : Judges q turned links
+pub record Poses (q : Question) (posed : Result Links Refusal) (area after : List ℕ) : Type 0 where
+  pub judges : Judges q posed
   pub cells_are : q.cells ≡ length area
-  pub area_is : after ≡ area_posed turned (network_loaded q.file) area
+  pub area_is : after ≡ area_posed posed (network_loaded q.file) area

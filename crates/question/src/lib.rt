@@ -1,20 +1,23 @@
 // Whether a question is turned away before anything is searched for: rows 1 to 9 over the file, then rows 10, 18, 11, 15, 12 and 13.
 #![tactic(auto)]
 
-ghost use Rattle.std.specs.Prelude.{ℕ, ◌%◌, ◌≡◌, List, [], length};
+ghost use Rattle.std.specs.Prelude.{ℕ, ◌%◌, ◌≡◌, List, [], length, IfOk, Err};
+ghost use Rattle.std.proofs.Math.Option.{some};
 ghost use Rattle.lfa.specs.File.{Bytes};
 ghost use Rattle.lfa.specs.Space.{Space};
 ghost use Rattle.lfa.specs.Ranks.{is_arrangement};
-ghost use Rattle.lfa.specs.Refusal.{in_early};
-ghost use Rattle.lfa.specs.Answer.{network_loaded};
-ghost use Rattle.metric.specs.declared.columns.Links as struct;
-ghost use Rattle.network_file.specs.Struct.{struct_of, link_part};
+ghost use Rattle.lfa.specs.Refusal.{in_file, in_early};
+ghost use Rattle.lfa.specs.Answer.{early_answer, network_loaded};
+ghost use Rattle.network_file.specs.Load.{fault_row};
+ghost use Rattle.network_file.specs.Struct.{struct_of};
 ghost use Rattle.rows.specs.Rows.{question_about, row_decided};
-ghost use Rattle.question.specs.Turning.{work_cells, table_cells, turned_row, IsLoaded, Counts, Columns, TableJudged, Judges, Poses};
+ghost use Rattle.question.specs.Taken.{Taken};
+ghost use Rattle.question.specs.Turning.{row_of, work_cells, table_cells, turned_answer, area_posed, links_posed, TableJudged, Judges, Poses};
 
 use distance::fill;
-use network_file::network::{Links, Network};
-use network_file::{Fault, Verdict, load, load_links};
+use metric::columns::Links;
+use network_file::network::Network;
+use network_file::{Fault, load, load_links};
 use rows::{Asked, Cells, Row, first_row};
 use table::holds_distances;
 
@@ -32,25 +35,31 @@ pub enum Refusal {
     WrongTable,
 }
 
-// What turns a question away, if anything does.
-#[derive(Clone, Copy)]
-pub enum Turned {
-    Refused(Refusal),
-    Ready,
+// What turns the file away turns the question away.
+impl From<Fault> for Refusal {
+    ghost from_gives = { λ given refusal. row_of refusal ≡ in_file (fault_row given) };
+
+    #[tactic(auto, unfolding(crate::specs::Turning::row_of))]
+    fn from(fault: Fault) -> Refusal {
+        Refusal::File(fault)
+    }
 }
 
-// What turns a question away, if anything does, and the links of its file.
-#[derive(Drop)]
-pub struct LinksJudged {
-    pub turned: Turned,
-    pub links: Links,
-}
+// A row as a refusal.
+impl From<Row> for Refusal {
+    ghost from_gives = { λ given refusal. some (row_of refusal) ≡ in_early (row_decided (Err given)) };
 
-// The same with the whole network, for a question that names a prefix.
-#[derive(Drop)]
-pub struct Judged {
-    pub turned: Turned,
-    pub network: Network,
+    #[tactic(auto, unfolding(crate::specs::Turning::row_of, rows::specs::Rows::row_decided, lfa::specs::Refusal::in_early))]
+    fn from(row: Row) -> Refusal {
+        match row {
+            Row::ShortArea(cells) => Refusal::ShortArea(cells),
+            Row::ShortBuffer(bytes) => Refusal::ShortBuffer(bytes),
+            Row::NoSuchLink(links) => Refusal::NoSuchLink(links),
+            Row::NoSuchPrefix(prefixes) => Refusal::NoSuchPrefix(prefixes),
+            Row::BadRanks => Refusal::BadRanks,
+            Row::WrongTable => Refusal::WrongTable,
+        }
+    }
 }
 
 // The number of routers of a network, of which there are at most 64.
@@ -60,182 +69,79 @@ fn narrow(routers: usize) -> u8
     (routers % 256) as u8
 }
 
-// A row as a refusal.
-fn turned_by(row: Row) -> Turned
-    ensures { turned_row result ≡ in_early (row_decided row) }
+// The rows before 14 for a question about an accepted file, as far as its call tries them, by the links of its network; whichever space is
+// asked for, whatever the choice bytes are, and for every table of ranks that was judged as `asked` says.
+fn judge(links: &Links, cells: Cells, asked: Asked) -> Result<(), Refusal>
+    ensures { (b : Bytes) (table : List ℕ) (s : Space) (choices ranks : List ℕ) → Taken b links.now → is_arrangement ranks ≡ asked.ranked →
+        TableJudged (question_about b cells table asked s choices ranks) cells →
+        turned_answer result ≡ early_answer (question_about b cells table asked s choices ranks) }
 {
-    match row {
-        Row::ShortArea(cells) => Turned::Refused(Refusal::ShortArea(cells)),
-        Row::ShortBuffer(bytes) => Turned::Refused(Refusal::ShortBuffer(bytes)),
-        Row::NoSuchLink(links) => Turned::Refused(Refusal::NoSuchLink(links)),
-        Row::NoSuchPrefix(prefixes) => Turned::Refused(Refusal::NoSuchPrefix(prefixes)),
-        Row::Passed => Turned::Ready,
-        Row::BadRanks => Turned::Refused(Refusal::BadRanks),
-        Row::WrongTable => Turned::Refused(Refusal::WrongTable),
-    }
-}
-
-// The rows before 14 for a question about a file that was loaded, as far as its call tries them, by the verdict on the file and the counts of
-// its network; whichever space is asked for, whatever the choice bytes are, and for every table of ranks that was judged as `asked` says.
-fn judge(
-    verdict: Verdict,
-    routers: usize,
-    links: usize,
-    prefixes: usize,
-    cells: Cells,
-    asked: Asked,
-) -> Turned
-    ensures { (b : Bytes) (held : struct.Links) (table : List ℕ) (s : Space) (choices ranks : List ℕ) → IsLoaded b verdict held → Counts held routers links prefixes → is_arrangement ranks ≡ asked.ranked →
-        TableJudged (question_about b cells table asked s choices ranks) cells.right →
-        Judges (question_about b cells table asked s choices ranks) result held }
-{
-    if let Verdict::Refused(fault) = verdict {
-        return Turned::Refused(Refusal::File(fault));
-    }
-    turned_by(first_row(narrow(routers), links, prefixes, cells, asked))
+    let routers = narrow(links.routers);
+    first_row(routers, links.links, links.prefixes, cells, asked)?;
+    Ok(())
 }
 
 // The same for a call that is lent a work area. Where no row applies, the work area holds the distances of the network.
-fn ask<'a>(
-    verdict: Verdict,
-    routers: usize,
-    links: usize,
-    prefixes: usize,
-    from: &'a [u8; 128],
-    to: &'a [u8; 128],
-    out: &'a [u16; 128],
-    back: &'a [u16; 128],
-    asked: Asked,
-    work: &mut [u32],
-) -> Turned
-    ensures { (b : Bytes) (held : struct.Links) (s : Space) (choices ranks : List ℕ) → IsLoaded b verdict held → Counts held routers links prefixes → Columns held from.now to.now out.now back.now → is_arrangement ranks ≡ asked.ranked →
-        Poses (question_about b (work_cells (length work.old)) [] asked s choices ranks) result held work.old work.new }
+fn ask(links: &Links, asked: Asked, work: &mut [u32]) -> Result<(), Refusal>
+    ensures turned { (b : Bytes) (s : Space) (choices ranks : List ℕ) → Taken b links.now → is_arrangement ranks ≡ asked.ranked →
+        turned_answer result ≡ early_answer (question_about b (work_cells (length work.old)) [] asked s choices ranks) }
+    ensures area { (b : Bytes) (s : Space) (choices ranks : List ℕ) → Taken b links.now → is_arrangement ranks ≡ asked.ranked →
+        work.new ≡ area_posed result (network_loaded b) work.old }
 {
-    let cells = Cells {
-        count: work.len(),
-        given: false,
-        right: false,
-    };
-    let turned = judge(verdict, routers, links, prefixes, cells, asked);
-    if let Turned::Ready = turned {
-        fill(routers, links, from, to, out, back, work);
-    }
-    turned
+    let cells = Cells::Work(work.len());
+    judge(links, cells, asked)?;
+    fill(links, work);
+    Ok(())
 }
 
 // The same for a call that is lent a table of distances, which is only read.
-fn ask_with<'a>(
-    verdict: Verdict,
-    routers: usize,
-    links: usize,
-    prefixes: usize,
-    from: &'a [u8; 128],
-    to: &'a [u8; 128],
-    out: &'a [u16; 128],
-    back: &'a [u16; 128],
-    asked: Asked,
-    table: &[u32],
-) -> Turned
-    ensures { (b : Bytes) (held : struct.Links) (s : Space) (choices ranks : List ℕ) → IsLoaded b verdict held → Counts held routers links prefixes → Columns held from.now to.now out.now back.now → is_arrangement ranks ≡ asked.ranked →
-        Judges (question_about b (table_cells (network_loaded b) table.now) table.now asked s choices ranks) result held }
+fn ask_with(links: &Links, asked: Asked, table: &[u32]) -> Result<(), Refusal>
+    ensures { (b : Bytes) (s : Space) (choices ranks : List ℕ) → Taken b links.now → is_arrangement ranks ≡ asked.ranked →
+        turned_answer result ≡ early_answer (question_about b (table_cells (network_loaded b) table.now) table.now asked s choices ranks) }
 {
-    let right = holds_distances(routers, links, from, to, out, back, table);
-    let cells = Cells {
-        count: table.len(),
-        given: true,
-        right,
-    };
-    judge(verdict, routers, links, prefixes, cells, asked)
+    let right = holds_distances(links, table);
+    let count = table.len();
+    judge(links, Cells::Table { count, right }, asked)
 }
 
-// Puts a question that names no prefix, for a call that is lent a work area: what turns it away, and the links of its file.
-pub fn pose_links(file: &[u8], asked: Asked, work: &mut [u32]) -> LinksJudged
+// Puts a question that names no prefix, for a call that is lent a work area: what turns it away, or the links of its file.
+pub fn pose_links(file: &[u8], asked: Asked, work: &mut [u32]) -> Result<Links, Refusal>
     ensures { (s : Space) (choices ranks : List ℕ) → is_arrangement ranks ≡ asked.ranked →
-        Poses (question_about file.now (work_cells (length work.old)) [] asked s choices ranks) result.turned result.links work.old work.new }
+        Poses (question_about file.now (work_cells (length work.old)) [] asked s choices ranks) result work.old work.new }
 {
-    let loaded = load_links(file);
-    let verdict = loaded.verdict;
-    let links = loaded.links;
-    let turned = ask(
-        verdict,
-        links.routers,
-        links.links,
-        links.prefixes,
-        &links.from,
-        &links.to,
-        &links.out,
-        &links.back,
-        asked,
-        work,
-    );
-    LinksJudged { turned, links }
+    let links = load_links(file)?;
+    ask(&links, asked, work)?;
+    Ok(links)
 }
 
 // Puts a question that names a prefix, in the same way: the whole network is handed over.
-pub fn pose(file: &[u8], asked: Asked, work: &mut [u32]) -> Judged
-    ensures { (result.network ≡ struct_of (network_loaded file.now)) × ((s : Space) (choices ranks : List ℕ) → is_arrangement ranks ≡ asked.ranked →
-        Poses (question_about file.now (work_cells (length work.old)) [] asked s choices ranks) result.turned (link_part result.network) work.old work.new) }
+pub fn pose(file: &[u8], asked: Asked, work: &mut [u32]) -> Result<Network, Refusal>
+    ensures network { IfOk result (λ network. network ≡ struct_of (network_loaded file.now)) }
+    ensures posed { (s : Space) (choices ranks : List ℕ) → is_arrangement ranks ≡ asked.ranked →
+        Poses (question_about file.now (work_cells (length work.old)) [] asked s choices ranks) (links_posed result) work.old work.new }
 {
-    let loaded = load(file);
-    let verdict = loaded.verdict;
-    let network = loaded.network;
-    let turned = ask(
-        verdict,
-        network.routers,
-        network.links,
-        network.prefixes,
-        &network.from,
-        &network.to,
-        &network.out,
-        &network.back,
-        asked,
-        work,
-    );
-    Judged { turned, network }
+    let network = load(file)?;
+    ask(&network.links, asked, work)?;
+    Ok(network)
 }
 
 // Puts a question that names no prefix, for a call that is lent a table of distances.
-pub fn pose_links_with(file: &[u8], asked: Asked, table: &[u32]) -> LinksJudged
+pub fn pose_links_with(file: &[u8], asked: Asked, table: &[u32]) -> Result<Links, Refusal>
     ensures { (s : Space) (choices ranks : List ℕ) → is_arrangement ranks ≡ asked.ranked →
-        Judges (question_about file.now (table_cells (network_loaded file.now) table.now) table.now asked s choices ranks) result.turned result.links }
+        Judges (question_about file.now (table_cells (network_loaded file.now) table.now) table.now asked s choices ranks) result }
 {
-    let loaded = load_links(file);
-    let verdict = loaded.verdict;
-    let links = loaded.links;
-    let turned = ask_with(
-        verdict,
-        links.routers,
-        links.links,
-        links.prefixes,
-        &links.from,
-        &links.to,
-        &links.out,
-        &links.back,
-        asked,
-        table,
-    );
-    LinksJudged { turned, links }
+    let links = load_links(file)?;
+    ask_with(&links, asked, table)?;
+    Ok(links)
 }
 
 // Puts a question that names a prefix, in the same way: the whole network is handed over.
-pub fn pose_with(file: &[u8], asked: Asked, table: &[u32]) -> Judged
-    ensures { (result.network ≡ struct_of (network_loaded file.now)) × ((s : Space) (choices ranks : List ℕ) → is_arrangement ranks ≡ asked.ranked →
-        Judges (question_about file.now (table_cells (network_loaded file.now) table.now) table.now asked s choices ranks) result.turned (link_part result.network)) }
+pub fn pose_with(file: &[u8], asked: Asked, table: &[u32]) -> Result<Network, Refusal>
+    ensures network { IfOk result (λ network. network ≡ struct_of (network_loaded file.now)) }
+    ensures judged { (s : Space) (choices ranks : List ℕ) → is_arrangement ranks ≡ asked.ranked →
+        Judges (question_about file.now (table_cells (network_loaded file.now) table.now) table.now asked s choices ranks) (links_posed result) }
 {
-    let loaded = load(file);
-    let verdict = loaded.verdict;
-    let network = loaded.network;
-    let turned = ask_with(
-        verdict,
-        network.routers,
-        network.links,
-        network.prefixes,
-        &network.from,
-        &network.to,
-        &network.out,
-        &network.back,
-        asked,
-        table,
-    );
-    Judged { turned, network }
+    let network = load(file)?;
+    ask_with(&network.links, asked, table)?;
+    Ok(network)
 }

@@ -1,7 +1,7 @@
 -- What the repair part knows of a file from the file part's answer: its refusal turns every question away, and the network of an
 -- accepted file is within the limits and stands in the columns.
 -- Assumes nothing.
-use Rattle.std.specs.Prelude.{ℕ, ◌<◌, ◌≡◌, get_or}
+use Rattle.std.specs.Prelude.{ℕ, ◌<◌, ◌≡◌, get_or, Result, Ok}
 use Rattle.std.proofs.Common.{sym, ◌∙◌}
 use Rattle.std.proofs.Math.Path.{ap}
 use Rattle.lfa.specs.File.{Bytes, byte_at, routers_of, links_of, prefixes_of, network_of}
@@ -10,14 +10,13 @@ use Rattle.lfa.specs.Question.{Question}
 use Rattle.lfa.specs.Refusal.{Posed}
 use Rattle.lfa.specs.Answer.{answer_to, network_loaded}
 use Rattle.lfa.proofs.Laws.Accepted.{accepted_limits, accepted_loaded, link_count, prefix_count}
-use Rattle.network_file.specs.declared.Verdict.TheVariants as verdict
 use Rattle.network_file.specs.Struct.{links_struct_of}
 use Rattle.network_file.specs.Laws.Struct.{struct_columns}
 use Rattle.metric.specs.declared.columns.Links.{Links}
 use Rattle.metric.specs.Fit.{ColumnsWithin}
 use Rattle.metric.specs.Columns.{InColumns}
 use Rattle.metric.proofs.Laws.Columns.{limits_columns}
-use Rattle.network_file.specs.declared.Verdict.{Verdict}
+use Rattle.network_file.specs.declared.Fault.{Fault}
 use Rattle.network_file.specs.Load.{answer_of}
 use Rattle.lfa.specs.Question.{loading}
 use Rattle.lfa.proofs.Laws.FileRows.{load_accepted}
@@ -27,10 +26,10 @@ use Rattle.question.specs.Taken.{Taken}
 -- ---- the links that the file part hands over
 
 -- where it accepts the file, they are the file's
-pub taken : (b : Bytes) {told : Verdict} {links : Links} → answer_of told ≡ answer_to (loading b) → links ≡ links_struct_of (network_loaded b) →
-    ((i : ℕ) → get_or b i 0 < 256) → told ≡ verdict.Accepted → Taken b links
+pub taken : (b : Bytes) {T : Type 0} {told : Result T Fault} {held : T} {links : Links} → answer_of told ≡ answer_to (loading b) → links ≡ links_struct_of (network_loaded b) →
+    ((i : ℕ) → get_or b i 0 < 256) → told ≡ Ok held → Taken b links
 unfolding answer_of byte_at
-taken b answered e bytes v =
+taken b {T} answered e bytes v =
     let a = load_accepted b bytes (load_accepts b (sym answered ∙ ap answer_of v)) in
     record { is_accepted = a; links_is = e ∙ ap links_struct_of (accepted_loaded b a) }
 
