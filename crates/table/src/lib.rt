@@ -49,11 +49,11 @@ fn agrees(links: &Links, table: &[u32]) -> bool
 pub fn holds_distances(links: &Links, table: &[u32]) -> bool
     ensures { result ≡ table_holds links.now.routers links.now.links links.now.from links.now.to links.now.out links.now.back table.now }
 {
-    let lent = Area {
+    let area = Area {
         n: links.routers,
         cells: table,
     };
-    if !lent.fits() {
+    if !area.fits() {
         return false;
     }
     if !links_fit(links.routers, links) {
