@@ -1,15 +1,22 @@
--- The places of cells, what stands for a cell in sums, and the cells of two lists that differ.
+-- The places of cells, what stands for a cell in sums, and the cells of two lists that are the same.
 -- Assumes nothing.
 use Prim.Native.Nat.{ℕ, ◌+◌, ◌*◌, ◌/◌, ◌%◌, ◌≤◌, ◌<◌, min}
 use mathlib.Core.Path.{◌≡◌, sym, ap, ◌∙◌}
+use mathlib.Core.Bool.{Bool}
 use mathlib.Core.Logic.{⊎_elim, ◌↔◌}
 use mathlib.Core.List.{List}
 use native.Mathlib.Omega.{arith}
 use native.Mathlib.Nat.{lt_of_lt_of_le, mul-le-mul}
 use native.Mathlib.Decide.{dec_lt}
 use lib.Arith.{digits_lt, digits_div, digits_mod}
+use lib.Dec.{eqb}
+use lib.ListN.{length, get_or, take}
+use Rattle.std.specs.Cmp.Lexicographic.{pointwise}
+use Rattle.std.proofs.lemmas.Slice.Eq.{slice_eq-Decides}
+use Rattle.std.proofs.lemmas.Bool.Decides.{Decides-eqb}
+use Rattle.std.proofs.lemmas.List.{length-take-le, get_or-take, ext_get_or}
 use Rattle.lfa.specs.Distance.{unreachable}
-use Rattle.table.specs.Sums.{Form, largest, form32, Real, finite, infinite, Stands, real, wrong, Copied, Summands, Same}
+use Rattle.table.specs.Sums.{Form, largest, form32, Real, finite, infinite, Stands, real, wrong, Copied, Summands, SameCells}
 
 -- ---- the place x * w + t
 
@@ -83,10 +90,18 @@ summands_copied {n} q = record {
   rest = λ x t hx ht o. ⊎_elim (λ h. absurd (omega arith)) (λ h. absurd (omega arith)) o;
 }
 
--- ---- the number of cells that differ
+-- ---- the cells of two lists that are the same
 
--- so many of the numbers before i differ
-pub record Differing (i : ℕ) (f g : ℕ → ℕ) (d : ℕ) : Type 0 where
-  pub few : d ≤ i
-  pub holds : d ≡ 0 → Same i f g
-  pub told : Same i f g → d ≡ 0
+-- what `==` says of two lists of n numbers
+same_lists : {n : ℕ} (xs ys : List ℕ) (f g : ℕ → ℕ) {r : Bool} → length xs ≡ n → length ys ≡ n → ((i : ℕ) → i < n → get_or xs i 0 ≡ f i) → ((i : ℕ) → i < n → get_or ys i 0 ≡ g i) →
+    r ≡ pointwise eqb xs ys → SameCells n f g r
+same_lists {n} xs ys f g {r} hx hy ex ey e =
+    let d = slice_eq-Decides Decides-eqb xs ys r e in
+    record {
+      holds = λ t i h. sym (ex i h) ∙ ap (λ (l : List ℕ). get_or l i 0) (d.0 t) ∙ ey i h;
+      told = λ s. d.1 (ext_get_or 0 xs ys (hx ∙ sym hy) (λ i h. let k : i < n = omega arith in ex i k ∙ s i k ∙ sym (ey i k)));
+    }
+
+pub firsts_same : {n : ℕ} (cells sums : List ℕ) {r : Bool} → n ≤ length cells → n ≤ length sums → r ≡ pointwise eqb (take n cells) (take n sums) → SameCells n (λ i. get_or cells i 0) (λ i. get_or sums i 0) r
+firsts_same {n} cells sums hc hs e =
+    same_lists (take n cells) (take n sums) (λ i. get_or cells i 0) (λ i. get_or sums i 0) (length-take-le n cells hc) (length-take-le n sums hs) (λ i h. get_or-take n cells i 0 h) (λ i h. get_or-take n sums i 0 h) e

@@ -103,12 +103,6 @@ pub record LeastSums (f : Form) (hops : List Arc) (cells first sums : List ℕ) 
 
 -- ---- the answer
 
--- 0 where two numbers are the same, and 1 where they differ
-pub record Differs (a b r : ℕ) : Type 0 where
-  pub most : r ≤ 1
-  pub same : r ≡ 0 → a ≡ b
-  pub none : a ≡ b → r ≡ 0
-
 -- so many numbers are the same
 abbrev pub Same : ℕ → (f g : ℕ → ℕ) → Type 0
 Same count f g = (i : ℕ) → i < count → f i ≡ g i

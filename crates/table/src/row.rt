@@ -2,18 +2,10 @@
 // columns have 64 turns for every network, so that they go over eight cells at once.
 ghost use Rattle.std.specs.Prelude.{◌≡◌, get_or, set, replicate, ◌≤◌, ◌<◌, min};
 ghost use Rattle.metric.specs.Area.{area_cell};
-ghost use Rattle.table.specs.Sums.{Differs, SameCells};
+ghost use Rattle.table.specs.Sums.{SameCells};
 ghost use Rattle.table.specs.Rows.{Little, LittleRow, SumsLowered, RowTested, RowsTested};
 
 use crate::narrow::LIMIT;
-
-// The smaller of two numbers, compared as signed ones: for those the processor has an instruction that compares eight at once.
-fn least(a: u16, b: u16) -> u16
-    requires { (a < 32768) × (b < 32768) }
-    ensures { result ≡ min a b }
-{
-    if (a as i16) < (b as i16) { a } else { b }
-}
 
 // Lowers the sums to a cost plus row head of the cells.
 fn lower(cost: u16, head: usize, cells: &[u16; 4096], sums: &mut [u16; 64])
@@ -22,28 +14,22 @@ fn lower(cost: u16, head: usize, cells: &[u16; 4096], sums: &mut [u16; 64])
 {
     let by = head * 64;
     for t in 0..64 {
-        sums[t] = least(sums[t], cost + cells[by + t]);
+        sums[t] = sums[t].min(cost + cells[by + t]);
     }
 }
 
-// 0 where two numbers are the same, and 1 where they differ.
-fn differs(a: u16, b: u16) -> u16
-    ensures { Differs a b result }
-{
-    if a == b { 0 } else { 1 }
-}
-
-// Whether row x of the cells is the sums: the number of cells that differ is 0.
+// Whether row x of the cells is the sums. The loop has no branch, so that it compares eight cells at once; `==` of the two slices, which ends
+// at the first eight that differ, was tried, and made the check of a table a fifth slower.
 fn same_row(x: usize, cells: &[u16; 4096], sums: &[u16; 64]) -> bool
     requires { x < 64 }
     ensures { SameCells 64 (area_cell 64 cells.now x) (λ t. get_or sums.now t 0) result }
 {
     let at = x * 64;
-    let mut differing: u16 = 0;
+    let mut same = true;
     for t in 0..64 {
-        differing += differs(cells[at + t], sums[t]);
+        same &= cells[at + t] == sums[t];
     }
-    differing == 0
+    same
 }
 
 // The first sums of row x: 0 in column x, and the limit in every other. They are read from numbers that were put together once, a 0 between

@@ -5,7 +5,7 @@
 ghost use Rattle.std.specs.Prelude.{◌≡◌, length, get_or, replicate, ◌*◌, ◌≤◌, ◌<◌, min};
 ghost use Rattle.metric.specs.Fit.{ColumnsWithin};
 ghost use Rattle.metric.specs.Columns.{arcs_in};
-ghost use Rattle.table.specs.Sums.{form32, Stands, Summands, Limited, Cleared, RowLowered, LeastSums, Differs, SameCells, Tested};
+ghost use Rattle.table.specs.Sums.{form32, Stands, Summands, Limited, Cleared, RowLowered, LeastSums, Tested};
 
 use metric::Distance;
 use metric::columns::Links;
@@ -49,14 +49,6 @@ fn clear_diagonal(n: usize, sums: &mut [u32; 4096])
     }
 }
 
-// The smaller of two numbers, compared as signed ones: for those the processor has an instruction that compares four at once.
-fn least(a: u32, b: u32) -> u32
-    requires { (a < 2147483648) × (b < 2147483648) }
-    ensures { result ≡ min a b }
-{
-    if (a as i32) < (b as i32) { a } else { b }
-}
-
 // Lowers row a of the sums to the cost of an arc from a to b plus row b of the cells.
 fn lower(n: usize, a: usize, b: usize, cost: u16, cells: &[u32; 4096], sums: &mut [u32; 4096])
     requires { (a < n) × (b < n) × Limited (form32 n) cells.now × Limited (form32 n) sums.old }
@@ -66,7 +58,7 @@ fn lower(n: usize, a: usize, b: usize, cost: u16, cells: &[u32; 4096], sums: &mu
     let by = b * n;
     let hop = u32::from(cost);
     for t in 0..n {
-        sums[at + t] = least(sums[at + t], hop + cells[by + t]);
+        sums[at + t] = sums[at + t].min(hop + cells[by + t]);
     }
 }
 
@@ -83,25 +75,6 @@ fn lower_links(links: &Links, cells: &[u32; 4096], sums: &mut [u32; 4096])
     }
 }
 
-// 0 where two numbers are the same, and 1 where they differ.
-fn differs(a: u32, b: u32) -> u32
-    ensures { Differs a b result }
-{
-    if a == b { 0 } else { 1 }
-}
-
-// Whether the first cells of both are the same: the number of those that differ is 0.
-fn same_cells(count: usize, cells: &[u32; 4096], sums: &[u32; 4096]) -> bool
-    requires { count ≤ 4096 }
-    ensures { SameCells count (λ i. get_or cells.now i 0) (λ i. get_or sums.now i 0) result }
-{
-    let mut differing: u32 = 0;
-    for i in 0..count {
-        differing += differs(cells[i], sums[i]);
-    }
-    differing == 0
-}
-
 // Whether each cell is 0 on the diagonal, and elsewhere the least sum.
 pub(crate) fn agrees(links: &Links, table: &[u32]) -> bool
     requires { ColumnsWithin links.now.routers links.now.links links.now.from links.now.to × (links.now.routers * links.now.routers ≤ length table.now) }
@@ -113,5 +86,5 @@ pub(crate) fn agrees(links: &Links, table: &[u32]) -> bool
     let mut sums = [LIMIT; 4096];
     clear_diagonal(links.routers, &mut sums);
     lower_links(links, &cells, &mut sums);
-    same_cells(count, &cells, &sums)
+    cells[..count] == sums[..count]
 }
