@@ -4,48 +4,47 @@
 ghost use Rattle.std.specs.Prelude.{◌≡◌};
 ghost use Rattle.lfa.specs.Space.{size_of};
 ghost use Rattle.lfa.specs.Answer.{repair_answer};
-ghost use Rattle.search.specs.Choice.{outcome_in};
+ghost use Rattle.search.specs.Choice.{outcome_in, outcome_of_pair};
 ghost use Rattle.answers.specs.Answer.{repair_of};
 
 use order::Pair;
 use question::Refusal;
 use search::Found;
 
-#[derive(Clone, Copy)]
-pub enum Filled {
-    Done,
-    Refused(Refusal),
-}
-
-// The answer of a call for a space: the set, router r being the bit of weight 2 to the power r.
-#[derive(Clone, Copy)]
-pub enum SpaceAnswer {
-    Set(u64),
-    Refused(Refusal),
-}
-
-// The answer of a repair call.
+// The answer of a repair call that nothing turns away.
 #[derive(Clone, Copy)]
 pub enum Repair {
-    Refused(Refusal),
     Unreachable,
     Untouched,
     Pair(Pair),
 }
 
-// The answer of a repair call: row 14 where nothing was found.
-pub fn repair_answer(found: Found) -> Repair
+// The answer of a repair call for a link: row 14 where no pair serves.
+#[tactic(auto, unfolding(crate::specs::Answer::repair_of, question::specs::Turning::refusal_answer, question::specs::Turning::row_of, lfa::specs::Answer::refusal, lfa::specs::Answer::repair_answer))]
+pub fn link_answer(found: Option<Pair>) -> Result<Repair, Refusal>
+    ensures { repair_of result ≡ repair_answer (outcome_of_pair found) }
+{
+    match found {
+        Some(pair) => Ok(Repair::Pair(pair)),
+        None => Err(Refusal::NoPair),
+    }
+}
+
+// The answer of a repair call for a prefix: row 14 where nothing was found.
+#[tactic(auto, unfolding(crate::specs::Answer::repair_of, question::specs::Turning::refusal_answer, question::specs::Turning::row_of, lfa::specs::Answer::refusal, lfa::specs::Answer::repair_answer))]
+pub fn repair_answer(found: Option<Found>) -> Result<Repair, Refusal>
     ensures { repair_of result ≡ repair_answer (outcome_in found) }
 {
     match found {
-        Found::Unreachable => Repair::Unreachable,
-        Found::Untouched => Repair::Untouched,
-        Found::Nothing => Repair::Refused(Refusal::NoPair),
-        Found::Pair(pair) => Repair::Pair(pair),
+        Some(Found::Unreachable) => Ok(Repair::Unreachable),
+        Some(Found::Untouched) => Ok(Repair::Untouched),
+        Some(Found::Pair(pair)) => Ok(Repair::Pair(pair)),
+        None => Err(Refusal::NoPair),
     }
 }
 
 // The number of routers in a set.
+#[tactic(auto, using(lfa::proofs::Laws::Set::size_ones))]
 pub fn size(set: u64) -> u32
     ensures { result ≡ size_of set }
 {
