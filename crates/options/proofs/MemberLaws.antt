@@ -1,6 +1,6 @@
 -- The members of a set, ascending: the search for one of them, and how many there are.
 -- Assumes nothing.
-use Prim.Native.Nat.{ℕ, zero, suc, ◌+◌, ◌-◌, ◌/◌, ◌^◌, ◌≤◌, ◌<◌}
+use Prim.Native.Nat.{ℕ, zero, suc, ◌+◌, ◌-◌, ◌/◌, ◌^◌, ◌<◌}
 use mathlib.Core.Path.{◌≡◌, refl, sym, ap, ap₂, ◌∙◌}
 use mathlib.Core.Bool.{Bool, true, false}
 use mathlib.Core.List.{List, [], ◌∷◌}
@@ -83,17 +83,3 @@ select_count p (suc n) =
 pub members_count : (set : ℕ) → set < 2 ^ 64 → ones set ≡ length (members_of set)
 unfolding members_of size_of
 members_count set h = size_ones set h ∙ sym (select_count (has set) 64)
-
-count_most : (p : ℕ → Bool) (n : ℕ) → count p n ≤ n
-unfolding count
-count_most p zero = omega arith
-count_most p (suc n) = by (p n) (count_most p n)
-  where
-    by : (b : Bool) → count p n ≤ n → one b + count p n ≤ suc n
-    by true h = omega arith
-    by false h = omega arith
-
--- at most 64 routers are in a set
-pub few_ones : (set : ℕ) → set < 2 ^ 64 → ones set ≤ 64
-unfolding size_of
-few_ones set h = omega (arith, size_ones set h, count_most (has set) 64)

@@ -1,4 +1,4 @@
--- What decides whether a link is sound, and whether two links lead to one router.
+-- What decides whether a link is sound, and the sums of the checksum.
 -- Assumes nothing.
 use Prim.Native.Nat.{ℕ, ◌+◌, ◌%◌, ◌≤◌, ◌<◌}
 use mathlib.Core.Path.{◌≡◌, refl}
@@ -8,7 +8,7 @@ use native.Mathlib.Numerals.{add-one}
 use lib.Dec.{eqb}
 use lib.ListN.{get_or, length, drop, drop_of_length-le}
 use lib.Seq.{drop-cons}
-use Rattle.ospf.specs.Lsa.{entry, sound_entry, same_neighbour, Sums, sums, fletcher, both_zero}
+use Rattle.ospf.specs.Lsa.{entry, sound_entry, Sums, sums, fletcher, both_zero}
 
 module _ (r id info kind tos metric : ℕ) where
   pub link_tos : eqb tos 0 ≡ false → false ≡ sound_entry r (entry id info kind tos metric)
@@ -58,21 +58,3 @@ zero_first c₀ c₁ s e f = rw (e, f)
 pub zero_second : (c₀ c₁ : ℕ) (s : Sums) → s ≡ sums c₀ c₁ → eqb c₀ 0 ≡ true → eqb c₁ 0 ≡ both_zero s
 unfolding both_zero
 zero_second c₀ c₁ s e f = rw (e, f)
-
--- ---- two links
-
-pub apart_first : (id id2 kind kind2 : ℕ) → eqb kind 1 ≡ false → false ≡ same_neighbour (entry id 0 kind 0 0) (entry id2 0 kind2 0 0)
-unfolding same_neighbour
-apart_first id id2 kind kind2 e = rw e
-
-pub apart_second : (id id2 kind kind2 : ℕ) → eqb kind2 1 ≡ false → false ≡ same_neighbour (entry id 0 kind 0 0) (entry id2 0 kind2 0 0)
-unfolding same_neighbour
-apart_second id id2 kind kind2 e = rw e (go (eqb kind 1))
-  where
-    go : (b : Bool) → false ≡ (b && false && eqb id id2)
-    go true = refl
-    go false = refl
-
-pub apart_third : (id id2 kind kind2 : ℕ) → eqb kind 1 ≡ true → eqb kind2 1 ≡ true → eqb id id2 ≡ same_neighbour (entry id 0 kind 0 0) (entry id2 0 kind2 0 0)
-unfolding same_neighbour
-apart_third id id2 kind kind2 e f = rw (e, f)
