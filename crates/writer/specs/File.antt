@@ -11,7 +11,7 @@ Holds bytes file = (file ≡ pad 6656 bytes) × (length file ≡ 6656)
 
 -- so many routers, links, prefixes, and attachments of each prefix as a file has room for
 pub record Small (network : Network) : Type 0 where
-  pub few_routers : network.routers ≤ 64
-  pub few_links : network.links ≤ 128
-  pub few_prefixes : network.prefixes ≤ 128
-  pub few_attached : (p : ℕ) → p < network.prefixes → get_or network.attached p 0 ≤ 8
+  pub few_routers : network.links.routers ≤ 64
+  pub few_links : network.links.links ≤ 128
+  pub few_prefixes : network.links.prefixes ≤ 128
+  pub few_attached : (p : ℕ) → p < network.links.prefixes → get_or network.attached p 0 ≤ 8

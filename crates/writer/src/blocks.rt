@@ -1,5 +1,5 @@
 // Blocks of 512 bytes, each put together in a block of zeros.
-ghost use Rattle.std.specs.Prelude.{◌≡◌, ◌∷◌, ◌++◌, ℕ, ◌+◌, ◌-◌, ◌*◌, ◌≤◌, ◌<◌, min, length, get_or};
+ghost use Rattle.std.specs.Prelude.{◌≡◌, ◌∷◌, ◌++◌, ℕ, ◌+◌, ◌-◌, ◌*◌, ◌≤◌, ◌<◌, length, get_or};
 ghost use Rattle.lfa.specs.File.{check_of};
 ghost use Rattle.lfa.specs.FileOf.{word_bytes, pad, block_bytes};
 ghost use Rattle.writer.specs.Put.{put_at};
@@ -7,6 +7,8 @@ ghost use Rattle.writer.specs.Block.{ZeroBlock, link_entry_in, prefix_entry_in, 
 
 use super::put::{put_four, put_link, put_prefix, put_word};
 use block_check::check_of;
+use metric::columns::{Links, Slots};
+use network_file::network::Network;
 
 // Puts the check at the end of a block.
 fn seal(block: &mut [u8])
@@ -28,103 +30,67 @@ pub(crate) fn head_block(routers: u8, links: u16, prefixes: u16, block: &mut [u8
     seal(block);
 }
 
-// How many entries the block has whose first entry is number `first`: `each`, but in the last block what is left.
-fn entries_from(each: usize, total: usize, first: usize) -> usize
-    requires { first ≤ total }
-    ensures { result ≡ min each (total - first) }
-{
-    let left = total - first;
-    if left < each {
-        return left;
-    }
-    each
-}
-
 // A block of links up to its last entry.
-fn link_entries<'a>(
-    from: &'a [u8; 128],
-    to: &'a [u8; 128],
-    out: &'a [u16; 128],
-    back: &'a [u16; 128],
-    first: usize,
-    count: usize,
-    number: u16,
-    block: &mut [u8],
-)
+fn link_entries(links: &Links, first: usize, count: usize, number: u16, block: &mut [u8])
     requires { ZeroBlock block.old × (first + count ≤ 128) × (count ≤ 84) }
     ensures { block.new ≡ pad 512 (first_entries 2 count number
-        (link_entry_in from.now to.now out.now back.now first) count) }
+        (link_entry_in links.now.from links.now.to links.now.out links.now.back first) count) }
 {
     put_four(block, 0, 2, count as u8, number);
-    let mut i: usize = 0;
-    while i < count {
+    for i in 0..count {
         let k = first + i;
-        put_link(block, 4 + 6 * i, from[k], to[k], out[k], back[k]);
-        i += 1;
+        put_link(
+            block,
+            4 + 6 * i,
+            links.from[k],
+            links.to[k],
+            links.out[k],
+            links.back[k],
+        );
     }
 }
 
 // Link block j.
-pub(crate) fn link_block<'a>(
-    from: &'a [u8; 128],
-    to: &'a [u8; 128],
-    out: &'a [u16; 128],
-    back: &'a [u16; 128],
-    links: usize,
-    j: usize,
-    block: &mut [u8],
-)
-    requires { ZeroBlock block.old × (links ≤ 128) × (84 * j < links) }
-    ensures { block.new ≡ link_block_in from.now to.now out.now back.now links j }
+pub(crate) fn link_block(links: &Links, j: usize, block: &mut [u8])
+    requires { ZeroBlock block.old × (links.now.links ≤ 128) × (84 * j < links.now.links) }
+    ensures { block.new ≡ link_block_in links.now.from links.now.to links.now.out links.now.back links.now.links j }
 {
     let first = 84 * j;
-    let count = entries_from(84, links, first);
+    let count = (links.links - first).min(84);
     let number = (1 + j) as u16;
-    link_entries(from, to, out, back, first, count, number, block);
+    link_entries(links, first, count, number, block);
     seal(block);
 }
 
 // A block of prefixes up to its last entry.
-fn prefix_entries<'a>(
-    attached: &'a [u8; 128],
-    routers: &'a [u8; 1024],
-    costs: &'a [u16; 1024],
-    first: usize,
-    count: usize,
-    number: u16,
-    block: &mut [u8],
-)
+fn prefix_entries(network: &Network, first: usize, count: usize, number: u16, block: &mut [u8])
     requires { ZeroBlock block.old × (first + count ≤ 128) × (count ≤ 14)
-        × ((p : ℕ) → p < first + count → get_or attached.now p 0 ≤ 8) }
+        × ((p : ℕ) → p < first + count → get_or network.now.attached p 0 ≤ 8) }
     ensures { block.new ≡ pad 512 (first_entries 3 count number
-        (prefix_entry_in attached.now routers.now costs.now first) count) }
+        (prefix_entry_in network.now.attached network.now.at network.now.own first) count) }
 {
     put_four(block, 0, 3, count as u8, number);
-    let mut i: usize = 0;
-    while i < count {
+    for i in 0..count {
         let p = first + i;
-        put_prefix(block, 4 + 34 * i, attached[p], routers, costs, 8 * p);
-        i += 1;
+        let slots = Slots {
+            at: &network.at,
+            own: &network.own,
+            first: 8 * p,
+            count: usize::from(network.attached[p]),
+        };
+        put_prefix(block, 4 + 34 * i, &slots);
     }
 }
 
 // Prefix block j, where so many blocks stand before the prefix blocks.
-pub(crate) fn prefix_block<'a>(
-    attached: &'a [u8; 128],
-    routers: &'a [u8; 1024],
-    costs: &'a [u16; 1024],
-    prefixes: usize,
-    ahead: usize,
-    j: usize,
-    block: &mut [u8],
-)
-    requires { ZeroBlock block.old × (prefixes ≤ 128) × (14 * j < prefixes) × (ahead ≤ 3)
-        × ((p : ℕ) → p < prefixes → get_or attached.now p 0 ≤ 8) }
-    ensures { block.new ≡ prefix_block_in attached.now routers.now costs.now prefixes ahead j }
+pub(crate) fn prefix_block(network: &Network, ahead: usize, j: usize, block: &mut [u8])
+    requires { ZeroBlock block.old × (network.now.links.prefixes ≤ 128) × (14 * j < network.now.links.prefixes) × (ahead ≤ 3)
+        × ((p : ℕ) → p < network.now.links.prefixes → get_or network.now.attached p 0 ≤ 8) }
+    ensures { block.new ≡ prefix_block_in network.now.attached network.now.at network.now.own network.now.links.prefixes ahead j }
 {
     let first = 14 * j;
-    let count = entries_from(14, prefixes, first);
+    let count = (network.links.prefixes - first).min(14);
     let number = (ahead + j) as u16;
-    prefix_entries(attached, routers, costs, first, count, number, block);
+    prefix_entries(network, first, count, number, block);
     seal(block);
 }

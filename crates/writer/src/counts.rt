@@ -4,7 +4,6 @@ ghost use Rattle.lfa.specs.Lists.{every_below};
 ghost use Rattle.lfa.specs.Writing.{counts_fit};
 ghost use Rattle.network_file.specs.Held.{network_held};
 
-use metric::read::wide;
 use network_file::network::Network;
 
 // Whether the entry of each prefix has room for its attachments.
@@ -12,24 +11,22 @@ fn entries_fit(attached: &[u8; 128], prefixes: usize) -> bool
     requires { prefixes ≤ 128 }
     ensures { result ≡ every_below (λ p. leb (get_or attached.now p 0) 8) prefixes }
 {
-    let mut p: usize = 0;
-    while p < prefixes {
-        if 8 < wide(attached[p]) {
+    for p in 0..prefixes {
+        if 8 < attached[p] {
             return false;
         }
-        p += 1;
     }
     true
 }
 
-pub(crate) fn counts_fit(network: Network) -> bool
-    ensures { result ≡ counts_fit (network_held network) }
+pub(crate) fn counts_fit(network: &Network) -> bool
+    ensures { result ≡ counts_fit (network_held network.now) }
 {
-    let prefixes = network.prefixes;
-    if 64 < network.routers {
+    let prefixes = network.links.prefixes;
+    if 64 < network.links.routers {
         return false;
     }
-    if 128 < network.links {
+    if 128 < network.links.links {
         return false;
     }
     if 128 < prefixes {

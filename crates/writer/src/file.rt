@@ -8,101 +8,60 @@ ghost use Rattle.writer.specs.Block.{link_block_in, prefix_block_in};
 ghost use Rattle.writer.specs.File.{Holds, Small};
 
 use super::blocks::{head_block, link_block, prefix_block};
+use metric::columns::Links;
 use network_file::network::Network;
 
 // Puts the head at the start.
-fn put_head(routers: usize, links: usize, prefixes: usize, file: &mut [u8])
-    requires { (routers ≤ 64) × (links ≤ 128) × (prefixes ≤ 128) × Holds [] file.old }
-    ensures { Holds (block_bytes 1 0 0 (routers ∷ 0 ∷ word_bytes links ++ word_bytes prefixes)) file.new }
+fn put_head(links: &Links, file: &mut [u8])
+    requires { (links.now.routers ≤ 64) × (links.now.links ≤ 128) × (links.now.prefixes ≤ 128) × Holds [] file.old }
+    ensures { Holds (block_bytes 1 0 0 (links.now.routers ∷ 0 ∷ word_bytes links.now.links ++ word_bytes links.now.prefixes)) file.new }
 {
     head_block(
-        routers as u8,
-        links as u16,
-        prefixes as u16,
+        links.routers as u8,
+        links.links as u16,
+        links.prefixes as u16,
         &mut file[0..512],
     );
 }
 
 // Puts the link blocks after the head, and returns how many they are.
-fn put_link_blocks<'a>(
-    from: &'a [u8; 128],
-    to: &'a [u8; 128],
-    out: &'a [u16; 128],
-    back: &'a [u16; 128],
-    links: usize,
-    file: &mut [u8],
-) -> usize
-    requires { (links ≤ 128) × Holds (take 512 file.old) file.old }
-    ensures { (result ≡ link_blocks links) × Holds (take 512 file.old ++ flat (map
-        (link_block_in from.now to.now out.now back.now links) (below (link_blocks links)))) file.new }
+fn put_link_blocks(links: &Links, file: &mut [u8]) -> usize
+    requires { (links.now.links ≤ 128) × Holds (take 512 file.old) file.old }
+    ensures { (result ≡ link_blocks links.now.links) × Holds (take 512 file.old ++ flat (map
+        (link_block_in links.now.from links.now.to links.now.out links.now.back links.now.links) (below (link_blocks links.now.links)))) file.new }
 {
-    let mut j: usize = 0;
-    while 84 * j < links {
+    let blocks = links.links.div_ceil(84);
+    for j in 0..blocks {
         let start = 512 * (1 + j);
         let end = start + 512;
-        link_block(from, to, out, back, links, j, &mut file[start..end]);
-        j += 1;
+        link_block(links, j, &mut file[start..end]);
     }
-    j
+    blocks
 }
 
 // Puts the prefix blocks after the blocks ahead of them, and returns how many they are.
-fn put_prefix_blocks<'a>(
-    attached: &'a [u8; 128],
-    routers: &'a [u8; 1024],
-    costs: &'a [u16; 1024],
-    prefixes: usize,
-    ahead: usize,
-    file: &mut [u8],
-) -> usize
-    requires { (prefixes ≤ 128) × (ahead ≤ 3) × Holds (take (512 * ahead) file.old) file.old
-        × ((p : ℕ) → p < prefixes → get_or attached.now p 0 ≤ 8) }
-    ensures { (result ≡ prefix_blocks prefixes) × Holds (take (512 * ahead) file.old ++ flat (map
-        (prefix_block_in attached.now routers.now costs.now prefixes ahead) (below (prefix_blocks prefixes)))) file.new }
+fn put_prefix_blocks(network: &Network, ahead: usize, file: &mut [u8]) -> usize
+    requires { (network.now.links.prefixes ≤ 128) × (ahead ≤ 3) × Holds (take (512 * ahead) file.old) file.old
+        × ((p : ℕ) → p < network.now.links.prefixes → get_or network.now.attached p 0 ≤ 8) }
+    ensures { (result ≡ prefix_blocks network.now.links.prefixes) × Holds (take (512 * ahead) file.old ++ flat (map
+        (prefix_block_in network.now.attached network.now.at network.now.own network.now.links.prefixes ahead) (below (prefix_blocks network.now.links.prefixes)))) file.new }
 {
-    let mut j: usize = 0;
-    while 14 * j < prefixes {
+    let blocks = network.links.prefixes.div_ceil(14);
+    for j in 0..blocks {
         let start = 512 * (ahead + j);
         let end = start + 512;
-        prefix_block(
-            attached,
-            routers,
-            costs,
-            prefixes,
-            ahead,
-            j,
-            &mut file[start..end],
-        );
-        j += 1;
+        prefix_block(network, ahead, j, &mut file[start..end]);
     }
-    j
+    blocks
 }
 
 // Puts the whole file, and returns its length.
-pub(crate) fn compose(network: Network, file: &mut [u8]) -> usize
-    requires { Small network × Holds [] file.old }
-    ensures { (result ≡ length (file_of (network_held network))) × Holds (file_of (network_held network)) file.new }
+pub(crate) fn compose(network: &Network, file: &mut [u8]) -> usize
+    requires { Small network.now × Holds [] file.old }
+    ensures { (result ≡ length (file_of (network_held network.now))) × Holds (file_of (network_held network.now)) file.new }
 {
-    let routers = network.routers;
-    let links = network.links;
-    let prefixes = network.prefixes;
-    put_head(routers, links, prefixes, file);
-    let first = 1
-        + put_link_blocks(
-            &network.from,
-            &network.to,
-            &network.out,
-            &network.back,
-            links,
-            file,
-        );
-    let more = put_prefix_blocks(
-        &network.attached,
-        &network.at,
-        &network.own,
-        prefixes,
-        first,
-        file,
-    );
-    512 * (first + more)
+    put_head(&network.links, file);
+    let ahead = 1 + put_link_blocks(&network.links, file);
+    let more = put_prefix_blocks(network, ahead, file);
+    512 * (ahead + more)
 }

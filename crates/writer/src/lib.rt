@@ -1,4 +1,4 @@
-// Writes a network, which is handed in by value, into a lent buffer as document 01's network file.
+// Writes a network into a lent buffer as document 01's network file.
 //
 // The file is put together in a buffer of our own, which has room for the largest file, and then the reader judges it. So the limits of
 // links and prefixes are told by the reader alone, and the lent buffer is touched only where the whole file is written.
@@ -7,13 +7,13 @@
 ghost use Rattle.std.specs.Prelude.{◌≡◌, true};
 ghost use Rattle.lfa.specs.Network as lfa;
 ghost use Rattle.lfa.specs.FileOf.{file_of};
-ghost use Rattle.lfa.specs.Writing.{counts_fit, passes_rows, Wrote};
+ghost use Rattle.lfa.specs.Writing.{counts_fit, Wrote};
 ghost use Rattle.network_file.specs.Held.{network_held};
 
 use counts::counts_fit;
 use file::compose;
+use network_file::judge;
 use network_file::network::Network;
-use network_file::{Verdict, judge};
 use put::put_bytes;
 
 mod blocks;
@@ -21,24 +21,13 @@ mod counts;
 mod file;
 mod put;
 
-// Whether the reader accepts a file.
-fn is_accepted(file: &[u8]) -> bool
-    ensures { result ≡ passes_rows file.now }
-{
-    let verdict = judge(file);
-    match verdict {
-        Verdict::Accepted => true,
-        Verdict::Refused(_) => false,
-    }
-}
-
 // Writes a file that the reader accepts into a buffer that is not shorter, and returns its length; else nothing, and 0.
 fn write_accepted(file: &[u8], buffer: &mut [u8]) -> usize
     ensures { (net : lfa.Network) → counts_fit net ≡ true → file.now ≡ file_of net
         → Wrote net result buffer.old buffer.new }
 {
     let size = file.len();
-    if !is_accepted(file) {
+    if judge(file).is_err() {
         return 0;
     }
     if buffer.len() < size {
@@ -50,8 +39,8 @@ fn write_accepted(file: &[u8], buffer: &mut [u8]) -> usize
 
 // Writes the file of the network that the columns hold, and returns its length; 0, and nothing is written, where the network is not
 // within the limits of document 01 or the buffer is shorter than the file.
-pub fn write(network: Network, buffer: &mut [u8]) -> usize
-    ensures { Wrote (network_held network) result buffer.old buffer.new }
+pub fn write(network: &Network, buffer: &mut [u8]) -> usize
+    ensures { Wrote (network_held network.now) result buffer.old buffer.new }
 {
     if !counts_fit(network) {
         return 0;

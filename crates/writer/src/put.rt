@@ -6,15 +6,16 @@ ghost use Rattle.lfa.specs.FileOf.{word_bytes, link_bytes, slot_bytes};
 ghost use Rattle.metric.specs.Column.{slots_in};
 ghost use Rattle.writer.specs.Put.{put_at};
 
-use metric::read::wide;
+use metric::columns::Slots;
 
 // Puts a 16-bit field, least byte first.
 pub(crate) fn put_word(bytes: &mut [u8], at: usize, word: u16)
     requires { at + 2 ≤ length bytes.old }
     ensures { bytes.new ≡ put_at at (word_bytes word) bytes.old }
 {
-    bytes[at] = (word % 256) as u8;
-    bytes[at + 1] = (word / 256) as u8;
+    let [low, high] = word.to_le_bytes();
+    bytes[at] = low;
+    bytes[at + 1] = high;
 }
 
 // Puts two bytes and a 16-bit field.
@@ -36,43 +37,27 @@ pub(crate) fn put_link(bytes: &mut [u8], at: usize, a: u8, b: u8, out: u16, back
     put_word(bytes, at + 4, back);
 }
 
-// Puts the slots of a prefix, `count` of them from `slot` on.
-fn put_slots<'a>(
-    bytes: &mut [u8],
-    at: usize,
-    routers: &'a [u8; 1024],
-    costs: &'a [u16; 1024],
-    slot: usize,
-    count: usize,
-)
-    requires { (at + 4 * count ≤ length bytes.old) × (slot + count ≤ 1024) }
+// Puts the slots of a prefix.
+fn put_slots(bytes: &mut [u8], at: usize, slots: &Slots<'_>)
+    requires { (at + 4 * slots.now.count ≤ length bytes.old) × (slots.now.first + slots.now.count ≤ 1024) }
     ensures { bytes.new
-        ≡ put_at at (flat (map slot_bytes (slots_in routers.now costs.now slot count))) bytes.old }
+        ≡ put_at at (flat (map slot_bytes (slots_in slots.now.at.now slots.now.own.now slots.now.first slots.now.count))) bytes.old }
 {
-    let mut s: usize = 0;
-    while s < count {
-        let k = slot + s;
-        put_four(bytes, at + 4 * s, routers[k], 0, costs[k]);
-        s += 1;
+    for s in 0..slots.count {
+        let k = slots.first + s;
+        put_four(bytes, at + 4 * s, slots.at[k], 0, slots.own[k]);
     }
 }
 
 // Puts the used part of the entry of a prefix: how many are attached, a zero byte, and their slots.
-pub(crate) fn put_prefix<'a>(
-    bytes: &mut [u8],
-    at: usize,
-    attached: u8,
-    routers: &'a [u8; 1024],
-    costs: &'a [u16; 1024],
-    slot: usize,
-)
-    requires { (at + 34 ≤ length bytes.old) × (attached ≤ 8) × (slot + 8 ≤ 1024) }
+pub(crate) fn put_prefix(bytes: &mut [u8], at: usize, slots: &Slots<'_>)
+    requires { (at + 34 ≤ length bytes.old) × (slots.now.count ≤ 8) × (slots.now.first + 8 ≤ 1024) }
     ensures { bytes.new
-        ≡ put_at at (attached ∷ 0 ∷ flat (map slot_bytes (slots_in routers.now costs.now slot attached))) bytes.old }
+        ≡ put_at at (slots.now.count ∷ 0 ∷ flat (map slot_bytes (slots_in slots.now.at.now slots.now.own.now slots.now.first slots.now.count))) bytes.old }
 {
-    bytes[at] = attached;
+    bytes[at] = slots.count as u8;
     bytes[at + 1] = 0;
-    put_slots(bytes, at + 2, routers, costs, slot, wide(attached));
+    put_slots(bytes, at + 2, slots);
 }
 
 // Puts bytes at the start.
@@ -80,9 +65,5 @@ pub(crate) fn put_bytes(buffer: &mut [u8], bytes: &[u8])
     requires { length bytes.now ≤ length buffer.old }
     ensures { buffer.new ≡ put_at 0 bytes.now buffer.old }
 {
-    let mut i: usize = 0;
-    while i < bytes.len() {
-        buffer[i] = bytes[i];
-        i += 1;
-    }
+    buffer[..bytes.len()].copy_from_slice(bytes);
 }
