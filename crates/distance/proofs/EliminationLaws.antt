@@ -1,16 +1,13 @@
 -- Elimination and substitution, router by router: over which routers no detour is shorter, and that no cell falls too far.
 -- Assumes nothing.
-use Prim.Native.Nat.{ℕ, ◌+◌, ◌*◌, ◌≤◌, ◌<◌}
-use mathlib.Core.Path.{◌≡◌, ap, ◌∙◌}
+use Prim.Native.Nat.{ℕ, ◌+◌, ◌≤◌, ◌<◌}
+use mathlib.Core.Path.{◌≡◌, ap}
 use mathlib.Core.Logic.{inl, inr}
 use mathlib.Core.List.{List}
 use native.Mathlib.Omega.{arith}
-use native.Mathlib.Nat.{zero-add}
 use native.Mathlib.Decide.{dec_lt, ℕ_discrete}
-use lib.Arith.{digits_lt}
-use lib.ListN.{get_or}
 use Rattle.metric.specs.Area.{area_cell}
-use Rattle.distance.specs.Cells.{Limited, Stored, RowsLowered, Triangular, Above, Fallen, Eliminated, Substituted}
+use Rattle.distance.specs.Cells.{Limited, RowsLowered, Triangular, Above, Fallen, Eliminated, Substituted}
 
 -- ---- cells that fall
 
@@ -71,18 +68,11 @@ eliminated_more {n} {m} {before} {cells} {after} hm gone low = record {
 
 -- ---- substitution
 
--- the weights are the cells, copied
-pub record Copied (n : ℕ) (cells copy : List ℕ) : Type 0 where
-  pub same : (i j : ℕ) → i < n → j < n → area_cell n copy i j ≡ area_cell n cells i j
-
-pub stored_copied : (n : ℕ) (cells : List ℕ) {old copy : List ℕ} → Stored (n * n) (λ j. get_or cells (0 + j) 0) old copy → Copied n cells copy
-stored_copied n cells stored = record { same = λ i j hi hj. stored.done (i * n + j) (digits_lt hi hj) ∙ ap (λ (x : ℕ). get_or cells x 0) (zero-add (i * n + j)) }
-
 -- The row of router m is substituted too. The rows after it are lowered by it, and it is not lowered any more.
-pub substituted_more : {n m : ℕ} {weights before cells after : List ℕ} → m < n → Copied n before weights →
+pub substituted_more : {n m : ℕ} {weights before cells after : List ℕ} → m < n → weights ≡ before →
     Substituted n m before cells → RowsLowered n m (m + 1) n (λ i. area_cell n weights i m) cells after → Substituted n (m + 1) before after
 substituted_more {n} {m} {weights} {before} {cells} {after} hm copied put low = record {
-  fallen = fallen_more hm put.fallen low (λ d t h i hi. omega (arith, copied.same i m hi hm, h i m hi hm));
+  fallen = fallen_more hm put.fallen low (λ d t h i hi. omega (arith, ap (λ (l : List ℕ). area_cell n l i m) copied, h i m hi hm));
   over = λ i k j l h hi hj. over i k j l h hi hj (dec_lt m i) (ℕ_discrete k m);
 }
   where
@@ -90,6 +80,6 @@ substituted_more {n} {m} {weights} {before} {cells} {after} hm copied put low = 
     same i j h hj = low.rest i j (inl (omega arith)) (omega arith) hj
 
     over : (i k j : ℕ) → k < i → k < m + 1 → i < n → j < n → Dec (m < i) → Dec (k ≡ m) → area_cell n after i j ≤ area_cell n before i k + area_cell n after k j
-    over i k j l h hi hj (yes s) (yes e) = rw e (omega (arith, low.low i j (omega arith) hi hi hj, copied.same i m hi hm, same m j (omega arith) hj))
+    over i k j l h hi hj (yes s) (yes e) = rw e (omega (arith, low.low i j (omega arith) hi hi hj, ap (λ (l : List ℕ). area_cell n l i m) copied, same m j (omega arith) hj))
     over i k j l h hi hj (yes s) (no e) = omega (arith, low.low i j (omega arith) hi hi hj, same k j (omega arith) hj, put.over i k j l (omega arith) hi hj)
     over i k j l h hi hj (no s) _ = omega (arith, same i j (omega arith) hj, same k j (omega arith) hj, put.over i k j l (omega arith) hi hj)

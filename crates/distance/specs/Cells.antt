@@ -51,20 +51,14 @@ pub record CostsCapped (hops : List Arc) : Type 0 where
 
 -- the numbers are the cells of row k
 pub record RowOf (n k : ℕ) (cells row : List ℕ) : Type 0 where
+  pub long : length row ≡ n
   pub same : (j : ℕ) → j < n → get_or row j 0 ≡ area_cell n cells k j
 
--- a row of n cells stands from `at` on, and no number that lowers it or is lowered exceeds the limit
-pub record RowReady (n d at : ℕ) (by cells : List ℕ) : Type 0 where
-  pub few : n ≤ 64
-  pub inside : at + n ≤ length cells
-  pub small_by : (j : ℕ) → j < n → get_or by j 0 ≤ limit
-  pub small : (j : ℕ) → j < n → get_or cells (at + j) 0 ≤ limit
-
--- the first m cells of the row from `at` on are lowered to d plus the other row's, and the other cells are as they were
-pub record RowLowered (d at m : ℕ) (by before after : List ℕ) : Type 0 where
-  pub long : length after ≡ length before
-  pub done : (j : ℕ) → j < m → get_or after (at + j) 0 ≡ min (get_or before (at + j) 0) (d + get_or by j 0)
-  pub rest : (i : ℕ) → ((j : ℕ) → j < m → i ≡ at + j → ⊥) → get_or after i 0 ≡ get_or before i 0
+-- the rows are as long as each other, and no number that lowers or is lowered exceeds the limit
+pub record RowReady (d : ℕ) (by row : List ℕ) : Type 0 where
+  pub long : length by ≡ length row
+  pub small_by : (j : ℕ) → j < length row → get_or by j 0 ≤ limit
+  pub small : (j : ℕ) → j < length row → get_or row j 0 ≤ limit
 
 -- the rows from `first` up to `last` are lowered to what each has as a weight plus row k, and the other rows are as they were
 pub record RowsLowered (n k first last : ℕ) (weight : ℕ → ℕ) (before after : List ℕ) : Type 0 where

@@ -4,58 +4,49 @@
 // row. So row i comes to hold the least costs of the paths that pass only through routers after i. Substitution goes from the first
 // router on: the row of each later router is lowered to its cell of that router, as elimination left it, plus that router's row, which
 // holds the distances by then. A row whose cell is the limit is passed over: most are, where routers have few links.
-ghost use Rattle.std.specs.Prelude.{◌≡◌, ◌+◌, ◌*◌, ◌≤◌, ◌<◌, length, get_or};
+ghost use Rattle.std.specs.Prelude.{◌≡◌, ◌+◌, ◌*◌, ◌<◌, min, length, get_or};
 ghost use Rattle.lfa.specs.Distance.{stage, distance_in};
 ghost use Rattle.metric.specs.Fit.{ColumnsWithin};
 ghost use Rattle.metric.specs.Area.{area_cell};
 ghost use Rattle.metric.specs.Columns.{arcs_in};
-ghost use Rattle.distance.specs.Cells.{Cells, Limited, Stored, RowReady, RowLowered, RowOf, RowsLowered, Eliminated, Substituted, finished};
+ghost use Rattle.distance.specs.Cells.{Cells, Limited, Stored, RowReady, RowOf, RowsLowered, Eliminated, Substituted, finished};
 
 use crate::direct::{LIMIT, least, lower_links, lower_self_loops};
 use metric::Distance;
 use metric::columns::Links;
 
-// Copies so many cells from `at` on.
-fn copy_cells(count: usize, at: usize, cells: &[u32], copy: &mut [u32])
-    requires { (at + count ≤ length cells.now) × (count ≤ length copy.old) }
-    ensures { Stored count (λ j. get_or cells.now (at + j) 0) copy.old copy.new }
-{
-    copy[..count].copy_from_slice(&cells[at..at + count]);
-}
-
-// Lowers each cell of the row from `at` on to d plus the cell of another row. Where d is the limit nothing falls. There is no branch in
-// the loop, and the other row is a copy, so that four cells are lowered at once.
-fn lower_row(n: usize, d: u32, at: usize, by: &[u32; 64], cells: &mut [u32])
-    requires { RowReady n d at by.now cells.old }
-    ensures { RowLowered d at n by.now cells.old cells.new }
+// Lowers each cell of a row to d plus the cell of another row. Where d is the limit nothing falls. There is no branch in the loop, and the
+// other row is a copy, so that four cells are lowered at once.
+fn lower_row(d: u32, by: &[u32], row: &mut [u32])
+    requires { RowReady d by.now row.old }
+    ensures { Stored (length row.old) (λ j. min (get_or row.old j 0) (d + get_or by.now j 0)) row.old row.new }
 {
     if LIMIT <= d {
         return;
     }
-    for j in 0..n {
-        cells[at + j] = least(d + by[j], cells[at + j]);
+    for (j, cell) in row.iter_mut().enumerate() {
+        *cell = least(d + by[j], *cell);
     }
 }
 
 // Lowers the rows before row k by a copy of it.
-fn lower_earlier(n: usize, k: usize, by: &[u32; 64], cells: &mut [u32])
+fn lower_earlier(n: usize, k: usize, by: &[u32], cells: &mut [u32])
     requires { Limited n cells.old × (k < n) × RowOf n k cells.old by.now }
     ensures { RowsLowered n k 0 k (λ i. area_cell n cells.old i k) cells.old cells.new }
 {
     for i in 0..k {
-        let at = i * n;
-        lower_row(n, cells[at + k], at, by, cells);
+        let row = &mut cells[i * n..(i + 1) * n];
+        lower_row(row[k], by, row);
     }
 }
 
 // Lowers the rows after row k by a copy of it, each by its cell k of the weights.
-fn lower_later(n: usize, k: usize, weights: &[u32; 4096], by: &[u32; 64], cells: &mut [u32])
-    requires { Limited n cells.old × (k < n) × RowOf n k cells.old by.now }
+fn lower_later(n: usize, k: usize, weights: &[u32], by: &[u32], cells: &mut [u32])
+    requires { Limited n cells.old × (k < n) × RowOf n k cells.old by.now × (length weights.now ≡ n * n) }
     ensures { RowsLowered n k (k + 1) n (λ i. area_cell n weights.now i k) cells.old cells.new }
 {
     for i in k + 1..n {
-        let at = i * n;
-        lower_row(n, weights[at + k], at, by, cells);
+        lower_row(weights[i * n + k], by, &mut cells[i * n..(i + 1) * n]);
     }
 }
 
@@ -64,10 +55,11 @@ fn eliminate(n: usize, cells: &mut [u32])
     requires { Limited n cells.old }
     ensures { Eliminated n 0 cells.old cells.new }
 {
-    let mut by = [0; 64];
+    let mut copy = [0; 64];
+    let by = &mut copy[..n];
     for k in (0..n).rev() {
-        copy_cells(n, k * n, cells, &mut by);
-        lower_earlier(n, k, &by, cells);
+        by.copy_from_slice(&cells[k * n..(k + 1) * n]);
+        lower_earlier(n, k, by, cells);
     }
 }
 
@@ -76,12 +68,14 @@ fn substitute(n: usize, cells: &mut [u32])
     requires { Limited n cells.old }
     ensures { Substituted n n cells.old cells.new }
 {
-    let mut weights = [0; 4096];
-    copy_cells(n * n, 0, cells, &mut weights);
-    let mut by = [0; 64];
+    let mut all = [0; 4096];
+    let weights = &mut all[..n * n];
+    weights.copy_from_slice(cells);
+    let mut copy = [0; 64];
+    let by = &mut copy[..n];
     for k in 0..n {
-        copy_cells(n, k * n, cells, &mut by);
-        lower_later(n, k, &weights, &by, cells);
+        by.copy_from_slice(&cells[k * n..(k + 1) * n]);
+        lower_later(n, k, weights, by, cells);
     }
 }
 

@@ -1,7 +1,6 @@
 -- The routers from k on are eliminated.
-use Rattle.std.proofs.Common.{◌≡◌, length}
 use Rattle.distance.specs.Cells.{Eliminated}
 use Rattle.distance.proofs.rows.eliminate.Given as goal
 
 abbrev pub invariant-loop-k : goal.invariant-loop-k
-invariant-loop-k l = Eliminated l.n l.k l.fn.cells l.cells × (length l.by ≡ 64)
+invariant-loop-k l = Eliminated l.n l.k l.fn.cells l.cells

@@ -1,7 +1,6 @@
 -- The rows of the first k routers are substituted.
-use Rattle.std.proofs.Common.{◌≡◌, length}
 use Rattle.distance.specs.Cells.{Substituted}
 use Rattle.distance.proofs.rows.substitute.Given as goal
 
 abbrev pub invariant-loop-k : goal.invariant-loop-k
-invariant-loop-k l = Substituted l.n l.k l.fn.cells l.cells × (length l.by ≡ 64)
+invariant-loop-k l = Substituted l.n l.k l.fn.cells l.cells
