@@ -22,7 +22,7 @@ use Rattle.metric.specs.Area.{cell_in}
 use Rattle.metric.proofs.Laws.List.{below_more, select_append}
 use Rattle.order.specs.declared.Ordered.{Ordered}
 use Rattle.order.specs.Order.{keys_in, earlier_of, class_by}
-use Rattle.search.specs.Choice.{first_of, FirstEnd, KeysBelow, KeysOf, KeysFit, KeyOf, ordered_at, may_end, hop_pairs}
+use Rattle.search.specs.Choice.{first_of, FirstEnd, KeysBelow, KeysOf, KeyOf, ordered_at, may_end, hop_pairs}
 use Rattle.search.proofs.ChoiceLaws.{first_append}
 
 -- ---- keys
@@ -45,9 +45,6 @@ key_more {rank} ranks keys k h e small before class j = go (ℕ_discrete class k
     go : Dec (class ≡ k) → (get_or (set keys k (4294967296 * rank)) class 0 ≡ 4294967296 * rank_of ranks class) × (rank_of ranks class < 256)
     go (yes q) = rw q (get_or-set_same keys k (4294967296 * rank) 0 h ∙ ap (λ (r : ℕ). 4294967296 * r) e, small)
     go (no q) = let b = before class (omega arith) in (get_or-set_other keys k class (4294967296 * rank) 0 q ∙ b.0, b.1)
-
-pub keys_fit : (ranks keys : List ℕ) → KeysOf ranks keys → KeysFit keys
-keys_fit ranks keys known class h = omega (arith, (known class h).0, (known class h).1)
 
 -- the key of a pair among those of one first hop
 pub record KeyIs (o : Ordered) (key : ℕ) : Type 0 where

@@ -70,10 +70,6 @@ KeysBelow count ranks keys = (class : ℕ) → class < count → (get_or keys cl
 abbrev pub KeysOf : (ranks keys : List ℕ) → Type 0
 KeysOf ranks keys = KeysBelow classes ranks keys
 
--- with a distance added, such numbers are below the highest of 64 bits
-abbrev pub KeysFit : (keys : List ℕ) → Type 0
-KeysFit keys = (class : ℕ) → class < classes → get_or keys class 0 < 1099511627776
-
 -- the key of the endpoint y of a first hop, by the keys of the classes; a distance is below 2 to the power 32
 pub record KeyOf (keys : List ℕ) (n : ℕ) (area : List ℕ) (near : ℕ) (column : List ℕ) (first protecting y key : ℕ) : Type 0 where
   pub sum : key ≡ get_or keys (class_by first y (get_or column y 0) (get_or column near 0) (has protecting y)) 0 + cell_in n area near y

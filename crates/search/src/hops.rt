@@ -14,13 +14,15 @@ use metric::columns::Links;
 pub(crate) struct FirstHops {
     pub(crate) count: usize,
     pub(crate) arcs: [u8; 256],
+    ghost few: { count ≤ 256 },
 }
 
 impl FirstHops {
     // Puts an arc after those listed, where it is a first hop.
     fn put(&mut self, arc: u8, links: &Links, protected: Protected)
-        requires { (self.old.count < 256) × (length self.old.arcs ≡ 256) }
-        ensures { Put (leaves_near (asked protected) links.now.from links.now.to links.now.out links.now.back arc) arc self.old.count self.old.arcs self.new.count self.new.arcs }
+        requires { self.old.count < 256 }
+        ensures { Put (leaves_near (asked protected) links.now.from links.now.to links.now.out links.now.back arc) arc
+            self.old.count self.old.arcs self.new.count self.new.arcs }
     {
         if leaves(arc, links, protected) {
             self.arcs[self.count] = arc;

@@ -14,7 +14,7 @@ use metric::columns::{Links, Slots};
 use metric::read::Area;
 use network_file::network::Network;
 use order::Pair;
-use pair::{Sought, link_found, prefix_found};
+use pair::{link_found, prefix_found};
 use protected::protect;
 use space::space_of;
 
@@ -106,11 +106,6 @@ pub fn prefix_pair(
     };
     let target = towards_prefix(&area, &slots);
     let ends = attached_routers(&slots);
-    let sought = Sought {
-        ranks,
-        area,
-        protected: protect(links, link, end),
-        target: &target,
-    };
-    prefix_found(links, &sought, ends)
+    let protected = protect(links, link, end);
+    prefix_found(links, ranks, protected, &area, &target, ends)
 }

@@ -24,7 +24,8 @@ pub(crate) fn can_search(links: &Links, protected: Protected, area: &Area<'_>) -
 }
 
 // For each first hop, stores the set of the routers that it avoids the link on the way to, and tells those that one of them does: extended
-// P. Beyond which arcs are first hops, costs have no part in it.
+// P. Beyond which arcs are first hops, costs have no part in it. The sets have a column of their own beside that of the arcs: there is no
+// heap for a list of pairs.
 pub(crate) fn reached(
     links: &Links,
     protected: Protected,
@@ -32,7 +33,6 @@ pub(crate) fn reached(
     hops: &FirstHops,
     sets: &mut [u64; 256],
 ) -> u64
-    requires { (hops.now.count ≤ 256) × (length sets.old ≡ 256) }
     ensures { Reached area.now.n (asked protected) area.now.cells.now links.now.from links.now.to hops.now.count hops.now.arcs sets.new result }
 {
     let mut union = 0;
@@ -47,8 +47,8 @@ pub(crate) fn reached(
 
 // Extended P.
 fn extended_p(links: &Links, protected: Protected, area: &Area<'_>, hops: &FirstHops) -> u64
-    requires { hops.now.count ≤ 256 }
-    ensures { (out back : List ℕ) → result ≡ gathered area.now.n (asked protected) area.now.cells.now 0 (hops_in links.now.from links.now.to out back hops.now.count hops.now.arcs) }
+    ensures { (out back : List ℕ) → result ≡ gathered area.now.n (asked protected) area.now.cells.now 0
+        (hops_in links.now.from links.now.to out back hops.now.count hops.now.arcs) }
 {
     let mut sets = [0; 256];
     reached(links, protected, area, hops, &mut sets)
