@@ -2,7 +2,7 @@
 -- Assumes nothing.
 use Prim.Native.Nat.{ℕ, zero, suc, ◌+◌, ◌<◌}
 use mathlib.Core.Path.{◌≡◌, refl, sym, ◌∙◌}
-use mathlib.Core.Bool.{Bool, true, false}
+use mathlib.Core.Bool.{Bool, true, false, ◌&&◌}
 use native.Mathlib.Omega.{arith}
 use native.Mathlib.Numerals.{add-one}
 use Rattle.lfa.specs.Lists.{every_below}
@@ -15,6 +15,11 @@ every_none p = refl
 pub every_more : (p : ℕ → Bool) (i : ℕ) → every_below p i ≡ true → p i ≡ true → every_below p (i + 1) ≡ true
 unfolding every_below
 every_more p i e f = rw (add-one i, every_below, e) f
+
+-- the same for a loop that goes on after one that fails
+pub every_next : (p : ℕ → Bool) (i : ℕ) (a b : Bool) → a ≡ every_below p i → b ≡ p i → (a && b) ≡ every_below p (i + 1)
+unfolding every_below
+every_next p i a b before here = rw (before, here, add-one i)
 
 -- One number that fails is enough: if all passed, it would pass too.
 pub every_fails : (p : ℕ → Bool) (n i : ℕ) → i < n → p i ≡ false → false ≡ every_below p n

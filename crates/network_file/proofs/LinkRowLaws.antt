@@ -1,17 +1,15 @@
 -- Row 6 over the columns of the links: two tests of all links, of their routers and of their costs, pass exactly where no link is
 -- turned down.
 -- Assumes nothing.
-use Prim.Native.Nat.{ℕ, ◌+◌, ◌≤◌, ◌<◌, min}
+use Prim.Native.Nat.{ℕ, ◌+◌, ◌≤◌, min}
 use mathlib.Core.Path.{◌≡◌, refl, sym, ◌∙◌}
 use mathlib.Core.Bool.{Bool, true, false, not, ◌&&◌}
-use mathlib.Core.Logic.{◌⊎◌, inl, inr}
 use mathlib.Core.Option.{none}
 use native.Mathlib.Omega.{arith}
 use native.Mathlib.Numerals.{add-one}
 use lib.Dec.{eqb, ltb, leb}
 use lib.ListN.{get_or}
-use borrow.Author.Tests.{leb-true, le-leb, lt-leb, eq-eqb, ne_eqb}
-use Rattle.std.specs.Prelude.{◌≢◌}
+use borrow.Author.Tests.{leb-true, le-leb}
 use Rattle.lfa.specs.Lists.{every_below, first_failing}
 use Rattle.lfa.specs.File.{sound_link}
 use Rattle.lfa.proofs.Laws.Test.{and_left, and_right, and_make, same_test}
@@ -46,38 +44,17 @@ parts true false c d e = refl
 parts false b c d e = refl
 
 -- the two tests of one link, of its routers and of its costs, are row 6's
-sound_split : (l : Links) (k : ℕ) → link_sound l k ≡ (ends_good l k && costs_good l k)
+pub sound_split : (l : Links) (k : ℕ) → link_sound l k ≡ (ends_good l k && costs_good l k)
 unfolding link_sound link_at ends_good costs_good sound_link
 sound_split l k =
     parts (ltb (get_or l.from k 0) l.routers) (ltb (get_or l.to k 0) l.routers) (not (eqb (get_or l.from k 0) (get_or l.to k 0)))
     (leb 1 (get_or l.out k 0)) (leb 1 (get_or l.back k 0))
 
-no_right : (p : Bool) → (p && false) ≡ false
-no_right true = refl
-no_right false = refl
-
--- a link that one of the two tests turns down, and one that both pass
-module _ (l : Links) (k bad least : ℕ) (ends : eqb bad 0 ≡ ends_good l k) (costs : least ≡ min (get_or l.out k 0) (get_or l.back k 0)) where
-  both : link_sound l k ≡ (eqb bad 0 && leb 1 least)
-  unfolding costs_good
-  both = sound_split l k ∙ rw (ends, costs, both_some_lem (get_or l.out k 0) (get_or l.back k 0))
-
-  pub turned_down : (bad ≢ 0) ⊎ ((bad ≡ 0) × (least < 1)) → link_sound l k ≡ false
-  turned_down (inl h) = both ∙ rw (ne_eqb bad 0 h)
-  turned_down (inr (z, h)) = both ∙ rw (lt-leb 1 least h) (no_right (eqb bad 0))
-
-  pub passed : bad ≡ 0 → 1 ≤ least → link_sound l k ≡ true
-  passed h m = both ∙ rw (eq-eqb bad 0 h, le-leb 1 least m)
-
 -- Where both pass at all links, row 6 passes each link, so that the first one that it turns down is none.
-pub none_bad : (l : Links) (bad least : ℕ) → eqb bad 0 ≡ every_below (ends_good l) l.links → leb 1 least ≡ every_below (costs_good l) l.links →
-    bad ≡ 0 → 1 ≤ least → none ≡ first_failing (link_sound l) 0 l.links
-none_bad l bad least ends costs zero some =
+pub none_bad : (l : Links) → true ≡ every_below (ends_good l) l.links → true ≡ every_below (costs_good l) l.links → none ≡ first_failing (link_sound l) 0 l.links
+none_bad l ends costs =
     sym (all_passing (link_sound l) 0 l.links (λ k _ h.
-    sound_split l k ∙ rw (
-      every_gives _ l.links (sym ends ∙ eq-eqb bad 0 zero) k (omega arith),
-      every_gives _ l.links (sym costs ∙ le-leb 1 least some) k (omega arith),
-    )))
+    sound_split l k ∙ rw (every_gives _ l.links (sym ends) k (omega arith), every_gives _ l.links (sym costs) k (omega arith))))
 
 -- Where row 6 turns none down, the routers are below 64.
 pub ends_below : (l : Links) → FewLinks l → none ≡ first_failing (link_sound l) 0 l.links → EndsBelow l

@@ -1,16 +1,18 @@
 -- Rows 8 and 9 at one prefix: what the code finds in its entry is what the row says.
 -- Assumes nothing.
 use Prim.Native.Nat.{ℕ, zero, suc, ◌+◌, ◌-◌, ◌*◌, ◌≤◌, ◌<◌}
-use mathlib.Core.Path.{◌≡◌, sym, ◌∙◌}
+use mathlib.Core.Path.{◌≡◌, refl, sym, ap, ◌∙◌}
 use mathlib.Core.Bool.{Bool, true, false, not, ◌&&◌}
+use mathlib.Core.Logic.{◌⊎◌, inl, inr}
 use mathlib.Core.List.{List}
 use native.Mathlib.Omega.{arith}
 use native.Mathlib.Numerals.{add-one}
-use lib.Dec.{eqb, ltb}
+use lib.Dec.{eqb, ltb, leb}
 use lib.ListN.{length, get_or, set, drop, replicate, length-set, length-replicate, get_or-replicate}
-use borrow.Author.Tests.{eq-eqb, ne_eqb, lt-ltb, le-ltb, le-leb, lt-leb, not-true, not-false}
+use borrow.Author.Tests.{leb-true, not-true, not-false}
 use Rattle.lfa.specs.Lists.{every_below}
 use Rattle.lfa.specs.File.{Bytes, byte_at, word_at, all_zero, routers_of, prefix_entry, attachments, slot_router, slot_good, sound_prefix, prefix_good, slot_new, routers_new}
+use Rattle.lfa.proofs.Laws.Test.{decide}
 use Rattle.lfa.proofs.Laws.List.{every_gives}
 use Rattle.lfa.proofs.Laws.File.RowFacts.{prefix_facts, slot_facts}
 use Rattle.block.specs.Judged.{Sized}
@@ -20,38 +22,30 @@ use Rattle.network_file.proofs.TableLaws.{mark}
 
 -- ---- row 8
 
--- Each return of the code, for an entry that says `count` attachments: the test of the row is a conjunction, and the code leaves at the
--- first part of it that fails.
-module _ (n : ℕ) (e : Bytes) (count : ℕ) (says : count ≡ get_or e 0 0) where
-  pub count_none : count < 1 → false ≡ sound_prefix n e
-  unfolding sound_prefix attachments byte_at
-  count_none h = rw (← says, lt-leb 1 count h)
+join : (x a b : Bool) → (x && a && b) ≡ (x && (a && b))
+join true a b = refl
+join false a b = refl
 
-  module _ (some : 1 ≤ count) where
-    pub count_many : 8 < count → false ≡ sound_prefix n e
-    unfolding sound_prefix attachments byte_at
-    count_many h = rw (← says, le-leb 1 count some, lt-leb count 8 h)
+many : (p r a b : Bool) → (p && false && r && a && b) ≡ false
+many true r a b = refl
+many false r a b = refl
 
-    module _ (few : count ≤ 8) where
-      pub second_wrong : (get_or e 1 0 ≡ 0 → ⊥) → false ≡ sound_prefix n e
-      unfolding sound_prefix attachments byte_at
-      second_wrong f = rw (← says, le-leb 1 count some, le-leb count 8 few, ne_eqb (get_or e 1 0) 0 f)
+-- The code's test of an entry that says `count` attachments is the row's: where more than eight are said, neither passes.
+pub entry_tested : (n : ℕ) (e : Bytes) (count : ℕ) → count ≡ get_or e 0 0 → length e ≡ 34 → 1 ≤ n → n ≤ 64 →
+    (leb 1 count && leb count 8 && eqb (get_or e 1 0) 0 && every_below (λ s. ltb (word_at e (2 + 4 * s) + (65536 - n)) 65536) 8 && every_below (unused_zero e count) 8) ≡ sound_prefix n e
+unfolding sound_prefix attachments byte_at
+entry_tested n e count says long some few = rw (← says) (go (decide (leb count 8)))
+  where
+    below_n : ℕ → Bool
+    below_n s = ltb (word_at e (2 + 4 * s) + (65536 - n)) 65536
 
-      slots_tested : {r : Bool} → get_or e 1 0 ≡ 0 → r ≡ (every_below (slot_good n e) count && all_zero (drop (2 + 4 * count) e)) → r ≡ sound_prefix n e
-      unfolding sound_prefix attachments byte_at
-      slots_tested second q = q ∙ rw (← says, le-leb 1 count some, le-leb count 8 few, eq-eqb (get_or e 1 0) 0 second)
-
-      -- The returns after the loops over the slots: one of the routers is too large, or the slots that are not used decide.
-      module _ (second : get_or e 1 0 ≡ 0) (long : length e ≡ 34) (some_routers : 1 ≤ n) (few_routers : n ≤ 64) (all : ℕ)
-          (over : ltb all 65536 ≡ every_below (λ s. ltb (word_at e (2 + 4 * s) + (65536 - n)) 65536) 8) where
-        tested : {r : Bool} → r ≡ (ltb all 65536 && every_below (unused_zero e count) 8) → r ≡ sound_prefix n e
-        tested q = slots_tested second (q ∙ rw over (eight_tested n e count long few some_routers few_routers))
-
-        pub router_wrong : 65536 ≤ all → false ≡ sound_prefix n e
-        router_wrong h = tested (rw (le-ltb all 65536 h))
-
-        pub unused_decide : {r : Bool} → all < 65536 → r ≡ every_below (unused_zero e count) 8 → r ≡ sound_prefix n e
-        unused_decide h q = tested (q ∙ rw (lt-ltb all 65536 h))
+    go : (leb count 8 ≡ true) ⊎ (leb count 8 ≡ false) →
+        (leb 1 count && leb count 8 && eqb (get_or e 1 0) 0 && every_below below_n 8 && every_below (unused_zero e count) 8)
+        ≡ (leb 1 count && leb count 8 && eqb (get_or e 1 0) 0 && every_below (slot_good n e) count && all_zero (drop (2 + 4 * count) e))
+    go (inl t) =
+        let head = leb 1 count && leb count 8 && eqb (get_or e 1 0) 0 in
+        join head _ _ ∙ ap (λ (x : Bool). head && x) (eight_tested n e count long (leb-true count 8 t) some few) ∙ sym (join head _ _)
+    go (inr f) = rw f (many (leb 1 count) (eqb (get_or e 1 0) 0) _ _ ∙ sym (many (leb 1 count) (eqb (get_or e 1 0) 0) _ _))
 
 -- the test of prefix p, done on its entry
 pub prefix_tested : (b e : Bytes) (routers p : ℕ) {r : Bool} → routers ≡ routers_of b → e ≡ prefix_entry b p → r ≡ sound_prefix routers e → prefix_good b p ≡ r

@@ -51,37 +51,48 @@ pub(crate) fn fill_links(file: &[u8]) -> Links
     }
 }
 
-// 0 where row 6 passes the routers of a link, and 1 where it does not.
-fn ends_bad(routers: u8, a: u8, b: u8) -> u8
-    ensures { eqb result 0 ≡ (ltb a routers && ltb b routers && not (eqb a b)) }
+// Whether row 6 passes the routers of a link: two routers, below N.
+fn ends_good(routers: u8, a: u8, b: u8) -> bool
+    ensures { result ≡ (ltb a routers && ltb b routers && not (eqb a b)) }
 {
-    u8::from(routers <= a || routers <= b || a == b)
+    a < routers && b < routers && a != b
 }
 
-// 0 where row 6 passes the routers of every link. All links are looked at, also after one that is wrong: without an early return
-// the compiler tests many links at once.
-fn bad_ends(links: &Links) -> u8
+// Whether row 6 passes the routers of every link. All links are looked at, also after one that is wrong: without an early return the
+// compiler tests many links at once.
+fn all_ends_good(links: &Links) -> bool
     requires { FewLinks links.now }
-    ensures { eqb result 0 ≡ every_below (ends_good links.now) links.now.links }
+    ensures { result ≡ every_below (ends_good links.now) links.now.links }
 {
     let routers = links.routers as u8;
-    let mut bad: u8 = 0;
+    let mut good = true;
     for k in 0..links.links {
-        bad |= ends_bad(routers, links.from[k], links.to[k]);
+        good &= ends_good(routers, links.from[k], links.to[k]);
     }
-    bad
+    good
 }
 
-// The least of all costs, 65,535 where there is none: above 0 exactly where row 6 passes the costs of every link.
-fn least_cost(links: &Links) -> u16
+// Whether row 6 passes the costs of every link: the least of them is not 0. The loop has no early return either.
+fn all_costs_good(links: &Links) -> bool
     requires { FewLinks links.now }
-    ensures { leb 1 result ≡ every_below (costs_good links.now) links.now.links }
+    ensures { result ≡ every_below (costs_good links.now) links.now.links }
 {
     let mut least = u16::MAX;
     for k in 0..links.links {
         least = least.min(links.out[k].min(links.back[k]));
     }
-    least
+    least != 0
+}
+
+// Row 6 at one link: two routers, below N, and no cost 0.
+#[tactic(auto, unfolding(crate::specs::Entry::link_sound, crate::specs::Entry::link_at, lfa::specs::File::sound_link))]
+fn sound_link(links: &Links, k: usize) -> bool
+    requires { FewLinks links.now × (k < links.now.links) }
+    ensures { result ≡ link_sound links.now k }
+{
+    ends_good(links.routers as u8, links.from[k], links.to[k])
+        && 1 <= links.out[k]
+        && 1 <= links.back[k]
 }
 
 // The first link that row 6 turns down. It is asked only where a link is turned down.
@@ -89,10 +100,8 @@ fn first_bad_link(links: &Links) -> Option<usize>
     requires { FewLinks links.now }
     ensures { found_in result ≡ first_failing (link_sound links.now) 0 links.now.links }
 {
-    let routers = links.routers as u8;
     for k in 0..links.links {
-        let costs = links.out[k].min(links.back[k]);
-        if ends_bad(routers, links.from[k], links.to[k]) != 0 || costs < 1 {
+        if !sound_link(links, k) {
             return Some(k);
         }
     }
@@ -105,10 +114,10 @@ pub(crate) fn bad_link(links: &Links) -> Option<usize>
     requires { FewLinks links.now }
     ensures { found_in result ≡ first_failing (link_sound links.now) 0 links.now.links }
 {
-    if bad_ends(links) != 0 || least_cost(links) < 1 {
-        return first_bad_link(links);
+    if all_ends_good(links) && all_costs_good(links) {
+        return None;
     }
-    None
+    first_bad_link(links)
 }
 
 // The cell of two routers, in either order, in a table of 64 rows and columns.

@@ -52,31 +52,31 @@ fn slot_word(entry: &[u8], s: usize) -> u32
     u32::from_le_bytes([entry[k], entry[k + 1], entry[k + 2], entry[k + 3]])
 }
 
-// The or over the eight slots of the router, with its zero byte as one number, lifted by so much that the sum reaches 65,536 where
-// the number is too large. An or is below 65,536 exactly where each of its numbers is. The loop has no branch, so that the compiler
-// tests several slots at once.
-fn routers_over(lift: u32, entry: &[u8]) -> u32
+// Whether in each of the eight slots the router, with its zero byte as one number, lifted by so much that the sum reaches 65,536 where
+// the number is too large, is below that. An or is below 65,536 exactly where each of its numbers is. The loop has no branch, so that
+// the compiler tests several slots at once.
+fn routers_below(lift: u32, entry: &[u8]) -> bool
     requires { (length entry.now ≡ 34) × (lift ≤ 65536) }
-    ensures { ltb result 65536 ≡ every_below (λ s. ltb (word_at entry.now (2 + 4 * s) + lift) 65536) 8 }
+    ensures { result ≡ every_below (λ s. ltb (word_at entry.now (2 + 4 * s) + lift) 65536) 8 }
 {
     let mut all: u32 = 0;
     for s in 0..8 {
         all |= slot_word(entry, s) % 65536 + lift;
     }
-    all
+    all < 65536
 }
 
-// The or of the slots that are not used, 0 where each of them is zero. The masks stand in a table of the caller: a constant table is
-// put on the stack anew wherever it is read.
-fn unused_slots(count: usize, entry: &[u8], masks: &[u32; 72]) -> u32
+// Whether each slot that is not used is zero. The masks stand in a table of the caller: a constant table is put on the stack anew
+// wherever it is read.
+fn unused_zero(count: usize, entry: &[u8], masks: &[u32; 72]) -> bool
     requires { (length entry.now ≡ 34) × (count ≤ 8) × (masks.now ≡ unused_masks) }
-    ensures { eqb result 0 ≡ every_below (unused_zero entry.now count) 8 }
+    ensures { result ≡ every_below (unused_zero entry.now count) 8 }
 {
     let mut all: u32 = 0;
     for s in 0..8 {
         all |= slot_word(entry, s) & masks[8 * count + s];
     }
-    all
+    all == 0
 }
 
 // Row 8 at one prefix. The count is tested before a slot is looked at. All eight routers are tested alike: a slot that is not used
@@ -86,19 +86,11 @@ fn sound_prefix(routers: usize, entry: &[u8], masks: &[u32; 72]) -> bool
     ensures { result ≡ sound_prefix routers entry.now }
 {
     let count = usize::from(entry[0]);
-    if count < 1 {
-        return false;
-    }
-    if 8 < count {
-        return false;
-    }
-    if entry[1] != 0 {
-        return false;
-    }
-    if 65536 <= routers_over(65536 - (routers as u32), entry) {
-        return false;
-    }
-    unused_slots(count, entry, masks) == 0
+    1 <= count
+        && count <= 8
+        && entry[1] == 0
+        && routers_below(65536 - routers as u32, entry)
+        && unused_zero(count, entry, masks)
 }
 
 // Row 8: the first prefix that it turns down.

@@ -1,5 +1,5 @@
 use Rattle.network_file.proofs.LinkRowLaws.{none_bad}
 use Rattle.network_file.proofs.link.bad_link.Goals as goal
 
-pub returns : goal.returns
-returns c = none_bad _ _ _ c.bad_ends.ensures c.least_cost.ensures c.if-bad_ends-ne0.false c.if-least_cost-lt1.false
+pub returns-then-all_costs_good : goal.returns-then-all_costs_good
+returns-then-all_costs_good c = none_bad _ c.if-all_ends_good.ensures c.if-all_costs_good.ensures

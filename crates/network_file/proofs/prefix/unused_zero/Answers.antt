@@ -2,7 +2,7 @@ use Rattle.std.proofs.Common.{◌<◌, sym, arith}
 use Rattle.network_file.proofs.EveryLaws.{every_none}
 use Rattle.network_file.proofs.OrLaws.{or_zero_more}
 use Rattle.network_file.proofs.SlotLaws.{slot_masked}
-use Rattle.network_file.proofs.prefix.unused_slots.Goals as goal
+use Rattle.network_file.proofs.prefix.unused_zero.Goals as goal
 
 pub loop-s-init : goal.loop-s-init
 loop-s-init c = sym (every_none _)

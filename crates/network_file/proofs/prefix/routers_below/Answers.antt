@@ -1,7 +1,7 @@
 use Rattle.std.proofs.Common.{sym}
 use Rattle.network_file.proofs.EveryLaws.{every_none}
 use Rattle.network_file.proofs.OrLaws.{or_more}
-use Rattle.network_file.proofs.prefix.routers_over.Goals as goal
+use Rattle.network_file.proofs.prefix.routers_below.Goals as goal
 
 pub loop-s-init : goal.loop-s-init
 loop-s-init c = sym (every_none _)

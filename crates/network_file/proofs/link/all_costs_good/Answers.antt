@@ -1,7 +1,7 @@
 use Rattle.std.proofs.Common.{sym}
 use Rattle.network_file.proofs.EveryLaws.{every_none}
 use Rattle.network_file.proofs.LinkRowLaws.{least_more}
-use Rattle.network_file.proofs.link.least_cost.Goals as goal
+use Rattle.network_file.proofs.link.all_costs_good.Goals as goal
 
 pub loop-k-init : goal.loop-k-init
 loop-k-init c = sym (every_none _)
