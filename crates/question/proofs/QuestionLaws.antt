@@ -34,6 +34,11 @@ use Rattle.question.specs.Laws.Loaded.{limits, columns_within, network_columns, 
 
 -- ---- refusals that are handed on
 
+-- what is handed on is the refusal
+pub err_is : {T : Type 0} (x : Refusal) (o : Result T Refusal) → IsErrAnd o (λ y. y ≡ x) → o ≡ Err x
+err_is x (Err y) e = ap Err e
+err_is x (Ok held) e = absurd e
+
 -- a row as a refusal
 pub row_gone : {T : Type 0} (row : enum.Row) (o : Result T Refusal) → IsErrAnd o (λ x. some (row_of x) ≡ in_early (row_decided (Err row))) → turned_row o ≡ in_early (row_decided (Err row))
 unfolding turned_row

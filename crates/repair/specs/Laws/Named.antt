@@ -46,8 +46,8 @@ module _ {b : Bytes} {links : Links} (t : Taken b links) (network : Network) (wh
   prefix_cell = omega (arith, prefix_exists, (limits t).few_prefixes)
 
   -- its slots hold routers, and they are its attachments
-  pub prefix_slots : {count : ℕ} → count ≡ get_or network.attached x 0 → SlotsWithin network.routers (8 * x) count network.at
-  unfolding struct_of
+  pub prefix_slots : {count : ℕ} → count ≡ get_or network.attached x 0 → SlotsWithin network.links.routers (8 * x) count network.at
+  unfolding struct_of links_struct_of network_of
   prefix_slots c = rw (c, whole) (slots_within (network_of b) (limits t) x prefix_exists)
 
   pub prefix_target : {count : ℕ} → count ≡ get_or network.attached x 0 → slots_in network.at network.own (8 * x) count ≡ get_or (network_of b).prefixes x []

@@ -90,7 +90,7 @@ module _ {q : Question} (p : Posed q) (network : Network) (t : Taken q.file (lin
   pub prefix_searched : HasInput q a_prefix → prefix_by network q.ranks q.link q.end q.prefix after ≡ prefix_found q
   unfolding prefix_found with_distances prefix_asked network_asked
   prefix_searched has-prefix =
-      let x-in : q.prefix < network.prefixes = rw (prefixes_are t, ← prefix_count q.file t.is_accepted) (p.prefix has-prefix) in
+      let x-in : q.prefix < network.links.prefixes = rw (prefixes_are t, ← prefix_count q.file t.is_accepted) (p.prefix has-prefix) in
       let to = slots_in network.at network.own (8 * q.prefix) (get_or network.attached q.prefix 0) in
       let net = network_of q.file in
       prefix_found_lem network (asking p t area cells_are limit_is full h has_cells) q.ranks q.prefix (prefix_cell t network whole q.prefix x-in) (prefix_slots t network whole q.prefix x-in refl)
