@@ -3,8 +3,8 @@
 // The public functions take any numbers. Where they are not those of a network, the column is all zeros, and the set is empty.
 #![tactic(auto)]
 
-ghost use Rattle.std.specs.Prelude.{◌≡◌, ◌<◌, true, length};
-ghost use Rattle.lfa.specs.Distance.{towards};
+ghost use Rattle.std.specs.Prelude.{◌≡◌, ℕ, ◌≤◌, ◌<◌, true, length};
+ghost use Rattle.lfa.specs.Distance.{towards, unreachable};
 ghost use Rattle.lfa.specs.Network.{router};
 ghost use Rattle.lfa.specs.Space.{set_of};
 ghost use Rattle.metric.specs.Fit.{SlotsWithin, cells_fit};
@@ -17,15 +17,15 @@ use metric::Distance;
 use metric::columns::Slots;
 use metric::read::Area;
 
-// The distances to a router from each of the n routers.
-fn router_column(area: &Area<'_>, t: usize) -> [u32; 64]
-    requires area_fits { cells_fit area.now.n (length area.now.cells.now) ≡ true }
-    requires t_in { t < area.now.n }
-    ensures { result ≡ column area.now.n (towards (held area.now.n area.now.cells.now) (router t)) }
+// A column: for each of n routers the number that `to` gives it.
+fn column_of<F: Fn(usize) -> u32>(n: usize, to: F) -> [u32; 64]
+    requires few { n ≤ 64 }
+    requires callable { (x : ℕ) → x < n → F.pre to x }
+    ensures { (f : ℕ → ℕ) → ((x r : ℕ) → x < n → r ≤ unreachable → F.post to x r → r ≡ f x) → result ≡ column n f }
 {
     let mut target = [0u32; 64];
-    for x in 0..area.n {
-        target[x] = area.distance(x, t);
+    for x in 0..n {
+        target[x] = to(x);
     }
     target
 }
@@ -46,25 +46,12 @@ fn to_prefix(area: &Area<'_>, x: usize, slots: &Slots<'_>) -> u32
     best
 }
 
-// The distances to the prefix that has these slots, from each of the n routers.
-fn prefix_column(area: &Area<'_>, slots: &Slots<'_>) -> [u32; 64]
-    requires area_fits { cells_fit area.now.n (length area.now.cells.now) ≡ true }
-    requires slots_within { SlotsWithin area.now.n slots.now.first slots.now.count slots.now.at.now }
-    ensures { result ≡ column area.now.n (towards (held area.now.n area.now.cells.now) (slots_in slots.now.at.now slots.now.own.now slots.now.first slots.now.count)) }
-{
-    let mut target = [0u32; 64];
-    for x in 0..area.n {
-        target[x] = to_prefix(area, x, slots);
-    }
-    target
-}
-
 // The distances to router t from each of the n routers.
 pub fn towards_router(area: &Area<'_>, t: usize) -> [u32; 64]
     ensures { result ≡ router_column area.now.n t area.now.cells.now }
 {
     if area.fits() && t < area.n {
-        router_column(area, t)
+        column_of(area.n, |x| area.distance(x, t))
     } else {
         [0u32; 64]
     }
@@ -75,7 +62,7 @@ pub fn towards_prefix(area: &Area<'_>, slots: &Slots<'_>) -> [u32; 64]
     ensures { result ≡ prefix_column area.now.n slots.now.at.now slots.now.own.now slots.now.first slots.now.count area.now.cells.now }
 {
     if area.fits() && slots_fit(area.n, slots) {
-        prefix_column(area, slots)
+        column_of(area.n, |x| to_prefix(area, x, slots))
     } else {
         [0u32; 64]
     }
