@@ -26,10 +26,10 @@ pub(crate) fn lsa_metric(run: &[u8], at: usize, to: u32) -> u16
     requires { StandsAt run.now at }
     ensures { result ≡ metric_to (lsa_from run.now at) (links_field (lsa_from run.now at)) to }
 {
-    let size = be16_at(run, at + 18) as usize;
+    let size = usize::from(be16_at(run, at + 18));
     let end = at + size;
     let l = &run[at..end];
-    let links = be16_at(l, 22) as usize;
+    let links = usize::from(be16_at(l, 22));
     metric_to(l, links, to)
 }
 
@@ -38,10 +38,10 @@ pub(crate) fn lsa_stub(run: &[u8], at: usize, key: u64) -> u32
     requires { StandsAt run.now at }
     ensures { result ≡ stub_least key 65536 (lsa_from run.now at) 0 (links_field (lsa_from run.now at)) }
 {
-    let size = be16_at(run, at + 18) as usize;
+    let size = usize::from(be16_at(run, at + 18));
     let end = at + size;
     let l = &run[at..end];
-    let links = be16_at(l, 22) as usize;
+    let links = usize::from(be16_at(l, 22));
     stub_least(l, links, key)
 }
 
@@ -56,30 +56,19 @@ pub(crate) fn add_link(links: Links, a: u8, b: u8, metric: u16, other: u16) -> L
         return links;
     }
     let count = links.count;
-    let mut from = links.from;
-    let mut to = links.to;
-    let mut out = links.out;
-    let mut back = links.back;
     if 128 <= count {
         return Links {
             count: 129,
-            from,
-            to,
-            out,
-            back,
+            ..links
         };
     }
-    from[count] = a;
-    to[count] = b;
-    out[count] = metric;
-    back[count] = other;
-    Links {
-        count: count + 1,
-        from,
-        to,
-        out,
-        back,
-    }
+    let mut more = links;
+    more.from[count] = a;
+    more.to[count] = b;
+    more.out[count] = metric;
+    more.back[count] = other;
+    more.count = count + 1;
+    more
 }
 
 // The links with those of router a to higher routers.
@@ -91,12 +80,10 @@ fn links_up(run: &[u8], n: usize, routers: Routers, a: usize, links: Links) -> L
     let id = routers.id;
     let at = routers.at;
     let mut all = links;
-    let mut b = a + 1;
-    while b < n {
+    for b in a + 1..n {
         let metric = lsa_metric(run, at[a], id[b]);
         let other = lsa_metric(run, at[b], id[a]);
         all = add_link(all, a as u8, b as u8, metric, other);
-        b += 1;
     }
     all
 }
@@ -113,10 +100,8 @@ pub(crate) fn links_of(run: &[u8], n: usize, routers: Routers) -> Links
         out: [0u16; 128],
         back: [0u16; 128],
     };
-    let mut a: usize = 0;
-    while a < n {
+    for a in 0..n {
         all = links_up(run, n, routers, a, all);
-        a += 1;
     }
     all
 }
