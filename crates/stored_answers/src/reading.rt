@@ -1,108 +1,61 @@
 // The section of the reader: the network that it makes of a file, or why it refuses the file, and the parts of some entries.
-use super::print::{end, number, refused};
+ghost use Rattle.std.specs.Prelude.{◌<◌};
+
 use entries::{link_entry, prefix_entry};
+use metric::columns::Links;
+use network_file::load;
 use network_file::network::Network;
-use network_file::{Verdict, load};
 use refusal::file_row;
+use told::{print, print_each};
+use told_answers::Refused;
 
-// Prints a byte as a number.
-fn byte(x: u8) {
-    number(x as usize);
-}
-
-// Prints a cost as a number.
-fn cost(x: u16) {
-    number(x as usize);
-}
-
-// Prints the line of link k.
-fn print_link(network: Network, k: usize) {
-    if 128 <= k {
-        return;
-    }
-    io::write_all(1, b"link");
-    number(k);
-    byte(network.from[k]);
-    byte(network.to[k]);
-    cost(network.out[k]);
-    cost(network.back[k]);
-    end();
-}
+// A number that no link and no prefix has.
+const BEYOND: usize = 4000000000;
 
 // Prints a line for each link.
-fn print_links(network: Network) {
-    let links = network.links;
-    let mut k = 0;
-    while k < links {
-        print_link(network, k);
-        k += 1;
+fn print_links(links: &Links) {
+    for k in 0..links.links.min(128) {
+        let from = links.from[k];
+        let to = links.to[k];
+        let out = links.out[k];
+        let back = links.back[k];
+        print(format_args!("link {k} {from} {to} {out} {back}\n"));
     }
 }
 
-// Prints the router and the cost of slot k.
-fn print_slot(network: Network, k: usize) {
-    if 1024 <= k {
-        return;
+// Prints the router and the cost of each used slot of prefix p. The used ones are the first of its eight.
+fn print_slots(network: &Network, p: usize)
+    requires { p < 128 }
+{
+    for s in 0..network.attached[p].min(8) {
+        let slot = 8 * p + usize::from(s);
+        let router = network.at[slot];
+        let cost = network.own[slot];
+        print(format_args!(" {router} {cost}"));
     }
-    byte(network.at[k]);
-    cost(network.own[k]);
-}
-
-// Prints the used slots of prefix p, which are the first of its eight.
-fn print_slots(network: Network, p: usize) {
-    if 128 <= p {
-        return;
-    }
-    let used = network.attached[p];
-    let mut s: u8 = 0;
-    while s < 8 {
-        if s < used {
-            print_slot(network, 8 * p + (s as usize));
-        }
-        s += 1;
-    }
-}
-
-// Prints the line of prefix p.
-fn print_prefix(network: Network, p: usize) {
-    io::write_all(1, b"prefix");
-    number(p);
-    print_slots(network, p);
-    end();
 }
 
 // Prints a line for each prefix.
-fn print_prefixes(network: Network) {
-    let prefixes = network.prefixes;
-    let mut p = 0;
-    while p < prefixes {
-        print_prefix(network, p);
-        p += 1;
+fn print_prefixes(network: &Network) {
+    for p in 0..network.links.prefixes.min(128) {
+        print(format_args!("prefix {p}"));
+        print_slots(network, p);
+        print("\n");
     }
-}
-
-// Prints the bytes of a part of a file, to the end of the line.
-fn print_bytes(part: &[u8]) {
-    let mut i = 0;
-    while i < part.len() {
-        byte(part[i]);
-        i += 1;
-    }
-    end();
 }
 
 // Prints the line of a link's entry.
 fn print_link_entry(file: &[u8], link: usize) {
-    io::write_all(1, b"link-entry");
-    number(link);
-    print_bytes(link_entry(file, link));
+    print(format_args!("link-entry {link}"));
+    print_each(link_entry(file, link));
+    print("\n");
 }
 
 // Prints the line of a prefix's entry.
 fn print_prefix_entry(file: &[u8], prefix: usize) {
-    io::write_all(1, b"prefix-entry");
-    number(prefix);
-    print_bytes(prefix_entry(file, prefix));
+    print(format_args!("prefix-entry {prefix}"));
+    print_each(prefix_entry(file, prefix));
+    print("\n");
 }
 
 // Prints the entries of the first and the last link, and of two numbers too large.
@@ -112,7 +65,7 @@ fn print_link_entries(file: &[u8], links: usize) {
         print_link_entry(file, links - 1);
     }
     print_link_entry(file, links);
-    print_link_entry(file, 4000000000);
+    print_link_entry(file, BEYOND);
 }
 
 // Prints the entries of the first and the last prefix, and of two numbers too large.
@@ -122,32 +75,32 @@ fn print_prefix_entries(file: &[u8], prefixes: usize) {
         print_prefix_entry(file, prefixes - 1);
     }
     print_prefix_entry(file, prefixes);
-    print_prefix_entry(file, 4000000000);
+    print_prefix_entry(file, BEYOND);
 }
 
 // Prints the network of an accepted file.
-fn print_network(network: Network) {
-    io::write_all(1, b"accepted");
-    number(network.routers);
-    number(network.links);
-    number(network.prefixes);
-    end();
-    print_links(network);
+fn print_network(network: &Network) {
+    let routers = network.links.routers;
+    let links = network.links.links;
+    let prefixes = network.links.prefixes;
+    print(format_args!("accepted {routers} {links} {prefixes}\n"));
+    print_links(&network.links);
     print_prefixes(network);
 }
 
 // Prints what the reader answers for a file.
 pub(crate) fn print_reading(file: &[u8]) {
-    let loaded = load(file);
-    let verdict = loaded.verdict;
-    if let Verdict::Refused(fault) = verdict {
-        refused(file_row(fault));
-        print_link_entries(file, 1);
-        print_prefix_entries(file, 1);
-        return;
+    match load(file) {
+        Ok(network) => {
+            print_network(&network);
+            print_link_entries(file, network.links.links);
+            print_prefix_entries(file, network.links.prefixes);
+        }
+        Err(fault) => {
+            let refused = Refused(file_row(fault));
+            print(format_args!("{refused}\n"));
+            print_link_entries(file, 1);
+            print_prefix_entries(file, 1);
+        }
     }
-    let network = loaded.network;
-    print_network(network);
-    print_link_entries(file, network.links);
-    print_prefix_entries(file, network.prefixes);
 }

@@ -1,6 +1,18 @@
 // Bytes and cells that are lent to a call, what they hold afterwards, and the check sum of answers.
-ghost use Rattle.std.specs.Prelude.{◌≡◌, ◌+◌, ◌*◌, ◌%◌, ◌^◌, slice_index, EachIndex};
+ghost use Rattle.std.specs.Prelude.{◌≡◌, ◌+◌, ◌*◌, ◌%◌, ◌^◌, ◌≤◌, min, slice_index, EachIndex};
 ghost use Rattle.std.specs.List.{list_all};
+
+// The ranks by which the classes come in ascending order.
+pub const ASCENDING: [u8; 8] = [0, 1, 2, 3, 4, 5, 6, 7];
+
+// How many cells the distances of so many routers take. More than 64 routers there are never.
+pub fn cells_of(routers: usize) -> usize
+    ensures bound { result ≤ 4096 }
+    ensures value { result ≡ min routers 64 * min routers 64 }
+{
+    let side = routers.min(64);
+    side * side
+}
 
 // Fills bytes with a row of numbers modulo 256: the first, and each next one greater by the step.
 pub fn rising(bytes: &mut [u8], first: u8, step: u8)

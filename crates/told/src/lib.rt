@@ -9,5 +9,5 @@ mod output;
 
 pub use asked::{Asked, End};
 pub use cases::run_cases;
-pub use lent::{all_hold, mixed, rising};
+pub use lent::{ASCENDING, all_hold, cells_of, mixed, rising};
 pub use output::{Kept, print, print_each};

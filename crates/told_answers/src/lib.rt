@@ -1,0 +1,134 @@
+// The answers of the calls as texts, for the programs that print them, and as one number.
+#![tactic(auto)]
+
+ghost use Rattle.std.specs.Prelude.{Some};
+ghost use Rattle.told_answers.specs.Texts.{row_text, pair_text, repair_text, set_text, played_text};
+
+use answers::Repair;
+use order::Pair;
+use question::Refusal;
+use refusal::{Row, question_row};
+use route::Played;
+use std::fmt;
+use std::fmt::{Display, Write};
+use told::{Kept, all_hold, print, print_each};
+
+// A refusal: the number of the row that applies, and the value that it returns.
+#[derive(Clone, Copy, Drop)]
+pub struct Refused(pub Row);
+
+impl Display for Refused {
+    ghost output = { λ x. Some (row_text x.0) };
+
+    fn fmt<W: Write>(&self, f: &mut fmt::Formatter<W>) -> fmt::Result {
+        let number = self.0.number;
+        let value = self.0.value;
+        write!(f, "refused {number} {value}")
+    }
+}
+
+// The fields of a pair.
+#[derive(Clone, Copy, Drop)]
+pub struct Fields(pub Pair);
+
+impl Display for Fields {
+    ghost output = { λ x. Some (pair_text x.0) };
+
+    fn fmt<W: Write>(&self, f: &mut fmt::Formatter<W>) -> fmt::Result {
+        let first = self.0.first;
+        let endpoint = self.0.endpoint;
+        let class = self.0.class;
+        let cost = self.0.cost;
+        write!(f, "{first} {endpoint} {class} {cost}")
+    }
+}
+
+// What a call for a repair answers where it does not refuse.
+#[derive(Clone, Copy, Drop)]
+pub struct Repaired(pub Repair);
+
+impl Display for Repaired {
+    ghost output = { λ x. Some (repair_text x.0) };
+
+    fn fmt<W: Write>(&self, f: &mut fmt::Formatter<W>) -> fmt::Result {
+        match self.0 {
+            Repair::Unreachable => write!(f, "unreachable"),
+            Repair::Untouched => write!(f, "untouched"),
+            Repair::Pair(pair) => {
+                let fields = Fields(pair);
+                write!(f, "pair {fields}")
+            }
+        }
+    }
+}
+
+// What a call for a space answers where it does not refuse.
+#[derive(Clone, Copy, Drop)]
+pub struct Set(pub u64);
+
+impl Display for Set {
+    ghost output = { λ x. Some (set_text x.0) };
+
+    fn fmt<W: Write>(&self, f: &mut fmt::Formatter<W>) -> fmt::Result {
+        let set = self.0;
+        write!(f, "set {set}")
+    }
+}
+
+// What a call for a route answers where it does not refuse. The routers that it wrote come after this text.
+#[derive(Clone, Copy, Drop)]
+pub struct Route(pub Played);
+
+impl Display for Route {
+    ghost output = { λ x. Some (played_text x.0) };
+
+    fn fmt<W: Write>(&self, f: &mut fmt::Formatter<W>) -> fmt::Result {
+        match self.0 {
+            Played::Unreachable => write!(f, "unreachable"),
+            Played::Untouched => write!(f, "untouched"),
+            Played::Written(count) => write!(f, "count {count} route"),
+        }
+    }
+}
+
+// Prints an answer after a space: a refusal, or what is told.
+pub fn print_answer<T: Display + Drop>(answer: Result<T, Refusal>) {
+    match answer {
+        Ok(told) => print(format_args!(" {told}")),
+        Err(refusal) => {
+            let refused = Refused(question_row(refusal));
+            print(format_args!(" {refused}"));
+        }
+    }
+}
+
+// Prints the answer of a call for a route after a space, the routers that it wrote, and whether every later byte of the route buffer still holds 255.
+pub fn print_route(answer: Result<Played, Refusal>, buffer: &[u8]) {
+    let count = match answer {
+        Ok(Played::Written(count)) => count.min(buffer.len()),
+        _ => 0,
+    };
+    print_answer(answer.map(Route));
+    let (routers, later) = buffer.split_at(count);
+    print_each(routers);
+    let kept = Kept(all_hold(later, &255));
+    print(format_args!(" {kept}"));
+}
+
+// The answer of a call for a repair as one number, another one for another answer. The lowest two bits are 0 for a refusal, whose code is told.
+pub fn code<F: FnOnce(Row) -> u64>(answer: Result<Repair, Refusal>, refusal_code: F) -> u64
+    requires { F.IsAlwaysCallable refusal_code }
+{
+    match answer {
+        Err(refusal) => refusal_code(question_row(refusal)),
+        Ok(Repair::Unreachable) => 1,
+        Ok(Repair::Untouched) => 2,
+        Ok(Repair::Pair(pair)) => {
+            let hop = (pair.first as u64) << 8;
+            let endpoint = (pair.endpoint as u64) << 16;
+            let class = u64::from(pair.class) << 24;
+            let cost = u64::from(pair.cost) << 32;
+            hop | endpoint | class | cost | 3
+        }
+    }
+}
