@@ -1,4 +1,4 @@
-// The search part: the three spaces, and the pair that serves a repair, over a network by value and a table of distances that is only read.
+// The search part: the three spaces, and the pair that serves a repair, over a network in columns and a table of distances, both only read.
 //
 // Each function takes any numbers, and answers by the numbers that the table and the columns hold. Where the columns have no cell for the
 // link or the prefix, or no distances can be read for the link's ends, a space is empty, and nothing is found.

@@ -26,7 +26,7 @@ use order::{Ordered, Pair, class_of, earlier, rank_of};
 use steps::{Onward, onward_by_steps, steps_over};
 
 // What the search for a pair reads: the links, the ranks of the classes and what they count in keys, the distances between routers, the
-// protected link, and the distances to the target.
+// protected link, and the distances to the target. It is made where a question is searched for.
 #[derive(Clone, Copy)]
 struct Sought<'a> {
     links: &'a Links,
