@@ -10,21 +10,13 @@ use metric::columns::Links;
 // More than any finite distance, and little enough for the sum of two.
 pub(crate) const LIMIT: u32 = 1073741824;
 
-// The smaller of two numbers, compared as signed ones: for those the processor has an instruction that compares four at once.
-pub(crate) fn least(a: u32, b: u32) -> u32
-    requires { (a < 2147483648) × (b < 2147483648) }
-    ensures { result ≡ min a b }
-{
-    if (a as i32) < (b as i32) { a } else { b }
-}
-
 // Lowers the cell of routers a and b to the cost of an arc.
 fn lower(n: usize, a: usize, b: usize, cost: u16, cells: &mut [u32])
     requires { Limited n cells.old × (a < n) × (b < n) }
     ensures { (cost ≤ 65535) × Lowered n a b cost cells.old cells.new }
 {
     let at = a * n + b;
-    cells[at] = least(cells[at], u32::from(cost));
+    cells[at] = cells[at].min(u32::from(cost));
 }
 
 // Lowers the cells to the costs of self-loops, which are 0.

@@ -11,7 +11,7 @@ ghost use Rattle.metric.specs.Area.{area_cell};
 ghost use Rattle.metric.specs.Columns.{arcs_in};
 ghost use Rattle.distance.specs.Cells.{Cells, Limited, Stored, RowReady, RowOf, RowsLowered, Eliminated, Substituted, finished};
 
-use crate::direct::{LIMIT, least, lower_links, lower_self_loops};
+use crate::direct::{LIMIT, lower_links, lower_self_loops};
 use metric::Distance;
 use metric::columns::Links;
 
@@ -25,7 +25,7 @@ fn lower_row(d: u32, by: &[u32], row: &mut [u32])
         return;
     }
     for (j, cell) in row.iter_mut().enumerate() {
-        *cell = least(d + by[j], *cell);
+        *cell = (d + by[j]).min(*cell);
     }
 }
 

@@ -7,4 +7,4 @@ pub returns : goal.returns
 returns c =
     let a = c.args in
     let pre = c.requires in
-    (omega (arith, c.ranges.cost.fits), rw (c.least.ensures, c.from.ensures) (lowered_cell a.a a.b a.cost pre.1 pre.2 pre.0))
+    (omega (arith, c.ranges.cost.fits), rw (c.min.ensures, c.from.ensures) (lowered_cell a.a a.b a.cost pre.1 pre.2 pre.0))
