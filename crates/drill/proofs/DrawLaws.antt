@@ -119,10 +119,10 @@ draw_none seed n from to out back a b c d = record {
   links = λ j k. absurd (omega arith);
 }
 
--- the network by value with these columns and no prefixes holds the drill
-pub held_drill : (seed n : ℕ) (network : Network) → network.routers ≡ n → network.links ≡ n → network.prefixes ≡ 0 →
-    Drawn seed n n network.from network.to network.out network.back → network_held network ≡ drill_of seed n
+-- the network with these links and no prefixes holds the drill
+pub held_drill : (seed n : ℕ) (network : Network) → let links = network.links in (links.routers ≡ n) × (links.links ≡ n) × (links.prefixes ≡ 0)
+    × Drawn seed n n links.from links.to links.out links.back → network_held network ≡ drill_of seed n
 unfolding network_held targets_in below count_up links_in drill_of ring_of
-held_drill seed n network r l p d =
-    rw (r, l, p)
-    (ap (λ links. record { routers = n; links = links; prefixes = [] }) (map_below_same _ (ring_link n (out_drawn seed) (back_drawn seed)) n d))
+held_drill seed n network d =
+    rw (d.0, d.1, d.2)
+    (ap (λ links. record { routers = n; links = links; prefixes = [] }) (map_below_same _ (ring_link n (out_drawn seed) (back_drawn seed)) n d.3))

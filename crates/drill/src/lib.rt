@@ -1,4 +1,4 @@
-// Drills: training networks by number (Point 13). A drill is a ring whose costs are drawn from a seed, made as a network by value and
+// Drills: training networks by number (Point 13). A drill is a ring whose costs are drawn from a seed, made as a network and
 // written by `writer`.
 #![tactic(auto)]
 
@@ -8,17 +8,9 @@ ghost use Rattle.lfa.specs.Drill.{replaced, upper_bits, drill_of, Drilled};
 ghost use Rattle.network_file.specs.Held.{network_held};
 ghost use Rattle.drill.specs.Columns.{Drawn};
 
+use metric::columns::Links;
 use network_file::network::Network;
 use writer::write;
-
-// The columns of the links of a ring.
-#[derive(Drop)]
-struct Columns {
-    from: [u8; 128],
-    to: [u8; 128],
-    out: [u16; 128],
-    back: [u16; 128],
-}
 
 // The routers that a link joins.
 #[derive(Drop)]
@@ -31,8 +23,7 @@ struct Ends {
 fn replace(seed: u32) -> u32
     ensures { result ≡ replaced seed }
 {
-    let next = (1664525 * (seed as u64) + 1013904223) % 4294967296;
-    next as u32
+    seed.wrapping_mul(1664525).wrapping_add(1013904223)
 }
 
 // The cost that the upper 16 bits of a replaced seed give.
@@ -55,17 +46,16 @@ fn ends_of(n: usize, i: usize) -> Ends
 }
 
 // The links of a ring of n routers in link order, each with its two costs, the one from a to b drawn first.
-fn draw_links(seed: u32, n: usize) -> Columns
+fn draw_links(seed: u32, n: usize) -> Links
     requires { n ≤ 64 }
-    ensures { Drawn seed n n result.from result.to result.out result.back }
+    ensures { (result.routers ≡ n) × (result.links ≡ n) × (result.prefixes ≡ 0) × Drawn seed n n result.from result.to result.out result.back }
 {
     let mut from = [0u8; 128];
     let mut to = [0u8; 128];
     let mut out = [0u16; 128];
     let mut back = [0u16; 128];
     let mut drawn = seed;
-    let mut i: usize = 0;
-    while i < n {
+    for i in 0..n {
         let ends = ends_of(n, i);
         from[i] = ends.a as u8;
         to[i] = ends.b as u8;
@@ -74,27 +64,8 @@ fn draw_links(seed: u32, n: usize) -> Columns
         out[i] = cost_of(first);
         back[i] = cost_of(second);
         drawn = second;
-        i += 1;
     }
-    Columns {
-        from,
-        to,
-        out,
-        back,
-    }
-}
-
-// The drill as a network by value.
-fn network_of(seed: u32, n: usize) -> Network
-    requires { n ≤ 64 }
-    ensures { network_held result ≡ drill_of seed n }
-{
-    let columns = draw_links(seed, n);
-    let from = columns.from;
-    let to = columns.to;
-    let out = columns.out;
-    let back = columns.back;
-    Network {
+    Links {
         routers: n,
         links: n,
         prefixes: 0,
@@ -102,9 +73,19 @@ fn network_of(seed: u32, n: usize) -> Network
         to,
         out,
         back,
-        attached: [0u8; 128],
-        at: [0u8; 1024],
-        own: [0u16; 1024],
+    }
+}
+
+// The drill as a network.
+fn network_of(seed: u32, n: usize) -> Network
+    requires { n ≤ 64 }
+    ensures { network_held result ≡ drill_of seed n }
+{
+    Network {
+        links: draw_links(seed, n),
+        attached: [0; 128],
+        at: [0; 1024],
+        own: [0; 1024],
     }
 }
 
@@ -119,5 +100,5 @@ pub fn drill(seed: u32, routers: usize, buffer: &mut [u8]) -> usize
     if 64 < routers {
         return 0;
     }
-    write(network_of(seed, routers), buffer)
+    write(&network_of(seed, routers), buffer)
 }

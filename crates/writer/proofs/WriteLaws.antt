@@ -16,7 +16,7 @@ use Rattle.lfa.specs.Writing.{entry_fits, head_fits, counts_fit, are_bytes, pass
 use Rattle.lfa.proofs.Laws.Test.{and_left, and_right, and_make, fails_left, fails_right, same_test}
 use Rattle.lfa.proofs.Laws.List.{every_gives, every_make}
 use Rattle.lfa.proofs.Laws.Writing.{owes_nothing, owes_file, bytes_make}
-use Rattle.std.specs.Prelude.{Result, Ok, Err, ⊤, is_err}
+use Rattle.std.specs.Prelude.{Result, Ok, Err, ⊤, is_ok}
 use Rattle.network_file.specs.declared.Fault.{Fault}
 use Rattle.network_file.specs.declared.network.Network.{Network}
 use Rattle.network_file.specs.Load.{verdict_decided}
@@ -27,19 +27,19 @@ use Rattle.writer.proofs.ComposeLaws.{links_held, prefixes_held, prefix_held}
 
 -- the reader's verdict tells whether a row turns the file away
 module _ (b : Bytes) (v : Result ⊤ Fault) (e : verdict_decided v ≡ file_refusal b) where
-  pub passed : is_err v ≡ false → passes_rows b ≡ true
+  pub passed : is_ok v ≡ true → passes_rows b ≡ true
   unfolding passes_rows verdict_decided
   passed h = go v e h
     where
-      go : (v : Result ⊤ Fault) → verdict_decided v ≡ file_refusal b → is_err v ≡ false → passes_rows b ≡ true
+      go : (v : Result ⊤ Fault) → verdict_decided v ≡ file_refusal b → is_ok v ≡ true → passes_rows b ≡ true
       go (Ok x) e h = rw (passes_rows, ← e)
       go (Err f) e h = cc
 
-  pub turned_away : is_err v ≡ true → passes_rows b ≡ false
+  pub turned_away : is_ok v ≡ false → passes_rows b ≡ false
   unfolding passes_rows verdict_decided
   turned_away h = go v e h
     where
-      go : (v : Result ⊤ Fault) → verdict_decided v ≡ file_refusal b → is_err v ≡ true → passes_rows b ≡ false
+      go : (v : Result ⊤ Fault) → verdict_decided v ≡ file_refusal b → is_ok v ≡ false → passes_rows b ≡ false
       go (Ok x) e h = cc
       go (Err f) e h = rw (passes_rows, ← e)
 

@@ -27,7 +27,8 @@ fn write_accepted(file: &[u8], buffer: &mut [u8]) -> usize
         → Wrote net result buffer.old buffer.new }
 {
     let size = file.len();
-    if judge(file).is_err() {
+    let accepted = judge(file).is_ok();
+    if !accepted {
         return 0;
     }
     if buffer.len() < size {

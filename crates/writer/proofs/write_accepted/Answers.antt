@@ -4,8 +4,8 @@ use Rattle.std.proofs.Common.{sym, ◌∙◌, arith}
 use Rattle.writer.proofs.WriteLaws.{passed, turned_away, refused, shorter, accepted}
 use Rattle.writer.proofs.write_accepted.Goals as goal
 
-pub returns-then-is_err : goal.returns-then-is_err
-returns-then-is_err c = λ net counts is. refused _ _ net is (turned_away _ _ c.judge.ensures (sym c.is_err.ensures.value ∙ c.if-is_err.true))
+pub returns-then-not-accepted : goal.returns-then-not-accepted
+returns-then-not-accepted c = λ net counts is. refused _ _ net is (turned_away _ _ c.judge.ensures (sym c.is_ok-accepted.ensures.value ∙ c.if-not-accepted.true))
 
 pub returns-then-buffer-size : goal.returns-then-buffer-size
 returns-then-buffer-size c = λ net counts is. shorter _ _ net is c.if-buffer-size.true
@@ -13,4 +13,4 @@ returns-then-buffer-size c = λ net counts is. shorter _ _ net is c.if-buffer-si
 pub returns : goal.returns
 returns c =
     λ net counts is. accepted _ _ net is _ counts (λ i. omega (arith, c.type_inv.file i))
-    (passed _ _ c.judge.ensures (sym c.is_err.ensures.value ∙ c.if-is_err.false)) c.if-buffer-size.false c.put_bytes.ensures
+    (passed _ _ c.judge.ensures (sym c.is_ok-accepted.ensures.value ∙ c.if-not-accepted.false)) c.if-buffer-size.false c.put_bytes.ensures
