@@ -1,7 +1,7 @@
 -- One link more in the columns, and the part of the run that is the LSA at an offset.
 -- Assumes nothing.
 use Prim.Native.Nat.{ℕ, ◌+◌, ◌-◌, ◌*◌, ◌≤◌, ◌<◌}
-use mathlib.Core.Path.{◌≡◌, sym, ap, ap₂, ◌∙◌}
+use mathlib.Core.Path.{◌≡◌, sym, ap, ◌∙◌}
 use mathlib.Core.List.{List, [], ◌∷◌, ◌++◌, append-nil}
 use native.Mathlib.Omega.{arith}
 use native.Mathlib.Decide.{ℕ_discrete}
@@ -14,34 +14,23 @@ use Rattle.lfa.specs.File.{Bytes, part_of}
 use Rattle.lfa.proofs.Laws.Test.{or_right}
 use Rattle.ospf.specs.Lsa.{be16, length_field, links_field}
 use Rattle.ospf.proofs.Laws.Reading.{half_at, part_long}
-use Rattle.router_links.specs.Read.{metric_to, stub_least}
 use Rattle.router_links.specs.Gather.{lsa_from, StandsAt, link_if, LinksHeld}
 use Rattle.router_links.specs.declared.gather.Links.{Links}
 
 -- ---- the LSA at an offset
 
 module _ (b : Bytes) (at size : ℕ) (stands : StandsAt b at) (e : size ≡ be16 b (at + 18)) where
-  from_is : take (at + size - at) (drop at b) ≡ lsa_from b at
+  pub from_is : take (at + size - at) (drop at b) ≡ lsa_from b at
   unfolding lsa_from part_of length_field
   from_is =
       let d : at + size - at ≡ be16 (drop at b) 18 = omega (arith, half_at b at 18) in
       ap (λ (n : ℕ). take n (drop at b)) d
 
-  pub from_links : (links : ℕ) → links ≡ be16 (take (at + size - at) (drop at b)) 22 → 24 + 12 * links ≤ length (take (at + size - at) (drop at b))
+  pub from_links : (links : ℕ) → links ≡ be16 (take (at + size - at) (drop at b)) 22 → (links ≡ links_field (lsa_from b at)) × (24 + 12 * links ≤ length (take (at + size - at) (drop at b)))
   unfolding links_field
   from_links links q =
       let w : links ≡ be16 (lsa_from b at) 22 = q ∙ ap (λ (l : Bytes). be16 l 22) from_is in
-      omega (arith, part_long b at size (omega (arith, stands.inside)), stands.links)
-
-  pub from_metric : (links to r : ℕ) → links ≡ be16 (take (at + size - at) (drop at b)) 22 → r ≡ metric_to (take (at + size - at) (drop at b)) links to →
-      r ≡ metric_to (lsa_from b at) (links_field (lsa_from b at)) to
-  unfolding links_field
-  from_metric links to r q w = w ∙ ap₂ (λ (l : Bytes) (n : ℕ). metric_to l n to) from_is (q ∙ ap (λ (l : Bytes). be16 l 22) from_is)
-
-  pub from_stub : (links key r : ℕ) → links ≡ be16 (take (at + size - at) (drop at b)) 22 → r ≡ stub_least key 65536 (take (at + size - at) (drop at b)) 0 links →
-      r ≡ stub_least key 65536 (lsa_from b at) 0 (links_field (lsa_from b at))
-  unfolding links_field
-  from_stub links key r q w = w ∙ ap₂ (λ (l : Bytes) (n : ℕ). stub_least key 65536 l 0 n) from_is (q ∙ ap (λ (l : Bytes). be16 l 22) from_is)
+      (w, omega (arith, part_long b at size (omega (arith, stands.inside)), stands.links))
 
 -- ---- one link more
 

@@ -7,9 +7,8 @@ ghost use Rattle.ospf.specs.Network.{links_up, ids_of, network_from};
 ghost use Rattle.router_links.specs.Read.{metric_to, stub_least, RoutersHeld};
 ghost use Rattle.router_links.specs.Gather.{lsa_from, StandsAt, link_if, LinksHeld};
 
-use super::link::{metric_to, stub_least};
+use super::link::{lsa_at, metric_to, stub_least};
 use super::router::Routers;
-use router_lsa::field::be16_at;
 
 // The links of a network in columns, and how many: 129 where there are more than 128.
 #[derive(Clone, Copy)]
@@ -26,10 +25,7 @@ pub(crate) fn lsa_metric(run: &[u8], at: usize, to: u32) -> u16
     requires { StandsAt run.now at }
     ensures { result ≡ metric_to (lsa_from run.now at) (links_field (lsa_from run.now at)) to }
 {
-    let size = usize::from(be16_at(run, at + 18));
-    let end = at + size;
-    let l = &run[at..end];
-    let links = usize::from(be16_at(l, 22));
+    let (l, links) = lsa_at(run, at);
     metric_to(l, links, to)
 }
 
@@ -38,10 +34,7 @@ pub(crate) fn lsa_stub(run: &[u8], at: usize, key: u64) -> u32
     requires { StandsAt run.now at }
     ensures { result ≡ stub_least key 65536 (lsa_from run.now at) 0 (links_field (lsa_from run.now at)) }
 {
-    let size = usize::from(be16_at(run, at + 18));
-    let end = at + size;
-    let l = &run[at..end];
-    let links = usize::from(be16_at(l, 22));
+    let (l, links) = lsa_at(run, at);
     stub_least(l, links, key)
 }
 
