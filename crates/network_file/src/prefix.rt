@@ -93,7 +93,8 @@ fn sound_prefix(routers: usize, entry: &[u8], masks: &[u32; 72]) -> bool
         && unused_zero(count, entry, masks)
 }
 
-// Row 8: the first prefix that it turns down.
+// Row 8: the first prefix that it turns down. Rows 8 and 9 have a loop each: one loop that takes the test as a closure was tried, and what
+// the closure returns was proved only by names of Rattle's own, or by clauses at each closure that are longer than the loop.
 pub(crate) fn first_bad_prefix(file: &[u8], links: &Links) -> Option<usize>
     requires { LinksOf file.now links.now }
     ensures { found_in result ≡ first_failing (prefix_good file.now) 0 links.now.prefixes }
