@@ -3,17 +3,19 @@
 use Prim.Native.Nat.{ℕ, zero, suc, ◌+◌, ◌*◌, ◌/◌, ◌%◌, ◌≤◌, ◌<◌}
 use mathlib.Core.Path.{◌≡◌, refl, sym, ap, ◌∙◌}
 use mathlib.Core.Bool.{Bool, true, false, not, ◌&&◌, ◌||◌}
+use mathlib.Core.Logic.{◌⊎◌, inl, inr}
 use mathlib.Core.List.{List}
 use mathlib.Core.Option.{Option, none, some}
 use native.Mathlib.Omega.{arith}
 use native.Mathlib.Numerals.{add-one}
 use lib.Dec.{eqb}
 use lib.ListN.{length, get_or, set, replicate, length-set, length-replicate, get_or-replicate}
-use borrow.Author.Tests.{not-true, not-false}
+use borrow.Author.Tests.{eqb-true, eqb-false, not-true, not-false}
 use Rattle.lfa.specs.Lists.{every_below, first_failing}
 use Rattle.lfa.specs.Network.{Link, link}
 use Rattle.lfa.specs.File.{Bytes, byte_at, word_at, part_of, ceil, link_blocks, prefix_blocks, blocks_needed, routers_of, links_of, prefixes_of}
 use Rattle.lfa.specs.File.{link_entry, link_in, link_of, prefix_of, network_of, link_good, join_same, link_new}
+use Rattle.lfa.proofs.Laws.Test.{decide}
 use Rattle.lfa.proofs.Laws.Chunks.{part_element}
 use Rattle.lfa.proofs.Laws.Counting.{length_map_below, map_below_at}
 use Rattle.lfa.proofs.Laws.FirstFailing.{none_failing, all_passing, first_failing_lem, failing_first}
@@ -21,7 +23,7 @@ use Rattle.block.specs.Judged.{Sized}
 use Rattle.metric.specs.declared.columns.Links.{Links}
 use Rattle.network_file.specs.Laws.Struct.{struct_link}
 use Rattle.network_file.specs.Struct.{from_of, to_of, out_of, back_of, column, link_column, links_in, links_struct_of}
-use Rattle.network_file.specs.Entry.{LinksOf, FewLinks, EndsBelow, link_place, link_at, link_sound, pair_new, pair_cell}
+use Rattle.network_file.specs.Entry.{LinksOf, FewLinks, EndsBelow, link_place, next_place, link_at, link_sound, pair_new, pair_cell}
 use Rattle.network_file.proofs.EveryLaws.{every_same}
 use Rattle.network_file.proofs.TableLaws.{mark, cell_small, cell_same}
 use Rattle.network_file.proofs.ColumnLaws.{column_map}
@@ -37,11 +39,11 @@ link_inside b s k h = omega (arith, s.whole)
 -- The place after that of link k. 84 entries fill a block up to its byte 508, so the next one stands behind the label of the next
 -- block where the place behind this one is such a byte, and else directly behind it.
 module _ (k place : ℕ) (is : place ≡ link_place k) where
-  pub link_block_lem : (place + 6) % 512 ≡ 508 → place + 6 + 8 ≡ link_place (k + 1)
+  link_block_lem : (place + 6) % 512 ≡ 508 → place + 6 + 8 ≡ link_place (k + 1)
   unfolding link_place
   link_block_lem h = omega arith
 
-  pub link_behind : ((place + 6) % 512 ≡ 508 → ⊥) → place + 6 ≡ link_place (k + 1)
+  link_behind : ((place + 6) % 512 ≡ 508 → ⊥) → place + 6 ≡ link_place (k + 1)
   unfolding link_place
   link_behind h =
       let last : k % 84 ≡ 83 → ⊥ = λ q. h (full (omega arith)) in
@@ -49,6 +51,13 @@ module _ (k place : ℕ) (is : place ≡ link_place k) where
     where
       full : place + 6 ≡ 512 * (1 + k / 84) + 508 → (place + 6) % 512 ≡ 508
       full e = omega arith
+
+  pub link_next : {r : ℕ} → r ≡ next_place 6 84 place → r ≡ link_place (k + 1)
+  link_next q = q ∙ go (decide (eqb ((place + 6) % 512) 508))
+    where
+      go : (eqb ((place + 6) % 512) 508 ≡ true) ⊎ (eqb ((place + 6) % 512) 508 ≡ false) → next_place 6 84 place ≡ link_place (k + 1)
+      go (inl t) = rw (t, next_place) (link_block_lem (eqb-true ((place + 6) % 512) 508 t))
+      go (inr f) = rw (f, next_place) (link_behind (eqb-false ((place + 6) % 512) 508 f))
 
   -- it lies inside the file
   pub link_there : (b : Bytes) (links : ℕ) → Sized b → links ≡ links_of b → k < links → place + 6 ≤ length b

@@ -3,11 +3,16 @@
 -- Assumes nothing.
 use Prim.Native.Nat.{ℕ, ◌+◌, ◌*◌, ◌/◌, ◌%◌, ◌≤◌, ◌<◌}
 use mathlib.Core.Path.{◌≡◌, ◌∙◌}
+use mathlib.Core.Bool.{true, false}
+use mathlib.Core.Logic.{◌⊎◌, inl, inr}
 use native.Mathlib.Omega.{arith}
+use lib.Dec.{eqb}
+use borrow.Author.Tests.{eqb-true, eqb-false}
+use Rattle.lfa.proofs.Laws.Test.{decide}
 use lib.ListN.{length}
 use Rattle.lfa.specs.File.{Bytes, part_of, ceil, link_blocks, prefix_blocks, blocks_needed, links_of, prefixes_of, prefix_entry}
 use Rattle.block.specs.Judged.{Sized}
-use Rattle.network_file.specs.Entry.{place_of}
+use Rattle.network_file.specs.Entry.{place_of, next_place}
 
 -- The place by division, as `entries::prefix_entry` finds it, and the place of the first entry, where the divisions give 0: the blocks of links,
 -- 84 to a block, stand between the head and the first block of prefixes.
@@ -22,11 +27,11 @@ place_first b links right = rw right (omega arith)
 -- The place after that of prefix p. 14 entries fill a block up to its byte 480, so the next one stands behind the label of the next
 -- block where the place behind this one is such a byte, and else directly behind it.
 module _ (b : Bytes) (p place : ℕ) (is : place ≡ place_of b p) where
-  pub place_block : (place + 34) % 512 ≡ 480 → place + 34 + 36 ≡ place_of b (p + 1)
+  place_block : (place + 34) % 512 ≡ 480 → place + 34 + 36 ≡ place_of b (p + 1)
   unfolding place_of
   place_block h = omega arith
 
-  pub place_behind : ((place + 34) % 512 ≡ 480 → ⊥) → place + 34 ≡ place_of b (p + 1)
+  place_behind : ((place + 34) % 512 ≡ 480 → ⊥) → place + 34 ≡ place_of b (p + 1)
   unfolding place_of
   place_behind h =
       let last : p % 14 ≡ 13 → ⊥ = λ q. h (full (omega arith)) in
@@ -37,6 +42,13 @@ module _ (b : Bytes) (p place : ℕ) (is : place ≡ place_of b p) where
         where
           rest : (k : ℕ) → (512 * k + 480) % 512 ≡ 480
           rest k = omega arith
+
+  pub place_next : {r : ℕ} → r ≡ next_place 34 14 place → r ≡ place_of b (p + 1)
+  place_next q = q ∙ go (decide (eqb ((place + 34) % 512) 480))
+    where
+      go : (eqb ((place + 34) % 512) 480 ≡ true) ⊎ (eqb ((place + 34) % 512) 480 ≡ false) → next_place 34 14 place ≡ place_of b (p + 1)
+      go (inl t) = rw (t, next_place) (place_block (eqb-true ((place + 34) % 512) 480 t))
+      go (inr f) = rw (f, next_place) (place_behind (eqb-false ((place + 34) % 512) 480 f))
 
   -- The entry lies inside the file: its block is below the number of blocks needed, and within the block it ends before the check.
   pub place_inside : Sized b → p < prefixes_of b → place + 34 ≤ length b

@@ -35,6 +35,14 @@ pub record FewLinks (l : Links) : Type 0 where
 abbrev pub PrefixesSound : Bytes → ℕ → Type 0
 PrefixesSound b n = (p : ℕ) → p < n → prefix_good b p ≡ true
 
+-- ---- places
+
+-- the place after one, of entries of `size` bytes of which `per` fill a block behind its label: behind the entry, or behind the label of the next
+-- block
+abbrev pub next_place : (size per place : ℕ) → ℕ
+next_place size per place =
+    elim (eqb ((place + size) % 512) (4 + size * per)) [ true ↦ place + size + (512 - size * per) | false ↦ place + size ]
+
 -- ---- rows 6 and 7 over the links
 
 -- where the entry of link k stands

@@ -22,6 +22,7 @@ mod entry;
 mod link;
 mod mask;
 pub mod network;
+mod place;
 mod prefix;
 
 // Why a file is turned away: rows 1 to 9, each with the block, link or prefix that it names, or the number of blocks needed.

@@ -7,20 +7,9 @@ ghost use Rattle.block.specs.Judged.{Sized};
 ghost use Rattle.network_file.specs.Struct.{links_struct_of};
 ghost use Rattle.network_file.specs.Entry.{FewLinks, EndsBelow, link_place, ends_good, costs_good, link_sound, pair_cell, pair_new};
 
+use super::place::next_place;
 use field::{word_at, word_of};
 use metric::columns::Links;
-
-// Where the entry after this one stands: behind it, or after 84 of them behind the label of the next block.
-fn next_link_place(place: usize) -> usize
-    requires { place ≤ 6656 }
-    ensures { (k : ℕ) → place ≡ link_place k → result ≡ link_place (k + 1) }
-{
-    let next = place + 6;
-    if next % 512 == 508 {
-        return next + 8;
-    }
-    next
-}
 
 // Reads the counts of the head and the entries of the links into columns.
 pub(crate) fn fill_links(file: &[u8]) -> Links
@@ -38,7 +27,7 @@ pub(crate) fn fill_links(file: &[u8]) -> Links
         to[k] = file[place + 1];
         out[k] = word_of(file[place + 2], file[place + 3]);
         back[k] = word_of(file[place + 4], file[place + 5]);
-        place = next_link_place(place);
+        place = next_place::<6, 84>(place);
     }
     Links {
         routers: usize::from(file[4]),

@@ -10,6 +10,7 @@ ghost use Rattle.network_file.specs.Entry.{LinksOf, place_of, PrefixesSound, unu
 
 use super::mask::UNUSED;
 use super::network::Network;
+use super::place::next_place;
 use metric::columns::Links;
 
 // Where the entry of prefix 0 stands. The blocks of links, 84 to a block, stand before those of prefixes.
@@ -18,19 +19,6 @@ fn first_place(links: usize) -> usize
     ensures { (b : Bytes) → links ≡ links_of b → result ≡ place_of b 0 }
 {
     512 * (1 + (links + 83) / 84) + 4
-}
-
-// Where the entry after this one stands: behind it, or after 14 of them behind the label of the next block. A loop over the
-// prefixes that keeps the place needs no division.
-fn next_place(place: usize) -> usize
-    requires { place ≤ 6656 }
-    ensures { (b : Bytes) (p : ℕ) → place ≡ place_of b p → result ≡ place_of b (p + 1) }
-{
-    let next = place + 34;
-    if next % 512 == 480 {
-        return next + 36;
-    }
-    next
 }
 
 // The 34 bytes of the prefix whose entry stands at a place.
@@ -105,7 +93,7 @@ pub(crate) fn first_bad_prefix(file: &[u8], links: &Links) -> Option<usize>
         if !sound_prefix(links.routers, entry_at(file, place), &masks) {
             return Some(p);
         }
-        place = next_place(place);
+        place = next_place::<34, 14>(place);
     }
     None
 }
@@ -137,7 +125,7 @@ pub(crate) fn first_router_twice(file: &[u8], links: &Links) -> Option<usize>
         if !new_routers(entry_at(file, place)) {
             return Some(p);
         }
-        place = next_place(place);
+        place = next_place::<34, 14>(place);
     }
     None
 }
@@ -168,7 +156,7 @@ pub(crate) fn network_of(file: &[u8], links: &Links) -> Network
         let entry = entry_at(file, place);
         attached[p] = entry[0];
         store_slots(entry, p, &mut at, &mut own);
-        place = next_place(place);
+        place = next_place::<34, 14>(place);
     }
     Network {
         links: *links,

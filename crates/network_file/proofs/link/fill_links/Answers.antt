@@ -3,7 +3,7 @@ use Rattle.lfa.specs.File.{routers_of, links_of, prefixes_of, byte_at}
 use Rattle.network_file.specs.Struct.{from_of, to_of, out_of, back_of}
 use Rattle.network_file.specs.Entry.{link_place}
 use Rattle.network_file.proofs.ColumnLaws.{column_none, more}
-use Rattle.network_file.proofs.LinkLaws.{link_there, link_end, from_read, to_read, out_read, back_read, column_links}
+use Rattle.network_file.proofs.LinkLaws.{link_next, link_there, link_end, from_read, to_read, out_read, back_read, column_links}
 use Rattle.network_file.proofs.EntryLaws.{head_there, links_made}
 use Rattle.network_file.proofs.link.fill_links.Goals as goal
 
@@ -27,7 +27,7 @@ loop-k-preserved c =
     let i = l.invariant in
     let b = c.args.file.now in
     let h : l.k < 128 = omega arith in
-    let next = c.next_link_place-place.ensures l.k i.at_place in
+    let next = link_next l.k _ i.at_place c.next_place-place.ensures in
     record {
       few = i.few;
       at_place = next;

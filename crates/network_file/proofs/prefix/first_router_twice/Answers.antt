@@ -1,7 +1,7 @@
 use Rattle.std.proofs.Common.{◌∙◌, arith}
 use Rattle.block.specs.Laws.First.{passed_start, passed_more, first_found, none_found}
 use Rattle.network_file.proofs.LinkLaws.{few_links, links_read, prefixes_read}
-use Rattle.network_file.proofs.PlaceLaws.{place_inside, place_small}
+use Rattle.network_file.proofs.PlaceLaws.{place_next, place_inside, place_small}
 use Rattle.network_file.proofs.PrefixLaws.{slots_there, routers_tested}
 use Rattle.network_file.proofs.prefix.first_router_twice.Goals as goal
 
@@ -25,14 +25,14 @@ returns-then-not-new_routers c =
     first_found _ 0 _ l.p l.invariant.0 (omega arith) (omega arith) (tested ∙ c.if-not-new_routers.true)
 
 pub next_place-place-requires : goal.next_place-place-requires
-next_place-place-requires c = place_small _ _ _ c.loop-p.invariant.1 c.requires.0.sized (omega (arith, prefixes_read _ _ c.requires.0))
+next_place-place-requires c = (place_small _ _ _ c.loop-p.invariant.1 c.requires.0.sized (omega (arith, prefixes_read _ _ c.requires.0)), omega arith, omega arith)
 
 pub loop-p-preserved : goal.loop-p-preserved
 loop-p-preserved c =
     let l = c.loop-p in
     let tested = routers_tested _ _ _ (c.entry_at.ensures.0 _ l.invariant.1) c.new_routers.ensures in (
       passed_more _ 0 c.args.links.now.prefixes l.p l.invariant.0 (tested ∙ c.if-not-new_routers.false),
-      c.next_place-place.ensures _ _ l.invariant.1,
+      place_next _ l.p _ l.invariant.1 c.next_place-place.ensures,
     )
 
 pub returns : goal.returns

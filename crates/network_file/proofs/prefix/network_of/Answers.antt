@@ -2,7 +2,7 @@ use Rattle.std.proofs.Common.{◌≡◌, ◌<◌, arith}
 use Rattle.network_file.specs.Struct.{router_of, cost_of}
 use Rattle.network_file.proofs.ColumnLaws.{column_none, more}
 use Rattle.network_file.proofs.LinkLaws.{few_links, links_read, prefixes_read}
-use Rattle.network_file.proofs.PlaceLaws.{place_inside, place_small}
+use Rattle.network_file.proofs.PlaceLaws.{place_next, place_inside, place_small}
 use Rattle.network_file.proofs.AttachmentLaws.{attached_read, eight_more, columns_filled}
 use Rattle.network_file.proofs.EntryLaws.{prefixes_sound, struct_made}
 use Rattle.network_file.proofs.prefix.network_of.Goals as goal
@@ -26,7 +26,7 @@ pub store_slots-requires : goal.store_slots-requires
 store_slots-requires c = (c.entry_at-entry.ensures.1, omega arith)
 
 pub next_place-place-requires : goal.next_place-place-requires
-next_place-place-requires c = place_small _ _ _ c.loop-p.invariant.at_place c.requires.0.sized (omega (arith, prefixes_read _ _ c.requires.0))
+next_place-place-requires c = (place_small _ _ _ c.loop-p.invariant.at_place c.requires.0.sized (omega (arith, prefixes_read _ _ c.requires.0)), omega arith, omega arith)
 
 pub loop-p-preserved : goal.loop-p-preserved
 loop-p-preserved c =
@@ -37,7 +37,7 @@ loop-p-preserved c =
     let h : l.p < 128 = omega arith in
     record {
       few = i.few;
-      at_place = c.next_place-place.ensures _ _ i.at_place;
+      at_place = place_next _ l.p _ i.at_place c.next_place-place.ensures;
       attached_filled = more _ h i.attached_filled (attached_read b _ l.p is);
       routers_filled = eight_more b _ l.p router_of h is i.routers_filled c.store_slots.ensures.routers;
       costs_filled = eight_more b _ l.p cost_of h is i.costs_filled c.store_slots.ensures.costs;
