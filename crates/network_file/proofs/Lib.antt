@@ -1,6 +1,7 @@
 pub mod ColumnLaws
 pub mod TableLaws
 pub mod LinkLaws
+pub mod PairLaws
 pub mod LinkRowLaws
 pub mod EveryLaws
 pub mod OrLaws

@@ -1,6 +1,6 @@
 use Rattle.std.proofs.Common.{arith}
 use Rattle.block.specs.Laws.First.{passed_start, passed_more, first_found, none_found}
-use Rattle.network_file.proofs.LinkLaws.{joined_none, joined_more, is_new, not_new}
+use Rattle.network_file.proofs.PairLaws.{joined_none, joined_more, is_new, not_new}
 use Rattle.network_file.proofs.link.parallel_link.Goals as goal
 
 pub loop-k-init : goal.loop-k-init

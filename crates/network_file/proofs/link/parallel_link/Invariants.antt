@@ -2,7 +2,7 @@
 use Rattle.std.proofs.Common.{◌≡◌}
 use Rattle.block.specs.Laws.First.{Passed}
 use Rattle.network_file.specs.Entry.{pair_new}
-use Rattle.network_file.proofs.LinkLaws.{joined_by}
+use Rattle.network_file.proofs.PairLaws.{joined_by}
 use Rattle.network_file.proofs.link.parallel_link.Given as goal
 
 abbrev pub invariant-loop-k : goal.invariant-loop-k
