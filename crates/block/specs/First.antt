@@ -7,8 +7,3 @@ use Rattle.std.proofs.Math.Option as maybe
 abbrev pub found_in : Option ℕ → maybe.Option ℕ
 found_in None = maybe.none
 found_in (Some k) = maybe.some k
-
--- the number found, or `end` where none was
-unfoldable pub first_or : ℕ → maybe.Option ℕ → ℕ
-first_or end maybe.none = end
-first_or end (maybe.some k) = k

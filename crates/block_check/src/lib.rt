@@ -106,6 +106,7 @@ fn whole_check(block: &[u8]) -> u16
 }
 
 // The check of a block of 512 bytes; 0 for any other bytes.
+// A number and no Option: the clause of this public function promises 0 there.
 pub fn check_of(block: &[u8]) -> u16
     ensures { result ≡ check_of_whole block.now }
 {

@@ -22,7 +22,7 @@ fn word_by_word(block: &[u8]) -> u16
     sum
 }
 
-// Block i.
+// Block i. `block` has the same for itself: a public one would require of any caller that the block is in the file.
 fn block_at(file: &[u8], i: usize) -> &[u8]
     requires { 512 * i + 512 ≤ length file.now }
     ensures { (result.now ≡ block_of file.now i) × (length result.now ≡ 512) }
@@ -48,7 +48,7 @@ fn first_bad<F: Fn(&[u8]) -> u16>(file: &[u8], check: F) -> Option<usize>
 }
 
 // The first block whose check is not the one that it ends with, or the number of whole blocks: word by word where `words`, by numbers of
-// eight bytes otherwise.
+// eight bytes otherwise. A flag and a number in place of a closure and an Option: check_forms_c exports this call to C.
 pub fn check_forms_first_bad(file: &[u8], words: bool) -> usize
     ensures { result ≡ first_bad file.now }
 {

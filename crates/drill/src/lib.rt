@@ -91,6 +91,7 @@ fn network_of(seed: u32, n: usize) -> Network
 
 // Writes the network file of the drill of a seed with so many routers into the buffer, and returns its length; 0, and nothing is
 // written, where the routers are not 3 to 64 or the buffer is shorter than the file.
+// 0 and no Option: `Drilled` and the C interface say so.
 pub fn drill(seed: u32, routers: usize, buffer: &mut [u8]) -> usize
     ensures { Drilled seed routers result buffer.old buffer.new }
 {

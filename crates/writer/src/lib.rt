@@ -22,6 +22,7 @@ mod file;
 mod put;
 
 // Writes a file that the reader accepts into a buffer that is not shorter, and returns its length; else nothing, and 0.
+// 0 and no Option: `Wrote` and the C interface say so.
 fn write_accepted(file: &[u8], buffer: &mut [u8]) -> usize
     ensures { (net : lfa.Network) → counts_fit net ≡ true → file.now ≡ file_of net
         → Wrote net result buffer.old buffer.new }
