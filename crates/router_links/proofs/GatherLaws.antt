@@ -15,7 +15,7 @@ use Rattle.lfa.proofs.Laws.Test.{or_right}
 use Rattle.ospf.specs.Lsa.{be16, length_field, links_field}
 use Rattle.ospf.proofs.Laws.Reading.{half_at, part_long}
 use Rattle.router_links.specs.Gather.{lsa_from, StandsAt, link_if, LinksHeld}
-use Rattle.router_links.specs.declared.gather.Links.{Links}
+use Rattle.metric.specs.declared.columns.Links.{Links}
 
 -- ---- the LSA at an offset
 
@@ -64,8 +64,8 @@ module _ (held : List Link) (x : Link) where
   last = let e : length held + 0 ≡ length held = omega arith in rw e at (get_or-append-add held (x ∷ []) 0 (link 0 0 0 0))
 
 -- the columns are full
-pub full_more : (held : List Link) (a b out back : ℕ) (s : Links) → (out ≡ 0 → ⊥) → (back ≡ 0 → ⊥) → 128 ≤ s.count → LinksHeld held s →
-    LinksHeld (held ++ link_if a b out back) (record { count = 129; from = s.from; to = s.to; out = s.out; back = s.back })
+pub full_more : (held : List Link) (a b out back : ℕ) (s : Links) → (out ≡ 0 → ⊥) → (back ≡ 0 → ⊥) → 128 ≤ s.links → LinksHeld held s →
+    LinksHeld (held ++ link_if a b out back) (record { routers = s.routers; links = 129; prefixes = s.prefixes; from = s.from; to = s.to; out = s.out; back = s.back })
 full_more held a b out back s p q full h =
     rw (is_link a b out back p q) (record {
       count_is = omega (arith, longer_is held (link a b out back), h.count_is);
@@ -77,34 +77,34 @@ full_more held a b out back s p q full h =
     })
 
 -- there is room
-pub put_more : (held : List Link) (a b out back : ℕ) (s : Links) → (out ≡ 0 → ⊥) → (back ≡ 0 → ⊥) → s.count < 128 → LinksHeld held s →
+pub put_more : (held : List Link) (a b out back : ℕ) (s : Links) → (out ≡ 0 → ⊥) → (back ≡ 0 → ⊥) → s.links < 128 → LinksHeld held s →
     LinksHeld (held ++ link_if a b out back)
-    (record { count = s.count + 1; from = set s.from s.count a; to = set s.to s.count b; out = set s.out s.count out; back = set s.back s.count back })
+    (record { routers = s.routers; links = s.links + 1; prefixes = s.prefixes; from = set s.from s.links a; to = set s.to s.links b; out = set s.out s.links out; back = set s.back s.links back })
 put_more held a b out back s p q room h =
-    let n : s.count ≡ length held = omega (arith, h.count_is) in
+    let n : s.links ≡ length held = omega (arith, h.count_is) in
     rw (is_link a b out back p q) (record {
       count_is = omega (arith, longer_is held (link a b out back), h.count_is);
       from_long = simp length-set h.from_long;
       to_long = simp length-set h.to_long;
       out_long = simp length-set h.out_long;
       back_long = simp length-set h.back_long;
-      cells = λ k j l. go k (omega (arith, longer_is held (link a b out back))) l (ℕ_discrete k s.count);
+      cells = λ k j l. go k (omega (arith, longer_is held (link a b out back))) l (ℕ_discrete k s.links);
     })
   where
     same : (k u v w z u' v' w' z' : ℕ) → u ≡ u' → v ≡ v' → w ≡ w' → z ≡ z' → link u v w z ≡ link u' v' w' z'
     same k u v w z u' v' w' z' e f g i = cc
 
-    cell : (c : List ℕ) (v : ℕ) → length c ≡ 128 → get_or (set c s.count v) s.count 0 ≡ v
-    cell c v t = get_or-set_same c s.count v 0 (omega arith)
+    cell : (c : List ℕ) (v : ℕ) → length c ≡ 128 → get_or (set c s.links v) s.links 0 ≡ v
+    cell c v t = get_or-set_same c s.links v 0 (omega arith)
 
-    go : (k : ℕ) → k < length held + 1 → k < 128 → Dec (k ≡ s.count) →
-        link (get_or (set s.from s.count a) k 0) (get_or (set s.to s.count b) k 0) (get_or (set s.out s.count out) k 0) (get_or (set s.back s.count back) k 0)
+    go : (k : ℕ) → k < length held + 1 → k < 128 → Dec (k ≡ s.links) →
+        link (get_or (set s.from s.links a) k 0) (get_or (set s.to s.links b) k 0) (get_or (set s.out s.links out) k 0) (get_or (set s.back s.links back) k 0)
         ≡ get_or (held ++ link a b out back ∷ []) k (link 0 0 0 0)
     go k j l (yes e) =
-        let n : s.count ≡ length held = omega (arith, h.count_is) in
+        let n : s.links ≡ length held = omega (arith, h.count_is) in
         rw e (same k _ _ _ _ _ _ _ _ (cell s.from a h.from_long) (cell s.to b h.to_long) (cell s.out out h.out_long) (cell s.back back h.back_long)
         ∙ sym (rw (← n) at (last held (link a b out back))))
     go k j l (no e) =
-        let n : s.count ≡ length held = omega (arith, h.count_is) in
-        same k _ _ _ _ _ _ _ _ (get_or-set_other s.from s.count k a 0 e) (get_or-set_other s.to s.count k b 0 e) (get_or-set_other s.out s.count k out 0 e) (get_or-set_other s.back s.count k back 0 e)
+        let n : s.links ≡ length held = omega (arith, h.count_is) in
+        same k _ _ _ _ _ _ _ _ (get_or-set_other s.from s.links k a 0 e) (get_or-set_other s.to s.links k b 0 e) (get_or-set_other s.out s.links k out 0 e) (get_or-set_other s.back s.links k back 0 e)
         ∙ h.cells k (omega arith) l ∙ sym (early held (link a b out back) k (omega arith))

@@ -23,7 +23,7 @@ use Rattle.ospf.proofs.Laws.SoundRun.{run_sound}
 use Rattle.ospf.proofs.Laws.Reading.{size_at}
 use Rattle.router_links.specs.Read.{first_or0, metric_to, place_of, front, RoutersHeld}
 use Rattle.router_links.specs.Gather.{lsa_from, StandsAt, link_if, LinksHeld}
-use Rattle.router_links.specs.declared.gather.Links.{Links}
+use Rattle.metric.specs.declared.columns.Links.{Links}
 use Rattle.router_links.specs.declared.router.Routers.{Routers}
 use Rattle.router_links.proofs.RouterLaws.{ids_long, from_ids}
 use Rattle.router_links.proofs.PlaceLaws.{LsaOf, lsa_of, metric_read}
@@ -144,7 +144,7 @@ module _ (b : Bytes) (bytes : AreBytes b) (n : ℕ) (w : WholeRun b n) (s : Rout
 
 module _ (f : ℕ → List Link) where
   -- columns with nothing in them
-  pub none_held : (s : Links) → s.count ≡ 0 → length s.from ≡ 128 → length s.to ≡ 128 → length s.out ≡ 128 → length s.back ≡ 128 → LinksHeld (flat (map f (below 0))) s
+  pub none_held : (s : Links) → s.links ≡ 0 → length s.from ≡ 128 → length s.to ≡ 128 → length s.out ≡ 128 → length s.back ≡ 128 → LinksHeld (flat (map f (below 0))) s
   unfolding below count_up flat
   none_held s c p q r t =
       record { count_is = omega arith; from_long = p; to_long = q; out_long = r; back_long = t; cells = λ k h l. absurd (omega arith) }

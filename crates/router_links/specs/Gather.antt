@@ -4,7 +4,7 @@ use Rattle.std.specs.Prelude.{ℕ, ◌+◌, ◌*◌, ◌≤◌, ◌<◌, min, �
 use Rattle.lfa.specs.Network.{Link, link}
 use Rattle.lfa.specs.File.{Bytes, part_of}
 use Rattle.ospf.specs.Lsa.{be16, length_field, links_field}
-use Rattle.router_links.specs.declared.gather.Links.{Links}
+use Rattle.metric.specs.declared.columns.Links.{Links}
 
 -- the bytes of the LSA that begins at an offset
 unfoldable pub lsa_from : Bytes → ℕ → Bytes
@@ -20,9 +20,9 @@ pub record StandsAt (b : Bytes) (at : ℕ) : Type 0 where
 unfoldable pub link_if : (a b out back : ℕ) → List Link
 link_if a b out back = elim (eqb out 0 || eqb back 0) [ true ↦ [] | false ↦ link a b out back ∷ [] ]
 
--- the columns hold the links of a list, as far as there is room, and `count` is how many there are, 129 where there are more than 128
+-- the columns hold the links of a list, as far as there is room, and `links` is how many there are, 129 where there are more than 128
 pub record LinksHeld (held : List Link) (columns : Links) : Type 0 where
-  pub count_is : columns.count ≡ min (length held) 129
+  pub count_is : columns.links ≡ min (length held) 129
   pub from_long : length columns.from ≡ 128
   pub to_long : length columns.to ≡ 128
   pub out_long : length columns.out ≡ 128

@@ -9,16 +9,7 @@ ghost use Rattle.router_links.specs.Gather.{lsa_from, StandsAt, link_if, LinksHe
 
 use super::link::{lsa_at, metric_to, stub_least};
 use super::router::Routers;
-
-// The links of a network in columns, and how many: 129 where there are more than 128.
-#[derive(Clone, Copy)]
-pub struct Links {
-    pub count: usize,
-    pub from: [u8; 128],
-    pub to: [u8; 128],
-    pub out: [u16; 128],
-    pub back: [u16; 128],
-}
+use metric::columns::Links;
 
 // The metric of the point-to-point link to a router in the LSA that begins at `at`, or 0.
 pub(crate) fn lsa_metric(run: &[u8], at: usize, to: u32) -> u16
@@ -38,7 +29,7 @@ pub(crate) fn lsa_stub(run: &[u8], at: usize, key: u64) -> u32
     stub_least(l, links, key)
 }
 
-// The links with one more between routers a and b, if both have a metric for the other.
+// The links with one more between routers a and b, if both have a metric for the other. There are 129 links where there are more than 128.
 pub(crate) fn add_link(links: Links, a: u8, b: u8, metric: u16, other: u16) -> Links
     ensures { (held : List lfa.Link) → LinksHeld held links → LinksHeld (held ++ link_if a b metric other) result }
 {
@@ -48,10 +39,10 @@ pub(crate) fn add_link(links: Links, a: u8, b: u8, metric: u16, other: u16) -> L
     if other == 0 {
         return links;
     }
-    let count = links.count;
+    let count = links.links;
     if 128 <= count {
         return Links {
-            count: 129,
+            links: 129,
             ..links
         };
     }
@@ -60,7 +51,7 @@ pub(crate) fn add_link(links: Links, a: u8, b: u8, metric: u16, other: u16) -> L
     more.to[count] = b;
     more.out[count] = metric;
     more.back[count] = other;
-    more.count = count + 1;
+    more.links = count + 1;
     more
 }
 
@@ -87,7 +78,9 @@ pub(crate) fn links_of(run: &[u8], n: usize, routers: Routers) -> Links
     ensures { LinksHeld (network_from (lsas_of run.now n)).links result }
 {
     let mut all = Links {
-        count: 0,
+        routers: n,
+        links: 0,
+        prefixes: 0,
         from: [0u8; 128],
         to: [0u8; 128],
         out: [0u16; 128],
