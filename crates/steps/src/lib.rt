@@ -25,21 +25,6 @@ pub struct Onward {
     pub missing: u64,
 }
 
-// Whether a hop from u to v at this cost is a step.
-fn is_step(ends: u64, target: &[u32; 64], u: usize, v: usize, cost: u32) -> bool
-    requires { (u < 64) × (v < 64) }
-    ensures { result ≡ is_tight ends (λ y. get_or target.now y 0) u v cost }
-{
-    let own = target[u];
-    if (ends >> u) & 1 == 1 {
-        return false;
-    }
-    if Distance::UNREACHABLE <= own {
-        return false;
-    }
-    Distance::add(cost, target[v]) == own
-}
-
 // The set of router x alone where the test passes, and else the empty set.
 fn one_if(test: bool, x: usize) -> u64
     requires { x < 64 }
@@ -48,27 +33,65 @@ fn one_if(test: bool, x: usize) -> u64
     if test { 1 << x } else { 0 }
 }
 
-// Puts a hop to the next routers of the router u that it leaves, where it is a step.
-fn put_hop(u: usize, v: usize, cost: u32, ends: u64, target: &[u32; 64], nexts: &mut [u64; 64])
-    requires { (u < 64) × (v < 64) }
-    ensures { nexts.new ≡ set nexts.old u (bit_or (get_or nexts.old u 0) (set_of 64 (λ z. is_tight ends (λ y. get_or target.now y 0) u v cost && eqb v z))) }
-{
-    nexts[u] |= one_if(is_step(ends, target, u, v, cost), v);
+// Walks towards a target: `target` holds the distances to it, and they do not go on from a router of the set `ends`.
+#[derive(Clone, Copy)]
+struct Walks<'a> {
+    ends: u64,
+    target: &'a [u32; 64],
 }
 
-// The next routers of each router, in one pass over the links.
-fn nexts_over(links: &Links, ends: u64, target: &[u32; 64]) -> [u64; 64]
-    requires { ColumnsWithin 64 links.now.links links.now.from links.now.to }
-    ensures { result ≡ nexts_in ends (λ y. get_or target.now y 0) (arcs_in links.now.from links.now.to links.now.out links.now.back links.now.links) }
-{
-    let mut nexts = [0; 64];
-    for k in 0..links.links {
-        let a = usize::from(links.from[k]);
-        let b = usize::from(links.to[k]);
-        put_hop(a, b, u32::from(links.out[k]), ends, target, &mut nexts);
-        put_hop(b, a, u32::from(links.back[k]), ends, target, &mut nexts);
+impl Walks<'_> {
+    // Whether a hop from u to v at this cost is a step.
+    fn is_step(&self, u: usize, v: usize, cost: u32) -> bool
+        requires { (u < 64) × (v < 64) }
+        ensures { result ≡ is_tight self.now.ends (λ y. get_or self.now.target.now y 0) u v cost }
+    {
+        let own = self.target[u];
+        if (self.ends >> u) & 1 == 1 {
+            return false;
+        }
+        if Distance::UNREACHABLE <= own {
+            return false;
+        }
+        Distance::add(cost, self.target[v]) == own
     }
-    nexts
+
+    // Puts a hop to the next routers of the router u that it leaves, where it is a step.
+    fn put_hop(&self, u: usize, v: usize, cost: u32, nexts: &mut [u64; 64])
+        requires { (u < 64) × (v < 64) }
+        ensures { nexts.new ≡ set nexts.old u (bit_or (get_or nexts.old u 0)
+            (set_of 64 (λ z. is_tight self.now.ends (λ y. get_or self.now.target.now y 0) u v cost && eqb v z))) }
+    {
+        nexts[u] |= one_if(self.is_step(u, v, cost), v);
+    }
+
+    // The next routers of each router, in one pass over the links.
+    fn nexts_over(&self, links: &Links) -> [u64; 64]
+        requires { ColumnsWithin 64 links.now.links links.now.from links.now.to }
+        ensures { result ≡ nexts_in self.now.ends (λ y. get_or self.now.target.now y 0)
+            (arcs_in links.now.from links.now.to links.now.out links.now.back links.now.links) }
+    {
+        let mut nexts = [0; 64];
+        for k in 0..links.links {
+            let a = usize::from(links.from[k]);
+            let b = usize::from(links.to[k]);
+            self.put_hop(a, b, u32::from(links.out[k]), &mut nexts);
+            self.put_hop(b, a, u32::from(links.back[k]), &mut nexts);
+        }
+        nexts
+    }
+
+    // The ends of the protected link from which the hop over it is a step.
+    fn over_link(&self, protected: Protected) -> u64
+        requires { (protected.near < 64) × (protected.far < 64) }
+        ensures { result ≡ over_link (asked protected) self.now.ends (λ y. get_or self.now.target.now y 0) }
+    {
+        let near = protected.near;
+        let far = protected.far;
+        let out = one_if(self.is_step(near, far, protected.out), near);
+        let back = one_if(self.is_step(far, near, protected.back), far);
+        out | back
+    }
 }
 
 // The next routers of each router, as a set for each; none where a link joins numbers that are not below 64.
@@ -78,7 +101,7 @@ pub fn next_routers(links: &Links, ends: u64, target: &[u32; 64]) -> [u64; 64]
     if !links_fit(64, links) {
         return [0; 64];
     }
-    nexts_over(links, ends, target)
+    Walks { ends, target }.nexts_over(links)
 }
 
 // The routers of which some next router is in the set.
@@ -109,18 +132,6 @@ pub fn leading_to(nexts: &[u64; 64], start: u64, most: usize) -> u64
     set
 }
 
-// The ends of the protected link from which the hop over it is a step.
-fn over_link(protected: Protected, ends: u64, target: &[u32; 64]) -> u64
-    requires { (protected.near < 64) × (protected.far < 64) }
-    ensures { result ≡ over_link (asked protected) ends (λ y. get_or target.now y 0) }
-{
-    let near = protected.near;
-    let far = protected.far;
-    let out = one_if(is_step(ends, target, near, far, protected.out), near);
-    let back = one_if(is_step(ends, target, far, near, protected.back), far);
-    out | back
-}
-
 // Whether the hop over the protected link from S to E is a step: then traffic from S may cross the link.
 #[tactic(auto, unfolding(crate::specs::Crossing::steps_over))]
 pub fn steps_over(protected: Protected, ends: u64, target: &[u32; 64]) -> bool
@@ -128,7 +139,8 @@ pub fn steps_over(protected: Protected, ends: u64, target: &[u32; 64]) -> bool
 {
     let near = protected.near;
     let far = protected.far;
-    near < 64 && far < 64 && is_step(ends, target, near, far, protected.out)
+    let walks = Walks { ends, target };
+    near < 64 && far < 64 && walks.is_step(near, far, protected.out)
 }
 
 // Whether router x reaches the target and is not in the set.
@@ -175,7 +187,8 @@ pub fn onward_by_steps(links: &Links, protected: Protected, ends: u64, target: &
         };
     }
     let nexts = next_routers(links, ends, target);
-    let crossing = leading_to(&nexts, over_link(protected, ends, target), n);
+    let walks = Walks { ends, target };
+    let crossing = leading_to(&nexts, walks.over_link(protected), n);
     let far = protected.far;
     let visiting = leading_to(&nexts, one_if(true, far), n);
     let avoiding = reaching_without(n, target, crossing);

@@ -1,6 +1,6 @@
 use Rattle.std.proofs.Common.{arith}
 use Rattle.steps.proofs.NextLaws.{none_next, next_more}
-use Rattle.steps.proofs.nexts_over.Goals as goal
+use Rattle.steps.proofs.Walks.nexts_over.Goals as goal
 
 pub loop-k-init : goal.loop-k-init
 loop-k-init c = none_next _ _ _ _ _ _
