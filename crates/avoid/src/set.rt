@@ -1,5 +1,5 @@
 // The sets, where the distances can be read.
-ghost use Rattle.std.specs.Prelude.{◌≡◌, ◌<◌, get_or};
+ghost use Rattle.std.specs.Prelude.{◌≡◌, ◌≤◌, ◌<◌, ℕ, Bool, get_or};
 ghost use Rattle.lfa.specs.Space.{set_of};
 ghost use Rattle.metric.specs.Area.{held};
 ghost use Rattle.avoid.specs.Avoiding.{asked, below_both, clears, clears_to};
@@ -17,6 +17,21 @@ fn below_both(own: u32, near: u32, far: u32, protected: Protected, s: u32, e: u3
     own < Distance::add3(near, protected.out, e) && own < Distance::add3(far, protected.back, s)
 }
 
+// The set of the routers below n that pass a test.
+fn set_where<F: Fn(usize) -> bool>(n: usize, passes: F) -> u64
+    requires few { n ≤ 64 }
+    requires callable { (x : ℕ) → x < n → F.pre passes x }
+    ensures { (p : ℕ → Bool) → ((x : ℕ) (b : Bool) → x < n → F.post passes x b → b ≡ p x) → result ≡ set_of n p }
+{
+    let mut set: u64 = 0;
+    for x in 0..n {
+        if passes(x) {
+            set |= 1u64 << x;
+        }
+    }
+    set
+}
+
 // The routers x that avoid the link on the way to a target, by the test.
 pub(crate) fn set_to(
     left: &[u32; 64],
@@ -31,15 +46,11 @@ pub(crate) fn set_to(
     let far = protected.far;
     let s = target[near];
     let e = target[far];
-    let mut set: u64 = 0;
-    for x in 0..sums.n {
+    set_where(sums.n, |x| {
         let x_near = sums.distance(x, near);
         let x_far = sums.distance(x, far);
-        if below_both(left[x], x_near, x_far, protected, s, e) {
-            set |= 1u64 << x;
-        }
-    }
-    set
+        below_both(left[x], x_near, x_far, protected, s, e)
+    })
 }
 
 // The routers that x avoids the link on the way to.
@@ -54,14 +65,10 @@ pub(crate) fn set_from(left: &Area<'_>, sums: &Area<'_>, protected: Protected, x
     let far = protected.far;
     let x_near = sums.distance(x, near);
     let x_far = sums.distance(x, far);
-    let mut set: u64 = 0;
-    for r in 0..sums.n {
+    set_where(sums.n, |r| {
         let own = left.distance(x, r);
         let s = sums.distance(near, r);
         let e = sums.distance(far, r);
-        if below_both(own, x_near, x_far, protected, s, e) {
-            set |= 1u64 << r;
-        }
-    }
-    set
+        below_both(own, x_near, x_far, protected, s, e)
+    })
 }
