@@ -22,8 +22,7 @@ use Rattle.metric.specs.Columns.{arcs_in}
 use Rattle.metric.specs.Area.{held}
 use Rattle.metric.specs.Column.{slots_in}
 use Rattle.search.specs.Calls.{protected_of, prefix_by}
-use Rattle.question.specs.declared.Turned.{Turned}
-use Rattle.question.specs.declared.Turned.TheVariants.{Ready}
+use Rattle.std.specs.Prelude.{Ok}
 use Rattle.question.specs.Turning.{Poses}
 use Rattle.question.specs.Laws.Posed.{ready_posed, ready_taken, area_filled_lem}
 use Rattle.repair.specs.Laws.Searched.{prefix_searched}
@@ -33,12 +32,12 @@ use Rattle.question.specs.Laws.Loaded.{limits, columns_within, routers_same, pre
 use Rattle.route.specs.Leg.{Playable}
 
 -- a route question that is posed and not turned away
-module _ {q : Question} {turned : Turned} (network : Network) {area after : List ℕ} (j : Poses q turned (link_part network) area after) (loaded : network ≡ struct_of (network_loaded q.file)) (bytes : (i : ℕ) → byte_at q.file i < 256) (ready : turned ≡ Ready) {from : Source} (c : q.call ≡ route from) where
+module _ {q : Question} (network : Network) {area after : List ℕ} (j : Poses q (Ok (link_part network)) area after) (loaded : network ≡ struct_of (network_loaded q.file)) (bytes : (i : ℕ) → byte_at q.file i < 256) {from : Source} (c : q.call ≡ route from) where
   pub p : Posed q
-  p = ready_posed j bytes ready
+  p = ready_posed j bytes refl
 
   pub t : Taken q.file (link_part network)
-  t = ready_taken j bytes ready
+  t = ready_taken j bytes refl
 
   whole : network ≡ struct_of (network_of q.file)
   whole = loaded ∙ ap struct_of (accepted_loaded q.file t.is_accepted)
@@ -50,7 +49,7 @@ module _ {q : Question} {turned : Turned} (network : Network) {area after : List
   pub link_cell : q.link < 128
   link_cell = omega (arith, link_there, (limits t).few_links)
 
-  prefix_there : q.prefix < network.prefixes
+  prefix_there : q.prefix < network.links.prefixes
   unfolding network_asked has_input inputs_of input_number member_of any_of
   prefix_there = rw (prefixes_are t, ← prefix_count q.file t.is_accepted) (p.prefix (has q p a_prefix c refl))
 
@@ -64,7 +63,7 @@ module _ {q : Question} {turned : Turned} (network : Network) {area after : List
   -- what the search finds is what the prefix repair finds
   pub route_searched : {o : Outcome} → o ≡ prefix_by network q.ranks q.link q.end q.prefix after → o ≡ prefix_found q
   unfolding has_input inputs_of input_number member_of any_of
-  route_searched e = e ∙ prefix_searched p network t whole area j.cells_are j.judges.limit_is (area_filled_lem j bytes ready) (has q p a_link c refl) (has q p some_cells c refl) (has q p a_prefix c refl)
+  route_searched e = e ∙ prefix_searched p network t whole area j.cells_are j.judges.limit_is (area_filled_lem j bytes refl) (has q p a_link c refl) (has q p some_cells c refl) (has q p a_prefix c refl)
 
   -- the pair that was found
   module _ {told : Told} (found : prefix_found q ≡ serving told) where
@@ -87,23 +86,23 @@ module _ {q : Question} {turned : Turned} (network : Network) {area after : List
 
       abbrev InColumns : List ℕ → Type 0
       InColumns r =
-          NamedRoute network.routers (arcs_in network.from network.to network.out network.back network.links) (held network.routers after)
+          NamedRoute network.links.routers (arcs_in network.links.from network.links.to network.links.out network.links.back network.links.links) (held network.links.routers after)
           (slots_in network.at network.own (8 * q.prefix) count) q.choices near told.first told.endpoint r
 
       pub played_route : InColumns TheRoute
       unfolding network_asked link_asked prefix_asked
-      played_route = same (routers_same t) (hops_are t) (held_is t area (area_filled_lem j bytes ready)) (prefix_target t network whole q.prefix prefix_there count_is) near_same (played_named q p c found).named
+      played_route = same (routers_same t) (hops_are t) (held_is t area (area_filled_lem j bytes refl)) (prefix_target t network whole q.prefix prefix_there count_is) near_same (played_named q p c found).named
         where
           same : {n n' : ℕ} {hops hops' : List _} {d d' : ℕ → ℕ → ℕ} {to to' : _} {s s' : ℕ} {choices r : List ℕ} {m y : ℕ} → n ≡ n' → hops ≡ hops' → d ≡ d' → to ≡ to' → s ≡ s' →
               NamedRoute n' hops' d' to' choices s' m y r → NamedRoute n hops d to choices s m y r
           same e₁ e₂ e₃ e₄ e₅ r = rw (e₁, e₂, e₃, e₄, e₅) r
 
-      long : network.routers * network.routers ≤ length after
+      long : network.links.routers * network.links.routers ≤ length after
       long =
-          let k : (network_of q.file).routers * (network_of q.file).routers ≤ length after = rw (area_filled_lem j bytes ready) (omega (arith, cells_enough, work_length (network_of q.file) area cells_enough)) in
+          let k : (network_of q.file).routers * (network_of q.file).routers ≤ length after = rw (area_filled_lem j bytes refl) (omega (arith, cells_enough, work_length (network_of q.file) area cells_enough)) in
           subst (λ (n : ℕ). n * n ≤ length after) (sym (routers_same t)) k
 
-      playable : Playable network.routers (length after) network.links network.from network.to network.out network.back network.at (8 * q.prefix) count
+      playable : Playable network.links.routers (length after) network.links.links network.links.from network.links.to network.links.out network.links.back network.at (8 * q.prefix) count
       playable = record {
         within = columns_within t;
         descends = rw (hops_are t) (accepted_descend q.file t.is_accepted);
@@ -111,9 +110,9 @@ module _ {q : Question} {turned : Turned} (network : Network) {area after : List
         long = long;
       }
 
-      pub play_ready : Playable network.routers (length after) network.links network.from network.to network.out network.back network.at (8 * q.prefix) count
-          × (near < network.routers) × (told.first < network.routers) × (told.endpoint < network.routers)
-          × ((r : List ℕ) × InColumns r × (length r ≤ q.buffer) × (length r ≤ 2 * network.routers))
+      pub play_ready : Playable network.links.routers (length after) network.links.links network.links.from network.links.to network.links.out network.links.back network.at (8 * q.prefix) count
+          × (near < network.links.routers) × (told.first < network.links.routers) × (told.endpoint < network.links.routers)
+          × ((r : List ℕ) × InColumns r × (length r ≤ q.buffer) × (length r ≤ 2 * network.links.routers))
       unfolding network_asked has_input inputs_of input_number member_of any_of
       play_ready =
           let few = (played_named q p c found).fits in

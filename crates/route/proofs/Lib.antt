@@ -3,3 +3,4 @@ pub mod ProgressLaws
 pub mod PlayLaws
 pub mod RouteLaws
 pub mod HandedLaws
+pub mod MoveLaws

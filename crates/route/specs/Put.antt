@@ -1,6 +1,6 @@
 -- A question of the route call as the play is handed it: some of its inputs beside the rest, which the play does not look at.
 -- Assumes nothing.
-use Rattle.std.specs.Prelude.{ℕ, ◌<◌, ◌≡◌, Bool, List}
+use Rattle.std.specs.Prelude.{ℕ, ◌<◌, ◌≡◌, Bool, List, Ok}
 use Rattle.lfa.specs.File.{Bytes, byte_at}
 use Rattle.lfa.specs.Space.{under_maintenance}
 use Rattle.lfa.specs.Question.{Question, Source, route}
@@ -9,7 +9,6 @@ use Rattle.network_file.specs.declared.network.Network.{Network}
 use Rattle.network_file.specs.Struct.{struct_of, link_part}
 use Rattle.rows.specs.declared.Asked.{Asked}
 use Rattle.rows.specs.declared.Call.TheVariants.{Route}
-use Rattle.question.specs.declared.Turned.{Turned}
 use Rattle.question.specs.Turning.{Poses}
 
 -- the numbers that the rows before 14 look at
@@ -40,8 +39,8 @@ route_question rest buffer ranks link end prefix choices = record {
   maintenance = under_maintenance;
 }
 
--- the rows before 14 were tried for this question, and the distances are in these cells unless it is turned away
-pub record IsPut (rest : Rest) (turned : Turned) (network : Network) (cells : List ℕ) (buffer : ℕ) (ranks : List ℕ) (link end prefix : ℕ) (choices : List ℕ) : Type 0 where
+-- no row before 14 turns this question away, and the distances are in these cells
+pub record IsPut (rest : Rest) (network : Network) (cells : List ℕ) (buffer : ℕ) (ranks : List ℕ) (link end prefix : ℕ) (choices : List ℕ) : Type 0 where
   pub bytes : (i : ℕ) → byte_at rest.file i < 256
-  pub poses : Poses (route_question rest buffer ranks link end prefix choices) turned (link_part network) rest.before cells
+  pub poses : Poses (route_question rest buffer ranks link end prefix choices) (Ok (link_part network)) rest.before cells
   pub whole : network ≡ struct_of (network_loaded rest.file)

@@ -2,38 +2,40 @@
 // The network and the refusals are known from the question's prologue, the pair and the distances from the search.
 #![tactic(auto)]
 
-ghost use Rattle.std.specs.Prelude.{◌≡◌, List, ℕ, ◌<◌, length};
+ghost use Rattle.std.specs.Prelude.{◌≡◌, ℕ, ◌<◌, length, Ok};
 ghost use Rattle.lfa.specs.Question.{ask_route, ask_route_with};
 ghost use Rattle.lfa.specs.Contract.{Routed, RoutedWith};
-ghost use Rattle.search.specs.Hops.{protected_in};
+ghost use Rattle.search.specs.Calls.{protected_of};
 ghost use Rattle.route.specs.Answer.{played_of, passed_on};
 ghost use Rattle.route.specs.Put.{route_numbers, Rest, route_question, IsPut};
 
 use answers::{Repair, repair_answer};
-use metric::read::wide;
-use play::play;
-use question::{Judged, Refusal, Turned, pose, pose_with};
+use metric::columns::{Links, Slots};
+use metric::read::Area;
+use network_file::network::Network;
+use play::{Ground, play};
+use question::{Refusal, pose, pose_with};
 use rows::ranks::arranged;
 use rows::{Asked, Call};
 use search::prefix_pair;
 
 mod play;
 
-// The answer of a route call: a refusal, one of the answers of the prefix repair that have no pair, or how many routers were written.
+// The answer of a route call that nothing turns away: one of the answers of the prefix repair that have no pair, or how many routers were
+// written.
 #[derive(Clone, Copy)]
 pub enum Played {
-    Refused(Refusal),
     Unreachable,
     Untouched,
     Written(usize),
 }
 
 // The answers of the prefix repair that have no pair, passed on.
-fn passed_on(answer: Repair) -> Played
-    ensures { played_of result ≡ passed_on answer }
+#[tactic(auto, unfolding(crate::specs::Answer::played_of, crate::specs::Answer::passed_on))]
+fn passed_on(repair: Repair) -> Played
+    ensures { played_of (Ok result) ≡ passed_on (Ok repair) }
 {
-    match answer {
-        Repair::Refused(refusal) => Played::Refused(refusal),
+    match repair {
         Repair::Unreachable => Played::Unreachable,
         Repair::Untouched => Played::Untouched,
         Repair::Pair(_) => Played::Written(0),
@@ -41,17 +43,19 @@ fn passed_on(answer: Repair) -> Played
 }
 
 // The repairing router S: the end of the link that the question names.
-fn repairing<'a>(from: &'a [u8; 128], to: &'a [u8; 128], link: usize, end: usize) -> usize
+fn repairing(links: &Links, link: usize, end: usize) -> usize
     requires { link < 128 }
-    ensures { (out back : List ℕ) → result ≡ (protected_in from.now to.now out back link end).near }
+    ensures { result ≡ (protected_of links.now link end).near }
 {
     if end == 0 {
-        return wide(from[link]);
+        usize::from(links.from[link])
+    } else {
+        usize::from(links.to[link])
     }
-    wide(to[link])
 }
 
 // The numbers of a question for a route.
+#[tactic(auto, unfolding(crate::specs::Put::route_numbers))]
 fn route_asked(buffer: usize, ranked: bool, link: usize, end: usize, prefix: usize) -> Asked
     ensures { result ≡ route_numbers buffer ranked link end prefix }
 {
@@ -65,10 +69,10 @@ fn route_asked(buffer: usize, ranked: bool, link: usize, end: usize, prefix: usi
     }
 }
 
-// The answer to such a question once the rows before 14 are tried, over a table of the network's distances: plays the route of the pair
-// that repairs the traffic to the prefix, and writes its routers into the buffer.
+// The answer to such a question that no row before 14 turns away, over a table of the network's distances: plays the route of the pair that
+// repairs the traffic to the prefix, and writes its routers into the buffer.
 fn route_over(
-    judged: Judged,
+    network: &Network,
     table: &[u32],
     ranks: &[u8],
     link: usize,
@@ -76,44 +80,34 @@ fn route_over(
     prefix: usize,
     choices: &[u8],
     buffer: &mut [u8],
-) -> Played
-    requires { (rest : Rest) × IsPut rest judged.turned judged.network table.now (length buffer.old) ranks.now link end prefix choices.now }
-    ensures { (rest : Rest) → IsPut rest judged.turned judged.network table.now (length buffer.old) ranks.now link end prefix choices.now →
+) -> Result<Played, Refusal>
+    requires { (rest : Rest) × IsPut rest network.now table.now (length buffer.old) ranks.now link end prefix choices.now }
+    ensures { (rest : Rest) → IsPut rest network.now table.now (length buffer.old) ranks.now link end prefix choices.now →
         RoutedWith (route_question rest (length buffer.old) ranks.now link end prefix choices.now) (played_of result) buffer.old buffer.new }
 {
-    let turned = judged.turned;
-    if let Turned::Refused(refusal) = turned {
-        return Played::Refused(refusal);
-    }
-    let network = judged.network;
-    let answer = repair_answer(prefix_pair(network, ranks, link, end, prefix, table));
-    let Repair::Pair(pair) = answer else {
-        return passed_on(answer);
+    let repair = repair_answer(prefix_pair(network, ranks, link, end, prefix, table))?;
+    let Repair::Pair(pair) = repair else {
+        return Ok(passed_on(repair));
     };
-    let routers = network.routers;
-    let links = network.links;
-    let attached = network.attached;
-    let count = wide(attached[prefix]);
-    let near = repairing(&network.from, &network.to, link, end);
-    let written = play(
-        table,
-        routers,
+    let links = &network.links;
+    let area = Area {
+        n: links.routers,
+        cells: table,
+    };
+    let ground = Ground {
         links,
-        &network.from,
-        &network.to,
-        &network.out,
-        &network.back,
-        &network.at,
-        &network.own,
-        8 * prefix,
-        count,
+        area,
         choices,
-        near,
-        pair.first,
-        pair.endpoint,
-        buffer,
-    );
-    Played::Written(written)
+    };
+    let slots = Slots {
+        at: &network.at,
+        own: &network.own,
+        first: 8 * prefix,
+        count: usize::from(network.attached[prefix]),
+    };
+    let near = repairing(links, link, end);
+    let written = play(&ground, &slots, near, pair.first, pair.endpoint, buffer);
+    Ok(Played::Written(written))
 }
 
 // Plays the route of the pair that repairs the traffic to a prefix, and writes its routers into the buffer.
@@ -126,13 +120,13 @@ pub fn route(
     prefix: usize,
     choices: &[u8],
     buffer: &mut [u8],
-) -> Played
+) -> Result<Played, Refusal>
     ensures { Routed (ask_route file.now (length work.old) (length buffer.old) ranks.now link end prefix choices.now)
         (played_of result) work.old work.new buffer.old buffer.new }
 {
     let asked = route_asked(buffer.len(), arranged(ranks), link, end, prefix);
-    let judged = pose(file, asked, work);
-    route_over(judged, work, ranks, link, end, prefix, choices, buffer)
+    let network = pose(file, asked, work)?;
+    route_over(&network, work, ranks, link, end, prefix, choices, buffer)
 }
 
 // The same with a table of the file's distances, which is only read, in place of the work area.
@@ -145,11 +139,11 @@ pub fn route_with(
     prefix: usize,
     choices: &[u8],
     buffer: &mut [u8],
-) -> Played
+) -> Result<Played, Refusal>
     ensures { RoutedWith (ask_route_with file.now table.now (length buffer.old) ranks.now link end prefix choices.now)
         (played_of result) buffer.old buffer.new }
 {
     let asked = route_asked(buffer.len(), arranged(ranks), link, end, prefix);
-    let judged = pose_with(file, asked, table);
-    route_over(judged, table, ranks, link, end, prefix, choices, buffer)
+    let network = pose_with(file, asked, table)?;
+    route_over(&network, table, ranks, link, end, prefix, choices, buffer)
 }
