@@ -13,17 +13,13 @@ pub struct Distance(pub u32);
 
 impl Distance {
     // The distance where no path leads.
-    pub const UNREACHABLE: u32 = 4294967295;
+    pub const UNREACHABLE: u32 = u32::MAX;
 
     // The sum of two distances, and unreachable where it would be larger.
     pub fn add(a: u32, b: u32) -> u32
         ensures { result ≡ min (a + b) unreachable }
     {
-        if a <= Self::UNREACHABLE - b {
-            a + b
-        } else {
-            Self::UNREACHABLE
-        }
+        a.saturating_add(b)
     }
 
     // The sum of three distances, and unreachable where it would be larger.
