@@ -74,8 +74,8 @@ module _ {n : ℕ} {table cells : List ℕ} (few : n ≤ 64) (most : (x t : ℕ)
       go (no k) _ = omega (arith, q.rest x t hx ht (inl (omega arith)))
 
 -- no cell is above the bits of all cells
-pub cells_small : {n all : ℕ} (table : List ℕ) → n * n ≤ length table → AtMost (length (take (n * n) table)) (take (n * n) table) all → all ≤ 8191 →
-    (x t : ℕ) → x < n → t < n → area_cell n table x t ≤ 8191
-cells_small {n} table long most h x t hx ht =
-    let here : x * n + t < n * n = digits_lt hx ht in
-    omega (arith, most (x * n + t) (omega (arith, length-take-le (n * n) table long)), get_or-take (n * n) table (x * n + t) 0 here)
+pub all_small : {m all : ℕ} (table : List ℕ) → m ≤ length table → AtMost (length (take m table)) (take m table) all → all ≤ 8191 → AtMost m table 8191
+all_small {m} table long most h i k = omega (arith, most i (omega (arith, length-take-le m table long)), get_or-take m table i 0 k)
+
+pub cells_small : {n : ℕ} (table : List ℕ) → AtMost (n * n) table 8191 → (x t : ℕ) → x < n → t < n → area_cell n table x t ≤ 8191
+cells_small {n} table most x t hx ht = most (x * n + t) (digits_lt hx ht)
