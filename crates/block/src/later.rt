@@ -58,11 +58,16 @@ pub(crate) fn blocks_needed(links: usize, prefixes: usize) -> usize
 }
 
 // Entries of block j of a kind: `each`, but in the last block what is left of the total.
+// A test in place of `saturating_sub`, with which judging the blocks of the largest file takes a tenth more instructions.
 fn entries_in(each: usize, total: usize, j: usize) -> usize
     requires { each * j ≤ 65535 }
     ensures { result ≡ entries_in each total j }
 {
-    each.min(total.saturating_sub(each * j))
+    let before = each * j;
+    if total <= before {
+        return 0;
+    }
+    each.min(total - before)
 }
 
 // Whether later block i is as the numbers of links and prefixes want it.
