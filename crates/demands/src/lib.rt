@@ -10,9 +10,11 @@ ghost use Rattle.answers.specs.Answer.{repair_of};
 ghost use Rattle.demands.specs.Demand.{MeetsDemand3};
 
 use answers::Repair;
+use question::Refusal;
 
 // The link repair question, and what demand 3 says of its answer.
-pub fn link_demand(file: &[u8], work: &mut [u32], ranks: &[u8], link: usize, end: usize) -> Repair
+#[tactic(auto, using(crate::specs::Demand::answer_meets))]
+pub fn link_demand(file: &[u8], work: &mut [u32], ranks: &[u8], link: usize, end: usize) -> Result<Repair, Refusal>
     ensures { MeetsDemand3 (ask_link file.now (length work.old) ranks.now link end) (repair_of result)
         × Answered (ask_link file.now (length work.old) ranks.now link end) (repair_of result) work.old work.new }
 {
@@ -20,7 +22,8 @@ pub fn link_demand(file: &[u8], work: &mut [u32], ranks: &[u8], link: usize, end
 }
 
 // The same with a lent table of distances.
-pub fn link_demand_with(file: &[u8], table: &[u32], ranks: &[u8], link: usize, end: usize) -> Repair
+#[tactic(auto, using(crate::specs::Demand::answer_meets))]
+pub fn link_demand_with(file: &[u8], table: &[u32], ranks: &[u8], link: usize, end: usize) -> Result<Repair, Refusal>
     ensures { MeetsDemand3 (ask_link_with file.now table.now ranks.now link end) (repair_of result)
         × (repair_of result ≡ answer_to (ask_link_with file.now table.now ranks.now link end)) }
 {
@@ -28,6 +31,7 @@ pub fn link_demand_with(file: &[u8], table: &[u32], ranks: &[u8], link: usize, e
 }
 
 // The prefix repair question, and what demand 3 says of its answer.
+#[tactic(auto, using(crate::specs::Demand::answer_meets))]
 pub fn prefix_demand(
     file: &[u8],
     work: &mut [u32],
@@ -35,7 +39,7 @@ pub fn prefix_demand(
     link: usize,
     end: usize,
     prefix: usize,
-) -> Repair
+) -> Result<Repair, Refusal>
     ensures { MeetsDemand3 (ask_prefix file.now (length work.old) ranks.now link end prefix) (repair_of result)
         × Answered (ask_prefix file.now (length work.old) ranks.now link end prefix) (repair_of result) work.old work.new }
 {
@@ -43,6 +47,7 @@ pub fn prefix_demand(
 }
 
 // The same with a lent table of distances.
+#[tactic(auto, using(crate::specs::Demand::answer_meets))]
 pub fn prefix_demand_with(
     file: &[u8],
     table: &[u32],
@@ -50,7 +55,7 @@ pub fn prefix_demand_with(
     link: usize,
     end: usize,
     prefix: usize,
-) -> Repair
+) -> Result<Repair, Refusal>
     ensures { MeetsDemand3 (ask_prefix_with file.now table.now ranks.now link end prefix) (repair_of result)
         × (repair_of result ≡ answer_to (ask_prefix_with file.now table.now ranks.now link end prefix)) }
 {

@@ -9,8 +9,8 @@ ghost use Rattle.answers.specs.Answer.{filled_answer, space_answer, repair_of};
 ghost use Rattle.route.specs.Answer.{played_of};
 ghost use Rattle.numbers.specs.Numbers.{plain, numbers_of};
 
-use answers::{Filled, Repair, SpaceAnswer};
-use network_file::Verdict;
+use answers::Repair;
+use network_file::Fault;
 use question::Refusal;
 use refusal::{Row, file_row, question_row};
 use route::Played;
@@ -30,6 +30,7 @@ pub struct Numbers {
 }
 
 // An answer without a pair.
+#[tactic(auto, unfolding(crate::specs::Numbers::plain))]
 fn plain(kind: u32, number: u32, value: u64) -> Numbers
     ensures { result ≡ plain kind number value }
 {
@@ -45,6 +46,7 @@ fn plain(kind: u32, number: u32, value: u64) -> Numbers
 }
 
 // A row of the table of refusals.
+#[tactic(auto, unfolding(crate::specs::Numbers::numbers_of))]
 fn row_numbers(row: Row) -> Numbers
     ensures { result ≡ numbers_of (refused row.number row.value) }
 {
@@ -59,44 +61,48 @@ fn refusal_numbers(refusal: Refusal) -> Numbers
 }
 
 // The verdict on a file.
-pub fn verdict_numbers(verdict: Verdict) -> Numbers
+#[tactic(auto, unfolding(crate::specs::Numbers::numbers_of, network_file::specs::Load::answer_of))]
+pub fn verdict_numbers(verdict: Result<(), Fault>) -> Numbers
     ensures { result ≡ numbers_of (answer_of verdict) }
 {
     match verdict {
-        Verdict::Accepted => plain(1, 0, 0),
-        Verdict::Refused(fault) => row_numbers(file_row(fault)),
+        Ok(()) => plain(1, 0, 0),
+        Err(fault) => row_numbers(file_row(fault)),
     }
 }
 
 // The answer of the call that fills the work area.
-pub fn filled_numbers(answer: Filled) -> Numbers
+#[tactic(auto, unfolding(crate::specs::Numbers::numbers_of, answers::specs::Answer::filled_answer))]
+pub fn filled_numbers(answer: Result<(), Refusal>) -> Numbers
     ensures { result ≡ numbers_of (filled_answer answer) }
 {
     match answer {
-        Filled::Done => plain(2, 0, 0),
-        Filled::Refused(refusal) => refusal_numbers(refusal),
+        Ok(()) => plain(2, 0, 0),
+        Err(refusal) => refusal_numbers(refusal),
     }
 }
 
 // The answer of a call for a space.
-pub fn space_numbers(answer: SpaceAnswer) -> Numbers
+#[tactic(auto, unfolding(crate::specs::Numbers::numbers_of, answers::specs::Answer::space_answer))]
+pub fn space_numbers(answer: Result<u64, Refusal>) -> Numbers
     ensures { result ≡ numbers_of (space_answer answer) }
 {
     match answer {
-        SpaceAnswer::Set(set) => plain(5, 0, set),
-        SpaceAnswer::Refused(refusal) => refusal_numbers(refusal),
+        Ok(set) => plain(5, 0, set),
+        Err(refusal) => refusal_numbers(refusal),
     }
 }
 
 // The answer of a repair call.
-pub fn repair_numbers(answer: Repair) -> Numbers
+#[tactic(auto, unfolding(crate::specs::Numbers::numbers_of, answers::specs::Answer::repair_of))]
+pub fn repair_numbers(answer: Result<Repair, Refusal>) -> Numbers
     ensures { result ≡ numbers_of (repair_of answer) }
 {
     match answer {
-        Repair::Refused(refusal) => refusal_numbers(refusal),
-        Repair::Unreachable => plain(3, 0, 0),
-        Repair::Untouched => plain(4, 0, 0),
-        Repair::Pair(pair) => Numbers {
+        Err(refusal) => refusal_numbers(refusal),
+        Ok(Repair::Unreachable) => plain(3, 0, 0),
+        Ok(Repair::Untouched) => plain(4, 0, 0),
+        Ok(Repair::Pair(pair)) => Numbers {
             kind: 6,
             number: 0,
             value: 0,
@@ -109,13 +115,14 @@ pub fn repair_numbers(answer: Repair) -> Numbers
 }
 
 // The answer of a route call.
-pub fn played_numbers(answer: Played) -> Numbers
+#[tactic(auto, unfolding(crate::specs::Numbers::numbers_of, route::specs::Answer::played_of))]
+pub fn played_numbers(answer: Result<Played, Refusal>) -> Numbers
     ensures { result ≡ numbers_of (played_of answer) }
 {
     match answer {
-        Played::Refused(refusal) => refusal_numbers(refusal),
-        Played::Unreachable => plain(3, 0, 0),
-        Played::Untouched => plain(4, 0, 0),
-        Played::Written(count) => plain(7, 0, count as u64),
+        Err(refusal) => refusal_numbers(refusal),
+        Ok(Played::Unreachable) => plain(3, 0, 0),
+        Ok(Played::Untouched) => plain(4, 0, 0),
+        Ok(Played::Written(count)) => plain(7, 0, count as u64),
     }
 }

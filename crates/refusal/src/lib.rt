@@ -23,6 +23,7 @@ fn numbered(number: u32, value: usize) -> Row
 }
 
 // The row that turns a file away.
+#[tactic(auto, unfolding(network_file::specs::Load::fault_of, network_file::specs::Load::fault_row, lfa::specs::Answer::refusal, lfa::specs::Refusal::in_file, lfa::specs::Refusal::entry_of, lfa::specs::Refusal::file_number))]
 pub fn file_row(fault: Fault) -> Row
     ensures { refused result.number result.value ≡ fault_of fault }
 {
@@ -40,6 +41,7 @@ pub fn file_row(fault: Fault) -> Row
 }
 
 // The row that turns a question away.
+#[tactic(auto, unfolding(question::specs::Turning::refusal_answer, question::specs::Turning::row_of, network_file::specs::Load::fault_of, lfa::specs::Answer::refusal, lfa::specs::Refusal::entry_of))]
 pub fn question_row(refusal: Refusal) -> Row
     ensures { refused result.number result.value ≡ refusal_answer refusal }
 {
