@@ -1,7 +1,7 @@
 -- The entries that can be named are those of an accepted file, up to its counts, and each lies inside the file.
 -- Assumes nothing.
-use Prim.Native.Nat.{ℕ, ◌≤◌, ◌<◌}
-use mathlib.Core.Path.{◌≡◌, refl, sym}
+use Prim.Native.Nat.{ℕ, ◌+◌, ◌*◌, ◌/◌, ◌%◌, ◌≤◌, ◌<◌}
+use mathlib.Core.Path.{◌≡◌, refl, sym, ap, ◌∙◌}
 use mathlib.Core.Option.{Option, none, some}
 use mathlib.Core.List.{[]}
 use native.Mathlib.Omega.{arith}
@@ -11,8 +11,15 @@ use Rattle.lfa.specs.Refusal.{file_refusal, FileRow, Decided}
 use Rattle.lfa.specs.Answer.{part_if, link_part, prefix_part}
 use Rattle.lfa.proofs.Laws.Accepted.{no_part, no_link_part, no_prefix_part}
 use Rattle.block.specs.Judged.{Sized}
+use Rattle.network_file.specs.Entry.{EntryAt, place_in}
+use Rattle.network_file.proofs.PlaceLaws.{place_found}
 use Rattle.network_file.proofs.LoadLaws.{accepted_sized}
 use Rattle.entries.specs.Count.{count_loaded}
+
+-- the links that the head counts are few
+pub links_few : (b : Bytes) (links : ℕ) → links ≡ word_at b 6 → Sized b → links ≤ 128
+unfolding links_of
+links_few b links q s = omega (arith, s.few_links)
 
 module _ (b : Bytes) where
   -- the counts of an accepted file are those of its head, and those of any other are 0
@@ -48,6 +55,12 @@ module _ (b : Bytes) where
       pub prefix_sized : Sized b × (k < prefixes_of b)
       unfolding prefixes_of
       prefix_sized = let e = counted_accepted 8 k h in (accepted_sized b e, omega (arith, count_accepted 8 e))
+
+      -- and its entry stands where the code looks for it
+      pub prefix_there : {links : ℕ} → links ≡ word_at b 6 → EntryAt b (512 * (1 + (links + 83) / 84 + k / 14) + 4 + 34 * (k % 14)) k
+      unfolding links_of
+      prefix_there {links} q =
+          record { sized = prefix_sized.0; in_file = prefix_sized.1; at_place = place_found links k ∙ ap (λ (n : ℕ). place_in n k) q }
 
       pub is_prefix_part : prefix_entry b k ≡ prefix_part b k
       unfolding prefix_part part_if

@@ -21,7 +21,7 @@ use Rattle.block.specs.Judged.{Sized}
 use Rattle.metric.specs.declared.columns.Links.{Links}
 use Rattle.network_file.specs.Laws.Struct.{struct_link}
 use Rattle.network_file.specs.Struct.{from_of, to_of, out_of, back_of, column, link_column, links_in, links_struct_of}
-use Rattle.network_file.specs.Entry.{LinksOf, FewLinks, link_place, next_place, link_at, link_sound, pair_new}
+use Rattle.network_file.specs.Entry.{LinksOf, FewLinks, EntryAt, link_place, place_in, next_place, link_at, link_sound, pair_new}
 use Rattle.network_file.proofs.EveryLaws.{every_same}
 use Rattle.network_file.proofs.ColumnLaws.{column_map}
 
@@ -147,3 +147,11 @@ module _ (b : Bytes) (l : Links) (of : LinksOf b l) where
     where
       new_same : (k : ℕ) → k < l.links → pair_new l k ≡ link_new b k
       new_same k h = every_same _ _ k (λ j m. rw (link_read b l of k h, link_read b l of j (omega arith)))
+
+-- the entry of prefix p stands at its place
+pub entry_there : (b : Bytes) (l : Links) → LinksOf b l → (place p : ℕ) → place ≡ place_in l.links p → p < l.prefixes → EntryAt b place p
+entry_there b l of place p is h = record {
+  sized = of.sized;
+  in_file = omega (arith, prefixes_read b l of);
+  at_place = is ∙ ap (λ (n : ℕ). place_in n p) (links_read b l of);
+}

@@ -1,8 +1,8 @@
--- Where the entries of prefixes stand. The code finds a place by division, or from the place before; each is `place_of`, it lies inside
+-- Where the entries of prefixes stand. The code finds a place by division, or from the place before; each is `place_in`, it lies inside
 -- the file, and what stands there is the entry of its prefix.
 -- Assumes nothing.
-use Prim.Native.Nat.{ℕ, ◌+◌, ◌*◌, ◌/◌, ◌%◌, ◌≤◌, ◌<◌}
-use mathlib.Core.Path.{◌≡◌, ◌∙◌}
+use Prim.Native.Nat.{ℕ, ◌+◌, ◌*◌, ◌/◌, ◌%◌, ◌≤◌}
+use mathlib.Core.Path.{◌≡◌, refl, ◌∙◌}
 use mathlib.Core.Bool.{true, false}
 use mathlib.Core.Logic.{◌⊎◌, inl, inr}
 use native.Mathlib.Omega.{arith}
@@ -10,56 +10,55 @@ use lib.Dec.{eqb}
 use borrow.Author.Tests.{eqb-true, eqb-false}
 use Rattle.lfa.proofs.Laws.Test.{decide}
 use lib.ListN.{length}
-use Rattle.lfa.specs.File.{Bytes, part_of, ceil, link_blocks, prefix_blocks, blocks_needed, links_of, prefixes_of, prefix_entry}
-use Rattle.block.specs.Judged.{Sized}
-use Rattle.network_file.specs.Entry.{place_of, next_place}
+use Rattle.lfa.specs.File.{Bytes, part_of, ceil, link_blocks, prefix_blocks, blocks_needed, links_of, prefix_entry}
+use Rattle.network_file.specs.Entry.{place_in, next_place, EntryAt}
 
 -- The place by division, as `entries::prefix_entry` finds it, and the place of the first entry, where the divisions give 0: the blocks of links,
 -- 84 to a block, stand between the head and the first block of prefixes.
-pub place_found : (b : Bytes) (links p : ℕ) → links ≡ links_of b → 512 * (1 + (links + 83) / 84 + p / 14) + 4 + 34 * (p % 14) ≡ place_of b p
-unfolding place_of link_blocks ceil
-place_found b links p right = rw right
+pub place_found : (links p : ℕ) → 512 * (1 + (links + 83) / 84 + p / 14) + 4 + 34 * (p % 14) ≡ place_in links p
+unfolding place_in link_blocks ceil
+place_found links p = refl
 
-pub place_first : (b : Bytes) (links : ℕ) → links ≡ links_of b → 512 * (1 + (links + 83) / 84) + 4 ≡ place_of b 0
-unfolding place_of link_blocks ceil
-place_first b links right = rw right (omega arith)
+pub place_first : (links : ℕ) → 512 * (1 + (links + 83) / 84) + 4 ≡ place_in links 0
+unfolding place_in link_blocks ceil
+place_first links = omega arith
 
 -- The place after that of prefix p. 14 entries fill a block up to its byte 480, so the next one stands behind the label of the next
 -- block where the place behind this one is such a byte, and else directly behind it.
-module _ (b : Bytes) (p place : ℕ) (is : place ≡ place_of b p) where
-  place_block : (place + 34) % 512 ≡ 480 → place + 34 + 36 ≡ place_of b (p + 1)
-  unfolding place_of
+module _ (links p place : ℕ) (is : place ≡ place_in links p) where
+  place_block : (place + 34) % 512 ≡ 480 → place + 34 + 36 ≡ place_in links (p + 1)
+  unfolding place_in
   place_block h = omega arith
 
-  place_behind : ((place + 34) % 512 ≡ 480 → ⊥) → place + 34 ≡ place_of b (p + 1)
-  unfolding place_of
+  place_behind : ((place + 34) % 512 ≡ 480 → ⊥) → place + 34 ≡ place_in links (p + 1)
+  unfolding place_in
   place_behind h =
       let last : p % 14 ≡ 13 → ⊥ = λ q. h (full (omega arith)) in
       omega arith
     where
-      full : place + 34 ≡ 512 * (1 + link_blocks (links_of b) + p / 14) + 480 → (place + 34) % 512 ≡ 480
-      full e = rw e (rest (1 + link_blocks (links_of b) + p / 14))
+      full : place + 34 ≡ 512 * (1 + link_blocks links + p / 14) + 480 → (place + 34) % 512 ≡ 480
+      full e = rw e (rest (1 + link_blocks links + p / 14))
         where
           rest : (k : ℕ) → (512 * k + 480) % 512 ≡ 480
           rest k = omega arith
 
-  pub place_next : {r : ℕ} → r ≡ next_place 34 14 place → r ≡ place_of b (p + 1)
+  pub place_next : {r : ℕ} → r ≡ next_place 34 14 place → r ≡ place_in links (p + 1)
   place_next q = q ∙ go (decide (eqb ((place + 34) % 512) 480))
     where
-      go : (eqb ((place + 34) % 512) 480 ≡ true) ⊎ (eqb ((place + 34) % 512) 480 ≡ false) → next_place 34 14 place ≡ place_of b (p + 1)
+      go : (eqb ((place + 34) % 512) 480 ≡ true) ⊎ (eqb ((place + 34) % 512) 480 ≡ false) → next_place 34 14 place ≡ place_in links (p + 1)
       go (inl t) = rw (t, next_place) (place_block (eqb-true ((place + 34) % 512) 480 t))
       go (inr f) = rw (f, next_place) (place_behind (eqb-false ((place + 34) % 512) 480 f))
 
-  -- The entry lies inside the file: its block is below the number of blocks needed, and within the block it ends before the check.
-  pub place_inside : Sized b → p < prefixes_of b → place + 34 ≤ length b
-  unfolding place_of blocks_needed link_blocks prefix_blocks ceil
-  place_inside s h = omega (arith, s.whole)
+  pub place_small : links ≤ 128 → p ≤ 128 → place ≤ 6656
+  unfolding place_in link_blocks ceil
+  place_small few h = omega arith
 
-  pub place_small : Sized b → p < prefixes_of b → place ≤ 6656
-  unfolding place_of link_blocks ceil
-  place_small s h = omega (arith, s.few_links, s.few_prefixes)
+-- The entry lies inside the file: its block is below the number of blocks needed, and within the block it ends before the check.
+pub place_inside : (b : Bytes) (place p : ℕ) → EntryAt b place p → place + 34 ≤ length b
+unfolding place_in blocks_needed link_blocks prefix_blocks ceil
+place_inside b place p e = omega (arith, e.sized.whole, e.in_file, e.at_place)
 
-  -- what stands there is the entry of prefix p
-  pub place_there : {e : Bytes} → e ≡ part_of b place 34 → e ≡ prefix_entry b p
-  unfolding place_of prefix_entry
-  place_there q = q ∙ rw is
+-- what stands there is the entry of prefix p
+pub place_there : (b : Bytes) (place p : ℕ) {e : Bytes} → place ≡ place_in (links_of b) p → e ≡ part_of b place 34 → e ≡ prefix_entry b p
+unfolding place_in prefix_entry
+place_there b place p is q = q ∙ rw is

@@ -3,7 +3,7 @@
 use Rattle.std.specs.Prelude.{ℕ, ◌+◌, ◌-◌, ◌*◌, ◌/◌, ◌%◌, ◌≤◌, ◌<◌, min, ◌≡◌, Bool, true, false, not, ◌&&◌, ◌||◌, List, [], ◌∷◌, ◌++◌, map, eqb, ltb, leb, length, get_or}
 use Rattle.lfa.specs.Lists.{below, every_below}
 use Rattle.lfa.specs.Network.{Link, link}
-use Rattle.lfa.specs.File.{Bytes, word_at, links_of, link_blocks, network_of, sound_link, join_same, prefix_good}
+use Rattle.lfa.specs.File.{Bytes, word_at, links_of, prefixes_of, link_blocks, network_of, sound_link, join_same, prefix_good}
 use Rattle.lfa.specs.Refusal.{FileRow, bad_link, parallel_link, bad_prefix, router_twice}
 use Rattle.block.specs.Judged.{Sized}
 use Rattle.metric.specs.declared.columns.Links.{Links}
@@ -77,9 +77,15 @@ pair_cell a b = 64 * min a b + (a + b - min a b)
 
 -- ---- rows 8 and 9 over the entry of a prefix
 
--- where the entry of prefix p stands
-unfoldable pub place_of : Bytes → ℕ → ℕ
-place_of b p = 512 * (1 + link_blocks (links_of b) + p / 14) + 4 + 34 * (p % 14)
+-- where the entry of prefix p stands, behind the blocks of so many links
+unfoldable pub place_in : ℕ → ℕ → ℕ
+place_in links p = 512 * (1 + link_blocks links + p / 14) + 4 + 34 * (p % 14)
+
+-- the entry of prefix p of a file stands there
+pub record EntryAt (b : Bytes) (place p : ℕ) : Type 0 where
+  pub sized : Sized b
+  pub in_file : p < prefixes_of b
+  pub at_place : place ≡ place_in (links_of b) p
 
 -- row 8 at slot s, of which it says that it is zero unless it is one of the used slots
 unfoldable pub unused_zero : Bytes → ℕ → ℕ → Bool

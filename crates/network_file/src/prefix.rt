@@ -1,12 +1,12 @@
 // Prefixes: rows 8 and 9, and their entries read into columns.
-ghost use Rattle.std.specs.Prelude.{◌≡◌, ℕ, ◌+◌, ◌*◌, ◌/◌, ◌%◌, ◌≤◌, ◌<◌, eqb, ltb, length};
+ghost use Rattle.std.specs.Prelude.{◌≡◌, Bool, true, ℕ, ◌+◌, ◌*◌, ◌/◌, ◌%◌, ◌≤◌, ◌<◌, eqb, ltb, length};
 ghost use Rattle.std.proofs.Math.Option.{none};
 ghost use Rattle.lfa.specs.Lists.{first_failing, every_below};
-ghost use Rattle.lfa.specs.File.{Bytes, links_of, network_of, word_at, prefix_entry, attachments, slot, sound_prefix, prefix_good, slot_new, routers_new};
+ghost use Rattle.lfa.specs.File.{routers_of, links_of, network_of, word_at, prefix_entry, attachments, slot, sound_prefix, prefix_good, slot_new, routers_new};
 ghost use Rattle.lfa.specs.Refusal.{file_returned, first_row};
 ghost use Rattle.block.specs.First.{found_in};
 ghost use Rattle.network_file.specs.Struct.{router_of, cost_of, stored, struct_of};
-ghost use Rattle.network_file.specs.Entry.{LinksOf, place_of, PrefixesSound, unused_zero, unused_masks, Slots, prefix_rows};
+ghost use Rattle.network_file.specs.Entry.{LinksOf, FewLinks, EntryAt, place_in, PrefixesSound, unused_zero, unused_masks, Slots, prefix_rows};
 
 use super::mask::UNUSED;
 use super::network::Network;
@@ -16,7 +16,7 @@ use metric::columns::Links;
 // Where the entry of prefix 0 stands. The blocks of links, 84 to a block, stand before those of prefixes.
 fn first_place(links: usize) -> usize
     requires { links ≤ 128 }
-    ensures { (b : Bytes) → links ≡ links_of b → result ≡ place_of b 0 }
+    ensures { result ≡ place_in links 0 }
 {
     512 * (1 + (links + 83) / 84) + 4
 }
@@ -24,7 +24,7 @@ fn first_place(links: usize) -> usize
 // The 34 bytes of the prefix whose entry stands at a place.
 fn entry_at(file: &[u8], place: usize) -> &[u8]
     requires { place + 34 ≤ length file.now }
-    ensures { ((p : ℕ) → place ≡ place_of file.now p → result.now ≡ prefix_entry file.now p) × (length result.now ≡ 34) }
+    ensures { ((p : ℕ) → place ≡ place_in (links_of file.now) p → result.now ≡ prefix_entry file.now p) × (length result.now ≡ 34) }
 {
     let end = place + 34;
     &file[place..end]
@@ -81,21 +81,35 @@ fn sound_prefix(routers: usize, entry: &[u8], masks: &[u32; 72]) -> bool
         && unused_zero(count, entry, masks)
 }
 
-// Row 8: the first prefix that it turns down. Rows 8 and 9 have a loop each: one loop that takes the test as a closure was tried, and what
-// the closure returns was proved only by names of Rattle's own, or by clauses at each closure that are longer than the loop.
-pub(crate) fn first_bad_prefix(file: &[u8], links: &Links) -> Option<usize>
-    requires { LinksOf file.now links.now }
-    ensures { found_in result ≡ first_failing (prefix_good file.now) 0 links.now.prefixes }
+// The first prefix whose entry fails a test, which is given the place of the entry.
+fn first_failing<F: Fn(usize) -> bool>(links: &Links, good: F) -> Option<usize>
+    requires { FewLinks links.now × (links.now.prefixes ≤ 128) × ((p : ℕ) → p < links.now.prefixes → F.pre good (place_in links.now.links p)) }
+    ensures { (test : ℕ → Bool) → ((p : ℕ) (r : Bool) → p < links.now.prefixes → F.post good (place_in links.now.links p) r → test p ≡ r) → found_in result ≡ first_failing test 0 links.now.prefixes }
 {
-    let masks = UNUSED;
     let mut place = first_place(links.links);
     for p in 0..links.prefixes {
-        if !sound_prefix(links.routers, entry_at(file, place), &masks) {
+        if !good(place) {
             return Some(p);
         }
         place = next_place::<34, 14>(place);
     }
     None
+}
+
+// Row 8: the first prefix that it turns down.
+pub(crate) fn first_bad_prefix(file: &[u8], links: &Links) -> Option<usize>
+    requires { LinksOf file.now links.now }
+    ensures { found_in result ≡ first_failing (prefix_good file.now) 0 links.now.prefixes }
+{
+    let masks = UNUSED;
+    let routers = links.routers;
+    first_failing(
+        links,
+        |place|
+            requires { (p : ℕ) × EntryAt file.now place p × (routers ≡ routers_of file.now) × (masks ≡ unused_masks) }
+            ensures { (p : ℕ) → EntryAt file.entry.now place p → prefix_good file.entry.now p ≡ result }
+        { sound_prefix(routers, entry_at(file, place), &masks) },
+    )
 }
 
 // Row 9 at one prefix: whether no router is named twice. A table of the routers named so far spares a look at each earlier slot.
@@ -120,14 +134,13 @@ pub(crate) fn first_router_twice(file: &[u8], links: &Links) -> Option<usize>
     requires { LinksOf file.now links.now × PrefixesSound file.now links.now.prefixes }
     ensures { found_in result ≡ first_failing (routers_new file.now) 0 links.now.prefixes }
 {
-    let mut place = first_place(links.links);
-    for p in 0..links.prefixes {
-        if !new_routers(entry_at(file, place)) {
-            return Some(p);
-        }
-        place = next_place::<34, 14>(place);
-    }
-    None
+    first_failing(
+        links,
+        |place|
+            requires { (p : ℕ) × EntryAt file.now place p × (prefix_good file.now p ≡ true) }
+            ensures { (p : ℕ) → EntryAt file.entry.now place p → routers_new file.entry.now p ≡ result }
+        { new_routers(entry_at(file, place)) },
+    )
 }
 
 // Stores the routers and the costs of an entry's eight slots, used or not, into the cells of prefix p.

@@ -1,7 +1,7 @@
 use Rattle.std.proofs.Common.{◌≡◌, ◌<◌, arith}
 use Rattle.network_file.specs.Struct.{router_of, cost_of}
 use Rattle.network_file.proofs.ColumnLaws.{column_none, more}
-use Rattle.network_file.proofs.LinkLaws.{few_links, links_read, prefixes_read}
+use Rattle.network_file.proofs.LinkLaws.{few_links, prefixes_read, entry_there}
 use Rattle.network_file.proofs.PlaceLaws.{place_next, place_inside, place_small}
 use Rattle.network_file.proofs.AttachmentLaws.{attached_read, eight_more, columns_filled}
 use Rattle.network_file.proofs.EntryLaws.{prefixes_sound, struct_made}
@@ -13,27 +13,28 @@ first_place-place-requires c = (few_links _ _ c.requires.0).few_links
 pub loop-p-init : goal.loop-p-init
 loop-p-init c = record {
   few = omega (arith, prefixes_read _ _ c.requires.0, c.requires.0.sized.few_prefixes);
-  at_place = c.first_place-place.ensures _ (links_read _ _ c.requires.0);
+  at_place = c.first_place-place.ensures;
   attached_filled = column_none 128 _;
   routers_filled = column_none 1024 _;
   costs_filled = column_none 1024 _;
 }
 
 pub entry_at-entry-requires : goal.entry_at-entry-requires
-entry_at-entry-requires c = place_inside _ _ _ c.loop-p.invariant.at_place c.requires.0.sized (omega (arith, prefixes_read _ _ c.requires.0))
+entry_at-entry-requires c = place_inside _ _ _ (entry_there _ _ c.requires.0 _ _ c.loop-p.invariant.at_place c.loop-p-test.true)
 
 pub store_slots-requires : goal.store_slots-requires
 store_slots-requires c = (c.entry_at-entry.ensures.1, omega arith)
 
 pub next_place-place-requires : goal.next_place-place-requires
-next_place-place-requires c = (place_small _ _ _ c.loop-p.invariant.at_place c.requires.0.sized (omega (arith, prefixes_read _ _ c.requires.0)), omega arith, omega arith)
+next_place-place-requires c =
+    (place_small _ c.loop-p.p _ c.loop-p.invariant.at_place (few_links _ _ c.requires.0).few_links (omega arith), omega arith, omega arith)
 
 pub loop-p-preserved : goal.loop-p-preserved
 loop-p-preserved c =
     let l = c.loop-p in
     let i = l.invariant in
     let b = c.args.file.now in
-    let is = c.entry_at-entry.ensures.0 _ i.at_place in
+    let is = c.entry_at-entry.ensures.0 _ (entry_there _ _ c.requires.0 _ _ i.at_place c.loop-p-test.true).at_place in
     let h : l.p < 128 = omega arith in
     record {
       few = i.few;
