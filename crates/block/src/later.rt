@@ -50,6 +50,7 @@ fn prefix_blocks(prefixes: usize) -> usize
 }
 
 // Blocks of a whole file, with its head.
+// Here and below the head's two numbers stay apart: a struct of them would only rename them.
 pub(crate) fn blocks_needed(links: usize, prefixes: usize) -> usize
     requires { (links ≤ 65535) × (prefixes ≤ 65535) }
     ensures { result ≡ blocks_needed links prefixes }
