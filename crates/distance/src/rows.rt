@@ -4,6 +4,8 @@
 // row. So row i comes to hold the least costs of the paths that pass only through routers after i. Substitution goes from the first
 // router on: the row of each later router is lowered to its cell of that router, as elimination left it, plus that router's row, which
 // holds the distances by then. A row whose cell is the limit is passed over: most are, where routers have few links.
+//
+// The number of routers stands beside the cells: a struct around a `&mut` would have to lend them again at each call, which is no plainer.
 ghost use Rattle.std.specs.Prelude.{◌≡◌, ◌+◌, ◌*◌, ◌<◌, min, length, get_or};
 ghost use Rattle.lfa.specs.Distance.{stage, distance_in};
 ghost use Rattle.metric.specs.Fit.{ColumnsWithin};

@@ -1,16 +1,15 @@
 -- The ends of the link, and the routers that are kept, router by router.
 -- Assumes nothing.
 use Prim.Native.Nat.{ℕ, ◌/◌, ◌^◌, ◌≤◌, ◌<◌}
-use mathlib.Core.Path.{◌≡◌, sym, ap, ap₂, ◌∙◌}
-use mathlib.Core.Bool.{Bool, true, not, ◌&&◌}
+use mathlib.Core.Path.{◌≡◌, ap, ap₂, ◌∙◌}
+use mathlib.Core.Bool.{Bool, true, false, ◌&&◌}
 use lib.Bits.{bit_and, bit_or}
 use lib.Dec.{eqb, ltb, leb}
-use Rattle.std.proofs.lemmas.Nat.{and_mask}
 use borrow.Author.Tests.{ltb-true, leb-true, lt-ltb, le-ltb}
 use Rattle.lfa.specs.Distance.{unreachable}
 use Rattle.lfa.specs.Space.{Protected, set_of, has}
-use Rattle.lfa.proofs.Laws.Test.{and_left, and_right, fails_left}
-use Rattle.metric.proofs.Laws.Set.{or_set_of}
+use Rattle.lfa.proofs.Laws.Test.{and_left, and_right, fails_left, fails_right}
+use Rattle.metric.proofs.Laws.Set.{or_set_of, has_bit, has_no_bit}
 use Rattle.steps.specs.Steps.{is_tight}
 use Rattle.steps.specs.Crossing.{over_link, reaches_without, numbers_fit}
 
@@ -28,12 +27,15 @@ fit_gives n q e =
     let ends = and_right (leb n 64) _ e in
     (leb-true _ _ (and_left _ _ e), ltb-true _ _ (and_left _ _ ends), ltb-true _ _ (and_right (ltb q.near 64) _ ends))
 
--- whether a router reaches the target and is not in the set, by its distance and its bit
 module _ (target : ℕ → ℕ) (set x : ℕ) where
-  pub far_away : unreachable ≤ target x → ltb (target x) unreachable ≡ reaches_without target set x
+  pub far_away : unreachable ≤ target x → reaches_without target set x ≡ false
   unfolding reaches_without
-  far_away h = let f = le-ltb (target x) unreachable h in f ∙ sym (fails_left _ _ f)
+  far_away h = fails_left _ _ (le-ltb (target x) unreachable h)
 
-  pub near_by : target x < unreachable → not (eqb (bit_and (set / 2 ^ x) 1) 1) ≡ reaches_without target set x
-  unfolding reaches_without has
-  near_by h = rw (lt-ltb (target x) unreachable h, and_mask (set / 2 ^ x) 1, reaches_without)
+  pub in_set : bit_and (set / 2 ^ x) 1 ≡ 1 → reaches_without target set x ≡ false
+  unfolding reaches_without
+  in_set e = let t : has set x ≡ true = has_bit set x e in fails_right (ltb (target x) unreachable) _ (rw t)
+
+  pub kept : target x < unreachable → (bit_and (set / 2 ^ x) 1 ≡ 1 → ⊥) → reaches_without target set x ≡ true
+  unfolding reaches_without
+  kept f h = let t : has set x ≡ false = has_no_bit set x h in rw (t, lt-ltb (target x) unreachable f, reaches_without)
