@@ -1,2 +1,2 @@
-mod CopyLaws
-mod PartLaws
+pub mod PartLaws
+pub mod LoadLaws

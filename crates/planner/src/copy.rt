@@ -8,10 +8,6 @@ pub(crate) fn copy_part(part: &[u8], entry: &mut [u8; 34]) -> usize
     ensures { (result ≡ length part.now) × (entry.new ≡ copied_to entry.old part.now) }
 {
     let n = part.len();
-    let mut i = 0;
-    while i < n {
-        entry[i] = part[i];
-        i += 1;
-    }
+    entry[..n].copy_from_slice(part);
     n
 }

@@ -18,6 +18,7 @@ use answers::size;
 use copy::copy_part;
 use drill::drill;
 use entries::{link_entry, prefix_entry};
+use metric::columns::Links;
 use network_file::load;
 use network_file::network::Network;
 use numbers::{
@@ -51,40 +52,42 @@ pub struct LoadedNetwork {
     pub own: [u16; 1024],
 }
 
-// Judges a file and hands over its network.
-pub fn planner_load(file: &[u8]) -> LoadedNetwork
-    ensures { result ≡ loaded_as (numbers_of (answer_to (loading file.now))) (struct_of (network_loaded file.now)) }
+// A verdict as numbers, and a network, column by column.
+#[tactic(auto, unfolding(crate::specs::Numbers::loaded_as))]
+fn loaded_network(answer: Numbers, network: &Network) -> LoadedNetwork
+    ensures { result ≡ loaded_as answer network.now }
 {
-    let loaded = load(file);
-    let verdict = loaded.verdict;
-    let answer = verdict_numbers(verdict);
-    let network = loaded.network;
-    let from = network.from;
-    let to = network.to;
-    let out = network.out;
-    let back = network.back;
-    let attached = network.attached;
-    let at = network.at;
-    let own = network.own;
+    let links = &network.links;
     LoadedNetwork {
         kind: answer.kind,
         number: answer.number,
         value: answer.value,
-        routers: network.routers,
-        links: network.links,
-        prefixes: network.prefixes,
-        from,
-        to,
-        out,
-        back,
-        attached,
-        at,
-        own,
+        routers: links.routers,
+        links: links.links,
+        prefixes: links.prefixes,
+        from: links.from,
+        to: links.to,
+        out: links.out,
+        back: links.back,
+        attached: network.attached,
+        at: network.at,
+        own: network.own,
+    }
+}
+
+// Judges a file and hands over its network.
+pub fn planner_load(file: &[u8]) -> LoadedNetwork
+    ensures { result ≡ loaded_as (numbers_of (answer_to (loading file.now))) (struct_of (network_loaded file.now)) }
+{
+    match load(file) {
+        Ok(network) => loaded_network(verdict_numbers(Ok(())), &network),
+        Err(fault) => loaded_network(verdict_numbers(Err(fault)), &Network::empty()),
     }
 }
 
 // Writes the network file of a network into the buffer, and tells how many bytes it has; 0 where nothing is written. The verdict beside the
 // network is not looked at.
+#[tactic(auto, unfolding(crate::specs::Numbers::network_in))]
 pub fn planner_write(given: LoadedNetwork, buffer: &mut [u8]) -> usize
     ensures { Wrote (network_held (network_in given)) result buffer.old buffer.new }
 {
@@ -92,10 +95,7 @@ pub fn planner_write(given: LoadedNetwork, buffer: &mut [u8]) -> usize
     let to = given.to;
     let out = given.out;
     let back = given.back;
-    let attached = given.attached;
-    let at = given.at;
-    let own = given.own;
-    let plain = Network {
+    let links = Links {
         routers: given.routers,
         links: given.links,
         prefixes: given.prefixes,
@@ -103,11 +103,17 @@ pub fn planner_write(given: LoadedNetwork, buffer: &mut [u8]) -> usize
         to,
         out,
         back,
+    };
+    let attached = given.attached;
+    let at = given.at;
+    let own = given.own;
+    let plain = Network {
+        links,
         attached,
         at,
         own,
     };
-    write(plain, buffer)
+    write(&plain, buffer)
 }
 
 // Writes the network file of a drill into the buffer, and tells how many bytes it has; 0 where nothing is written.
