@@ -60,6 +60,10 @@ unfolding verdict_decided answer_of fault_of load_answer
 verdict_answers b (Ok held) e = sym (load_answer_lem b ∙ rw (← e))
 verdict_answers b (Err f) e = sym (load_answer_lem b ∙ rw (← e))
 
+pub accepted_answers : {T : Type 0} (b : Bytes) (held : T) → none ≡ file_refusal b → answer_of (Ok held) ≡ answer_to (loading b)
+unfolding verdict_decided
+accepted_answers b held e = verdict_answers b (Ok held) e
+
 -- A file that no row turns away: its network is what `load` hands over, rows 1 to 5 have found its sizes, and rows 8 and 9 pass.
 module _ (b : Bytes) (e : none ≡ file_refusal b) where
   pub accepted_network : network_of b ≡ network_loaded b

@@ -93,6 +93,7 @@ pub fn load_links(file: &[u8]) -> Result<Links, Fault>
 }
 
 // Judges a file and hands over its network.
+#[tactic(auto, using(crate::proofs::LoadLaws::verdict_answers, crate::proofs::LoadLaws::accepted_answers, crate::proofs::LoadLaws::accepted_network, crate::proofs::LoadLaws::accepted_sized, crate::proofs::LoadLaws::accepted_prefixes), unfolding(crate::specs::Load::verdict_decided))]
 pub fn load(file: &[u8]) -> Result<Network, Fault>
     ensures answer { answer_of result ≡ answer_to (loading file.now) }
     ensures network { IfOk result (λ network. network ≡ struct_of (network_loaded file.now)) }
