@@ -9,7 +9,8 @@ ghost use Rattle.entries.specs.Count.{count_loaded};
 use field::word_at;
 use network_file::judge;
 
-// How many links or prefixes a file has, by the offset of their number in the head; 0 for a refused file.
+// How many links or prefixes a file has, by the offset of their number in the head; 0 for a refused file, and no Option: it is the number of
+// what may be asked for (`count_loaded`).
 fn count_at(file: &[u8], at: usize) -> usize
     ensures { result ≡ count_loaded file.now at }
 {
@@ -28,7 +29,8 @@ fn part_at(file: &[u8], start: usize, size: usize) -> &[u8]
     &file[start..end]
 }
 
-// The 6 bytes of a link's entry; none for a refused file or a link number too large. A block holds 84 of them.
+// The 6 bytes of a link's entry; none for a refused file or a link number too large (a part of no bytes and no Option: `link_part`, and the C
+// interface). A block holds 84 of them.
 pub fn link_entry(file: &[u8], link: usize) -> &[u8]
     ensures { result.now ≡ link_part file.now link }
 {

@@ -1,4 +1,4 @@
-// Rows 6 to 9, the rows of the entries, in the order of the table, and the network of a file to which no row applies.
+// Rows 6 to 9, the rows of the entries, in the order of the table.
 ghost use Rattle.std.specs.Prelude.{◌≡◌};
 ghost use Rattle.std.proofs.Math.Option.{none};
 ghost use Rattle.lfa.specs.File.{Bytes};

@@ -71,7 +71,8 @@ pub fn class_of(hop: usize, endpoint: usize, end: u32, near: u32, protecting: bo
     or_else(endpoint == hop, 2) + or_else(end < near, 1) + or_else(protecting, 4)
 }
 
-// The rank that a table gives to a class, and 0 where the table has no place for it.
+// The rank that a table gives to a class, and 0 where the table has no place for it: a number and no Option, since the order of pairs is
+// defined for any table (`rank_of` of `lfa`).
 pub fn rank_of(ranks: &[u8], class: u32) -> u32
     ensures { result ≡ rank_of ranks.now class }
 {

@@ -32,6 +32,7 @@ pub enum Cells {
 }
 
 impl Cells {
+    // How many they are.
     fn count(self) -> usize
         ensures { result ≡ count_in self }
     {
@@ -47,7 +48,7 @@ impl Cells {
         matches!(self, Cells::Table { .. })
     }
 
-    // Whether no table is there that is not the file's.
+    // Whether the table, if one is given, holds the file's distances.
     fn right(self) -> bool
         ensures { result ≡ right_in self true }
     {
@@ -56,7 +57,8 @@ impl Cells {
 }
 
 // The numbers of a question, beside those cells, and whether the lent table of ranks is an arrangement. Where the call has no such input,
-// any value may stand.
+// any value may stand:
+// one struct and no enum with fields, since the rows are stated once for all calls by these numbers (`question_about`).
 #[derive(Clone, Copy)]
 pub struct Asked {
     pub call: Call,
@@ -88,6 +90,7 @@ struct Inputs {
     prefix: bool,
 }
 
+// Which they are. No step is chosen by this: the rows try what a call has.
 fn inputs_of(call: Call, given: bool) -> Inputs
     ensures { (s : Space) → result ≡ inputs_in (call_of call given s) }
 {
