@@ -30,7 +30,7 @@ pub fn distances(file: &[u8], work: &mut [u32]) -> Result<(), Refusal>
         end: 0,
         prefix: 0,
     };
-    pose_links(file, asked, work)?;
+    let _links = pose_links(file, asked, work)?;
     Ok(())
 }
 
