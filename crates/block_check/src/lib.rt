@@ -8,7 +8,8 @@ ghost use Rattle.block_check.specs.Whole.{check_of_whole};
 
 use field::{word_at, word_of};
 
-// A number of four bytes from its two words, the lower one first.
+// A number of four bytes from its two words, the lower one first. By a sum, as the next: std puts numbers together from bytes, and the lanes are
+// of words.
 fn half_of(low: u16, high: u16) -> u32
     ensures { result ≡ low + 65536 * high }
 {

@@ -61,7 +61,8 @@ fn all_ends_good(links: &Links) -> bool
     good
 }
 
-// Whether row 6 passes the costs of every link: the least of them is not 0. The loop has no early return either.
+// Whether row 6 passes the costs of every link: the least of them is not 0. The loop has no early return either. `table` asks the same of hops
+// that are to cost something; it is no part of the file's rows, and a public function for both would stand apart from either's words.
 fn all_costs_good(links: &Links) -> bool
     requires { FewLinks links.now }
     ensures { result ≡ every_below (costs_good links.now) links.now.links }

@@ -13,7 +13,8 @@ use metric::columns::Links;
 // No finite distance of any network is larger.
 const LONGEST: u32 = 4194240;
 
-// What stands for unreachable in sums: more than any finite distance and a cost, and little enough for a sum.
+// What stands for unreachable in sums: more than any finite distance and a cost, and little enough for a sum. (It is the number of `distance`,
+// which chooses it for the sum of two cells; neither rests on the other's.)
 const LIMIT: u32 = 1073741824;
 
 // What stands for a cell in sums. For a number that is no distance of any network it is one that no least sum is.

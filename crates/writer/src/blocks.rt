@@ -63,7 +63,8 @@ pub(crate) fn link_block(links: &Links, j: usize, block: &mut [u8])
 }
 
 // A block of prefixes up to its last entry.
-// Apart from links: one generic function would take the kind, the entry's size and a closure that puts an entry, with its whole contract.
+// Apart from links: one generic function would take the kind, the entry's size and a closure that puts an entry, with its whole
+// contract; so it is with the blocks, here and in `file`.
 fn prefix_entries(network: &Network, first: usize, count: usize, number: u16, block: &mut [u8])
     requires { ZeroBlock block.old × (first + count ≤ 128) × (count ≤ 14)
         × ((p : ℕ) → p < first + count → get_or network.now.attached p 0 ≤ 8) }
