@@ -64,7 +64,7 @@ pub(crate) fn print_end(file: &[u8], table: &[u32], end: End, prefixes: usize, a
     }
 }
 
-// A refusal as one number.
+// A refusal as one number. Its value goes into a `u64` by `as`, since no `From` does that.
 fn refusal_code(row: Row) -> u64 {
     4 | u64::from(row.number) << 8 | (row.value as u64) << 16
 }

@@ -116,6 +116,7 @@ pub fn print_route(answer: Result<Played, Refusal>, buffer: &[u8]) {
 }
 
 // The answer of a call for a repair as one number, another one for another answer. The lowest two bits are 0 for a refusal, whose code is told.
+// A `usize` goes into a `u64` by `as`, since no `From` does that.
 pub fn code<F: FnOnce(Row) -> u64>(answer: Result<Repair, Refusal>, refusal_code: F) -> u64
     requires { F.IsAlwaysCallable refusal_code }
 {
