@@ -1,12 +1,12 @@
 -- The entries that can be named are those of an accepted file, up to its counts, and each lies inside the file.
 -- Assumes nothing.
-use Prim.Native.Nat.{ℕ, ◌+◌, ◌*◌, ◌/◌, ◌%◌, ◌≤◌, ◌<◌}
+use Prim.Native.Nat.{ℕ, ◌+◌, ◌*◌, ◌/◌, ◌%◌, ◌≤◌, ◌<◌, min}
 use mathlib.Core.Path.{◌≡◌, refl, sym, ap, ◌∙◌}
 use mathlib.Core.Option.{Option, none, some}
 use mathlib.Core.List.{[]}
 use native.Mathlib.Omega.{arith}
 use borrow.Author.Tests.{lt-ltb}
-use Rattle.lfa.specs.File.{Bytes, word_at, links_of, prefixes_of, link_entry, prefix_entry}
+use Rattle.lfa.specs.File.{Bytes, word_at, links_of, prefixes_of, ceil, link_blocks, link_entry, prefix_entry}
 use Rattle.lfa.specs.Refusal.{file_refusal, FileRow, Decided}
 use Rattle.lfa.specs.Answer.{part_if, link_part, prefix_part}
 use Rattle.lfa.proofs.Laws.Accepted.{no_part, no_link_part, no_prefix_part}
@@ -20,6 +20,11 @@ use Rattle.entries.specs.Count.{count_loaded}
 pub links_few : (b : Bytes) (links : ℕ) → links ≡ word_at b 6 → Sized b → links ≤ 128
 unfolding links_of
 links_few b links q s = omega (arith, s.few_links)
+
+-- the quotient rounded up
+pub blocks_are : (links : ℕ) {blocks : ℕ} → blocks ≡ links / 84 + min 1 (links % 84) → blocks ≡ link_blocks links
+unfolding link_blocks ceil
+blocks_are links e = omega arith
 
 module _ (b : Bytes) where
   -- the counts of an accepted file are those of its head, and those of any other are 0
@@ -57,10 +62,11 @@ module _ (b : Bytes) where
       prefix_sized = let e = counted_accepted 8 k h in (accepted_sized b e, omega (arith, count_accepted 8 e))
 
       -- and its entry stands where the code looks for it
-      pub prefix_there : {links : ℕ} → links ≡ word_at b 6 → EntryAt b (512 * (1 + (links + 83) / 84 + k / 14) + 4 + 34 * (k % 14)) k
+      pub prefix_there : {links blocks : ℕ} → links ≡ word_at b 6 → blocks ≡ link_blocks links →
+          EntryAt b (512 * (1 + blocks + k / 14) + 4 + 34 * (k % 14)) k
       unfolding links_of
-      prefix_there {links} q =
-          record { sized = prefix_sized.0; in_file = prefix_sized.1; at_place = place_found links k ∙ ap (λ (n : ℕ). place_in n k) q }
+      prefix_there {links} q e =
+          record { sized = prefix_sized.0; in_file = prefix_sized.1; at_place = place_found links k e ∙ ap (λ (n : ℕ). place_in n k) q }
 
       pub is_prefix_part : prefix_entry b k ≡ prefix_part b k
       unfolding prefix_part part_if

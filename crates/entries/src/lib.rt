@@ -50,7 +50,7 @@ pub fn prefix_entry(file: &[u8], prefix: usize) -> &[u8]
     if prefixes <= prefix {
         return &file[0..0];
     }
-    let blocks = (usize::from(word_at(file, 6)) + 83) / 84;
+    let blocks = usize::from(word_at(file, 6)).div_ceil(84);
     part_at(
         file,
         512 * (1 + blocks + prefix / 14) + 4 + 34 * (prefix % 14),

@@ -2,7 +2,7 @@
 -- the file, and what stands there is the entry of its prefix.
 -- Assumes nothing.
 use Prim.Native.Nat.{ℕ, ◌+◌, ◌*◌, ◌/◌, ◌%◌, ◌≤◌}
-use mathlib.Core.Path.{◌≡◌, refl, ◌∙◌}
+use mathlib.Core.Path.{◌≡◌, ◌∙◌}
 use mathlib.Core.Bool.{true, false}
 use mathlib.Core.Logic.{◌⊎◌, inl, inr}
 use native.Mathlib.Omega.{arith}
@@ -13,15 +13,10 @@ use lib.ListN.{length}
 use Rattle.lfa.specs.File.{Bytes, part_of, ceil, link_blocks, prefix_blocks, blocks_needed, links_of, prefix_entry}
 use Rattle.network_file.specs.Entry.{place_in, next_place, EntryAt}
 
--- The place by division, as `entries::prefix_entry` finds it, and the place of the first entry, where the divisions give 0: the blocks of links,
--- 84 to a block, stand between the head and the first block of prefixes.
-pub place_found : (links p : ℕ) → 512 * (1 + (links + 83) / 84 + p / 14) + 4 + 34 * (p % 14) ≡ place_in links p
-unfolding place_in link_blocks ceil
-place_found links p = refl
-
-pub place_first : (links : ℕ) → 512 * (1 + (links + 83) / 84) + 4 ≡ place_in links 0
-unfolding place_in link_blocks ceil
-place_first links = omega arith
+-- The place by division, as `entries::prefix_entry` finds it: the blocks of links stand between the head and the first block of prefixes.
+pub place_found : (links p : ℕ) {blocks : ℕ} → blocks ≡ link_blocks links → 512 * (1 + blocks + p / 14) + 4 + 34 * (p % 14) ≡ place_in links p
+unfolding place_in
+place_found links p e = rw e
 
 -- The place after that of prefix p. 14 entries fill a block up to its byte 480, so the next one stands behind the label of the next
 -- block where the place behind this one is such a byte, and else directly behind it.

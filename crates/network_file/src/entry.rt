@@ -1,6 +1,5 @@
 // Rows 6 to 9, the rows of the entries, in the order of the table.
 ghost use Rattle.std.specs.Prelude.{◌≡◌};
-ghost use Rattle.std.proofs.Math.Option.{none};
 ghost use Rattle.lfa.specs.File.{Bytes};
 ghost use Rattle.lfa.specs.Refusal.{file_returned, first_row};
 ghost use Rattle.network_file.specs.Entry.{FewLinks, LinksOf, link_rows, prefix_rows};

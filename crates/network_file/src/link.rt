@@ -1,11 +1,11 @@
 // Links: their entries read into columns, and rows 6 and 7.
-ghost use Rattle.std.specs.Prelude.{◌≡◌, not, ◌&&◌, ℕ, ◌+◌, ◌≤◌, ◌<◌, eqb, ltb, leb};
+ghost use Rattle.std.specs.Prelude.{◌≡◌, not, ◌&&◌, ◌<◌, eqb, ltb};
 ghost use Rattle.lfa.specs.Lists.{first_failing, every_below};
 ghost use Rattle.lfa.specs.File.{network_of};
 ghost use Rattle.block.specs.First.{found_in};
 ghost use Rattle.block.specs.Judged.{Sized};
 ghost use Rattle.network_file.specs.Struct.{links_struct_of};
-ghost use Rattle.network_file.specs.Entry.{FewLinks, EndsBelow, link_place, ends_good, costs_good, link_sound, pair_cell, pair_new};
+ghost use Rattle.network_file.specs.Entry.{FewLinks, EndsBelow, ends_good, costs_good, link_sound, pair_cell, pair_new};
 
 use super::place::next_place;
 use field::{word_at, word_of};

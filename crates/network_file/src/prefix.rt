@@ -1,5 +1,5 @@
 // Prefixes: rows 8 and 9, and their entries read into columns.
-ghost use Rattle.std.specs.Prelude.{◌≡◌, Bool, true, ℕ, ◌+◌, ◌*◌, ◌/◌, ◌%◌, ◌≤◌, ◌<◌, eqb, ltb, length};
+ghost use Rattle.std.specs.Prelude.{◌≡◌, Bool, true, ℕ, ◌+◌, ◌*◌, ◌/◌, ◌%◌, ◌≤◌, ◌<◌, ltb, length};
 ghost use Rattle.std.proofs.Math.Option.{none};
 ghost use Rattle.lfa.specs.Lists.{first_failing, every_below};
 ghost use Rattle.lfa.specs.File.{routers_of, links_of, network_of, word_at, prefix_entry, attachments, slot, sound_prefix, prefix_good, slot_new, routers_new};
@@ -18,7 +18,7 @@ fn first_place(links: usize) -> usize
     requires { links ≤ 128 }
     ensures { result ≡ place_in links 0 }
 {
-    512 * (1 + (links + 83) / 84) + 4
+    512 * (1 + links.div_ceil(84)) + 4
 }
 
 // The 34 bytes of the prefix whose entry stands at a place.
