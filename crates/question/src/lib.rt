@@ -62,7 +62,7 @@ impl From<Row> for Refusal {
     }
 }
 
-// The number of routers of a network, of which there are at most 64.
+// The number of routers of a network, of which there are at most 64. By a remainder and not `u8::try_from`, whose error never comes.
 fn narrow(routers: usize) -> u8
     ensures { result ≡ routers % 256 }
 {

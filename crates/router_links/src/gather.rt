@@ -29,7 +29,8 @@ pub(crate) fn lsa_stub(run: &[u8], at: usize, key: u64) -> u32
     stub_least(l, links, key)
 }
 
-// The links with one more between routers a and b, if both have a metric for the other. There are 129 links where there are more than 128.
+// The links with one more between routers a and b, if both have a metric for the other. There are 129 links where there are more than 128
+// (a number and no Option: `LinksHeld` counts up to there, as the columns do).
 pub(crate) fn add_link(links: Links, a: u8, b: u8, metric: u16, other: u16) -> Links
     ensures { (held : List lfa.Link) → LinksHeld held links → LinksHeld (held ++ link_if a b metric other) result }
 {
