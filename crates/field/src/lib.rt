@@ -9,7 +9,7 @@ ghost use Rattle.lfa.specs.File.{word_at, all_zero};
 pub fn word_of(low: u8, high: u8) -> u16
     ensures { result ≡ low + 256 * high }
 {
-    u16::from(low) + 256 * u16::from(high)
+    u16::from_le_bytes([low, high])
 }
 
 // The 16-bit field at an offset.
