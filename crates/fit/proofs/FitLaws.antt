@@ -1,6 +1,6 @@
 -- The tests of the links and of the slots, return by return.
 -- Assumes nothing.
-use Prim.Native.Nat.{ℕ, ◌+◌, ◌≤◌, ◌<◌, max}
+use Prim.Native.Nat.{ℕ, ◌+◌, ◌≤◌, ◌<◌}
 use mathlib.Core.Path.{◌≡◌, sym}
 use mathlib.Core.Bool.{true, false, ◌&&◌}
 use mathlib.Core.List.{List}
@@ -12,7 +12,7 @@ use Rattle.lfa.specs.Lists.{every_below}
 use Rattle.lfa.proofs.Laws.Test.{and_left, and_right, and_make, fails_left, fails_right, same_test}
 use Rattle.lfa.proofs.Laws.List.{every_gives, every_make}
 use Rattle.metric.specs.Fit.{joins, links_fit, attaches, slots_fit}
-use Rattle.metric.proofs.Laws.List.{every_fails, every_more}
+use Rattle.metric.proofs.Laws.List.{every_fails}
 
 -- ---- the links
 
@@ -20,19 +20,6 @@ use Rattle.metric.proofs.Laws.List.{every_fails, every_more}
 pub record Largest (n k : ℕ) (from to : List ℕ) (top : ℕ) : Type 0 where
   pub holds : top < n → (j : ℕ) → j < k → joins n from to j ≡ true
   pub told : 0 < n → ((j : ℕ) → j < k → joins n from to j ≡ true) → top < n
-
-module _ (n : ℕ) (from to : List ℕ) where
-  pub largest_none : Largest n 0 from to 0
-  largest_none = record { holds = λ _ j h. absurd (omega arith); told = λ some _. some }
-
-  -- one link more
-  pub largest_more : {k top r e : ℕ} → Largest n k from to top → e ≡ max (get_or from k 0) (get_or to k 0) → r ≡ max top e → Largest n (k + 1) from to r
-  largest_more {k} {top} {r} {e} q i l = record {
-    holds = λ h. every_more (joins n from to) k (q.holds (omega arith)) (and_make _ _ (lt-ltb (get_or from k 0) n (omega arith)) (lt-ltb (get_or to k 0) n (omega arith)));
-    told = λ some each.
-        let this = each k (omega arith) in
-        omega (arith, q.told some (λ j h. each j (omega arith)), ltb-true (get_or from k 0) n (and_left _ _ this), ltb-true (get_or to k 0) n (and_right (ltb (get_or from k 0) n) _ this));
-  }
 
 module _ (n links : ℕ) (from to : List ℕ) where
   pub links_many : 128 < links → false ≡ links_fit n links from to
