@@ -5,8 +5,8 @@ use mathlib.Core.Path.{◌≡◌, refl, sym, ap, ◌∙◌}
 use mathlib.Core.List.{[], ◌∷◌, ◌++◌, append_assoc}
 use native.Mathlib.Omega.{arith}
 use native.Mathlib.Numerals.{add-one}
-use lib.ListN.{length, get_or, take, drop, set, replicate, length-append, length-take, length-drop}
-use lib.Seq.{set_split, take_at, take-suc, drop-append-add, drop-drop, length-take-le}
+use lib.ListN.{length, take, drop, set, replicate, length-append, length-take, length-drop}
+use lib.Seq.{set_split, take_at, drop-append-add, drop-drop}
 use Rattle.lfa.specs.File.{Bytes}
 use Rattle.lfa.specs.FileOf.{pad}
 use Rattle.writer.specs.Put.{put_at}
@@ -50,25 +50,6 @@ put_two at x y b h =
 pub put_two_more : (at x y : ℕ) (w b : Bytes) → at + 2 + length w ≤ length b →
     put_at (at + 2) w (set (set b at x) (at + 1) y) ≡ put_at at (x ∷ y ∷ w) b
 put_two_more at x y w b h = rw (put_two at x y b (omega arith)) (put_after at (at + 2) (x ∷ y ∷ []) w b refl h)
-
--- ---- a copy
-
-pub copy_none : (s b : Bytes) → b ≡ put_at 0 (take 0 s) b
-unfolding put_at
-copy_none s b = refl
-
--- one byte more
-pub copy_more : (i : ℕ) (s b : Bytes) → i < length s → length s ≤ length b →
-    set (put_at 0 (take i s) b) i (get_or s i 0) ≡ put_at 0 (take (i + 1) s) b
-copy_more i s b h few =
-    let long : length (take i s) ≡ i = length-take-le i s (omega arith) in
-    let same : length (put_at 0 (take i s) b) ≡ length b = put_length 0 (take i s) b (omega arith) in
-    rw (
-      put_one i (get_or s i 0) (put_at 0 (take i s) b) (omega arith),
-      put_after 0 i (take i s) (get_or s i 0 ∷ []) b (omega arith) (omega arith),
-      add-one i,
-      take-suc s i 0 h,
-    )
 
 -- ---- padding
 

@@ -5,7 +5,9 @@ use mathlib.Core.Path.{◌≡◌, refl, sym, ap, ◌∙◌}
 use mathlib.Core.Bool.{Bool, true, false, ◌&&◌}
 use native.Mathlib.Omega.{arith}
 use lib.Dec.{leb}
-use lib.ListN.{length, get_or}
+use lib.ListN.{length, get_or, take}
+use lib.Seq.{length-take-le}
+use Rattle.std.proofs.lemmas.List.{get_or-take}
 use borrow.Author.Tests.{leb-true, le-leb, lt-leb}
 use Rattle.lfa.specs.Lists.{every_below}
 use Rattle.lfa.specs.Network as lfa
@@ -50,6 +52,15 @@ module _ (s : Network) where
   abbrev entries_fit : Bool
   entries_fit = every_below (λ p. leb (get_or s.attached p 0) 8) s.links.prefixes
 
+  -- the code tests the counts of the prefixes, as a list of their own
+  abbrev first_fits : ℕ → Bool
+  first_fits p = leb (get_or (take s.links.prefixes s.attached) p 0) 8
+
+  first_same : every_below first_fits s.links.prefixes ≡ entries_fit
+  first_same = same_test _ _
+      (λ e. every_make _ s.links.prefixes (λ p h. rw (get_or-take s.links.prefixes s.attached p 0 h) at (every_gives first_fits s.links.prefixes e p h)))
+      (λ e. every_make first_fits s.links.prefixes (λ p h. rw (get_or-take s.links.prefixes s.attached p 0 h) (every_gives _ s.links.prefixes e p h)))
+
   entries_same : every_below (entry_fits (network_held s)) s.links.prefixes ≡ entries_fit
   entries_same = same_test _ _
       (λ e. every_make _ s.links.prefixes (λ p h. rw (prefix_held s p h) at (every_gives (entry_fits (network_held s)) s.links.prefixes e p h)))
@@ -85,9 +96,12 @@ module _ (s : Network) where
       let prefixes = fails_right (leb s.links.routers 64 && leb s.links.links 128) _ (lt-leb s.links.prefixes 128 h) in
       sym (counts_are ∙ fails_left _ entries_fit prefixes)
 
-  pub few_counted : (r : Bool) → s.links.routers ≤ 64 → s.links.links ≤ 128 → s.links.prefixes ≤ 128 → r ≡ entries_fit → r ≡ counts_fit (network_held s)
-  few_counted r few-r few-l few-p e =
-      e ∙ sym (counts_are ∙ rw (le-leb s.links.routers 64 few-r, le-leb s.links.links 128 few-l, le-leb s.links.prefixes 128 few-p))
+  pub few_counted : (r : Bool) → length s.attached ≡ 128 → s.links.routers ≤ 64 → s.links.links ≤ 128 → s.links.prefixes ≤ 128 →
+      r ≡ every_below first_fits (length (take s.links.prefixes s.attached)) →
+      r ≡ counts_fit (network_held s)
+  few_counted r long few-r few-l few-p e =
+      let n : length (take s.links.prefixes s.attached) ≡ s.links.prefixes = length-take-le s.links.prefixes s.attached (omega arith) in
+      rw n at e ∙ first_same ∙ sym (counts_are ∙ rw (le-leb s.links.routers 64 few-r, le-leb s.links.links 128 few-l, le-leb s.links.prefixes 128 few-p))
 
 -- ---- what is left
 

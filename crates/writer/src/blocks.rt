@@ -1,5 +1,5 @@
 // Blocks of 512 bytes, each put together in a block of zeros.
-ghost use Rattle.std.specs.Prelude.{◌≡◌, ◌∷◌, ◌++◌, ℕ, ◌+◌, ◌-◌, ◌*◌, ◌≤◌, ◌<◌, length, get_or};
+ghost use Rattle.std.specs.Prelude.{◌≡◌, ◌∷◌, ◌++◌, ℕ, ◌+◌, ◌*◌, ◌≤◌, ◌<◌, length, get_or};
 ghost use Rattle.lfa.specs.File.{check_of};
 ghost use Rattle.lfa.specs.FileOf.{word_bytes, pad, block_bytes};
 ghost use Rattle.writer.specs.Put.{put_at};

@@ -1,5 +1,5 @@
 // Whether a file has room for so many routers, links, prefixes and attachments as the columns hold.
-ghost use Rattle.std.specs.Prelude.{◌≡◌, ◌≤◌, leb, get_or};
+ghost use Rattle.std.specs.Prelude.{◌≡◌, leb, get_or, length};
 ghost use Rattle.lfa.specs.Lists.{every_below};
 ghost use Rattle.lfa.specs.Writing.{counts_fit};
 ghost use Rattle.network_file.specs.Held.{network_held};
@@ -7,12 +7,11 @@ ghost use Rattle.network_file.specs.Held.{network_held};
 use network_file::network::Network;
 
 // Whether the entry of each prefix has room for its attachments.
-fn entries_fit(attached: &[u8; 128], prefixes: usize) -> bool
-    requires { prefixes ≤ 128 }
-    ensures { result ≡ every_below (λ p. leb (get_or attached.now p 0) 8) prefixes }
+fn entries_fit(attached: &[u8]) -> bool
+    ensures { result ≡ every_below (λ p. leb (get_or attached.now p 0) 8) (length attached.now) }
 {
-    for p in 0..prefixes {
-        if 8 < attached[p] {
+    for count in attached {
+        if 8 < *count {
             return false;
         }
     }
@@ -32,5 +31,5 @@ pub(crate) fn counts_fit(network: &Network) -> bool
     if 128 < prefixes {
         return false;
     }
-    entries_fit(&network.attached, prefixes)
+    entries_fit(&network.attached[..prefixes])
 }
