@@ -27,7 +27,7 @@ fn check_good(file: &[u8], i: usize) -> bool
 }
 
 // The first of n blocks whose check is wrong. Like the other loops for the first that fails (row 5, row 6) it has its test in it: as a closure
-// the test would need clauses of its own, longer than the loop.
+// the test would need clauses of its own, longer than the loop. (Those of rows 8 and 9 share one, which also keeps the place of an entry.)
 pub(crate) fn first_bad_check(file: &[u8], n: usize) -> Option<usize>
     requires { 512 * n ≤ length file.now }
     ensures { found_in result ≡ first_failing (check_good file.now) 0 n }

@@ -41,8 +41,8 @@ pub fn link_entry(file: &[u8], link: usize) -> &[u8]
     part_at(file, 512 * (1 + link / 84) + 4 + 6 * (link % 84), 6)
 }
 
-// The 34 bytes of a prefix's entry, whose place another sum gives than a link's; none for a refused file or a prefix number too large. A block holds 14 of them, and the blocks of links
-// stand before those of prefixes.
+// The 34 bytes of a prefix's entry, whose place another sum gives than a link's; none for a refused file or a prefix number too large. A
+// block holds 14 of them, and the blocks of links stand before those of prefixes.
 pub fn prefix_entry(file: &[u8], prefix: usize) -> &[u8]
     ensures { result.now ≡ prefix_part file.now prefix }
 {

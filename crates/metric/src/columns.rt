@@ -1,7 +1,7 @@
 // A network in columns of numbers, as the crates above hand its parts on.
 
-// The counts of a network and its links, in columns of a fixed size: there is no heap, and the C interface has the same columns. Link k joins routers from[k] and to[k], at cost out[k] one way
-// and back[k] the other.
+// The counts of a network and its links, in columns of a fixed size: there is no heap, and the C interface has the same columns. Link k
+// joins routers from[k] and to[k], at cost out[k] one way and back[k] the other.
 #[derive(Clone, Copy)]
 pub struct Links {
     pub routers: usize,

@@ -5,8 +5,8 @@ ghost use Rattle.network_file.specs.Struct.{struct_of};
 use metric::columns::Links;
 
 // Its counts and its links, and the attachments of its prefixes. Slot s of prefix p is cell p * 8 + s of `at` (the router) and `own` (its
-// cost); the first attached[p] of its eight are used. Columns of a fixed size, and no list of slots:
-// the C interface hands them over as they are (`planner_load`), and there is no heap.
+// cost); the first attached[p] of its eight are used. Columns of a fixed size, and no list of slots: the C interface hands them over as they
+// are (`planner_load`), and there is no heap.
 #[derive(Clone, Copy)]
 pub struct Network {
     pub links: Links,

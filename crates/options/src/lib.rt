@@ -9,7 +9,8 @@ ghost use Rattle.options.specs.Options.{move_in, delivers_by, members_of, move_b
 
 use metric::Distance;
 
-// What an option does: it delivers the packet, or takes it to the next router. The paper names both, and `Deliver` is plainer than None.
+// What an option does: it delivers the packet, or takes it to the next router. A route's
+// rules name both (SPECIFICATION, section 7), and `Deliver` is plainer than None.
 #[derive(Clone, Copy)]
 pub enum Move {
     Deliver,

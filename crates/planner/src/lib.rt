@@ -91,6 +91,7 @@ pub fn planner_load(file: &[u8]) -> LoadedNetwork
 pub fn planner_write(given: LoadedNetwork, buffer: &mut [u8]) -> usize
     ensures { Wrote (network_held (network_in given)) result buffer.old buffer.new }
 {
+    // Each column is taken out first: the borrow checker does not follow one that goes from this struct straight into a literal.
     let from = given.from;
     let to = given.to;
     let out = given.out;

@@ -81,7 +81,8 @@ fn judge(links: &Links, cells: Cells, asked: Asked) -> Result<(), Refusal>
     Ok(())
 }
 
-// The same for a call that is lent a work area. Where no row applies, the work area holds the distances of the network.
+// The same for a call that is lent a work area. Where no row applies, the work area holds the distances of the network. (Apart from `ask_with`,
+// as are the four calls below from one another: one for all would take what differs as closures with their contracts, longer than these.)
 fn ask(links: &Links, asked: Asked, work: &mut [u32]) -> Result<(), Refusal>
     ensures turned { (b : Bytes) (s : Space) (choices ranks : List ℕ) → Taken b links.now → is_arrangement ranks ≡ asked.ranked →
         turned_answer result ≡ early_answer (question_about b (work_cells (length work.old)) [] asked s choices ranks) }

@@ -42,7 +42,7 @@ fn passed_on(repair: Repair) -> Played
     }
 }
 
-// The repairing router S: the end of the link that the question names.
+// The repairing router S: the end of the link that the question names, as `search` sees it too, which hands over pairs alone.
 fn repairing(links: &Links, link: usize, end: usize) -> usize
     requires { link < 128 }
     ensures { result ≡ (protected_of links.now link end).near }

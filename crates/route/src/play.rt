@@ -31,7 +31,8 @@ struct Progress {
 
 // Goes one leg from router `start` towards the target that has these slots, and returns how far the route has come then. A choice byte is
 // used at each router but `stop`, where the leg ends; it also ends at the first attached router, which delivers. With each step the
-// distance to the target falls. A leg that stops nowhere has 64 for `stop`, and no None: the comparison of each step stays one of two numbers.
+// distance to the target falls. A leg that stops nowhere has 64 for `stop`, and no None: `Leg`, the
+// relation that the clauses cite, has a number there, and no router is 64.
 fn leg(
     ground: &Ground<'_>,
     slots: &Slots<'_>,

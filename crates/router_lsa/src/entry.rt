@@ -52,7 +52,8 @@ fn same_neighbour(l: &[u8], k: usize, j: usize) -> bool
     both_to(l[32 + 12 * k], id, l[32 + 12 * j], earlier)
 }
 
-// Whether no earlier point-to-point link leads to the router of link k.
+// Whether no earlier point-to-point link leads to the router of link k. (The loops that ask something of each link or LSA have their test in
+// them: as a closure it would need clauses of its own, longer than the loop.)
 fn entry_new(l: &[u8], k: usize) -> bool
     requires { 36 + 12 * k ≤ length l.now }
     ensures { result ≡ entry_new l.now k }

@@ -2,7 +2,7 @@
 ghost use Rattle.std.specs.Prelude.{◌≡◌, ◌+◌, ◌*◌};
 ghost use Rattle.ospf.specs.Lsa.{be16, be32};
 
-// A 32-bit field from its two halves.
+// A 32-bit field from its two halves. By a sum: they are read apart, since either may be past the end.
 fn word(high: u16, low: u16) -> u32
     ensures { result ≡ 65536 * high + low }
 {

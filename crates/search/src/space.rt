@@ -24,8 +24,8 @@ pub(crate) fn can_search(links: &Links, protected: Protected, area: &Area<'_>) -
 }
 
 // For each first hop, stores the set of the routers that it avoids the link on the way to, and tells those that one of them does: extended
-// P. Beyond which arcs are first hops, costs have no part in it. The sets have a column of their own beside that of the arcs: there is no
-// heap for a list of pairs.
+// P. Beyond which arcs are first hops, costs have no part in it. The sets have a column of their own beside that of the arcs: they are
+// worked out once the arcs are listed, and extended P needs only their union.
 pub(crate) fn reached(
     links: &Links,
     protected: Protected,

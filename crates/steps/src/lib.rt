@@ -107,7 +107,8 @@ pub fn next_routers(links: &Links, ends: u64, target: &[u32; 64]) -> [u64; 64]
     Walks { ends, target }.nexts_over(links)
 }
 
-// The routers of which some next router is in the set.
+// The routers of which some next router is in the set. A loop of its own, as `reaching_without` is: with the test as a closure, as `avoid` has it,
+// each would need that closure's clauses, longer than the loop.
 fn led_to(nexts: &[u64; 64], set: u64) -> u64
     ensures { result ≡ led_to nexts.now set }
 {

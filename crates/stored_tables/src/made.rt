@@ -65,7 +65,7 @@ fn cell(which: usize, cells: &[u32], n: usize, i: usize) -> u32 {
     }
 }
 
-// Puts table `which` for n routers into `table`.
+// Puts table `which` for n routers into `table`: a number and no enum, since it is what the line tells.
 pub(crate) fn make(which: usize, cells: &[u32], table: &mut [u32], n: usize) {
     for (i, made) in table.iter_mut().enumerate() {
         *made = cell(which, cells, n, i);

@@ -1,5 +1,5 @@
-// What the programs share that print answers: the printing, the cases that are stored for them and what is asked about a case, and the bytes that they
-// lend to a call.
+// What the programs share that print answers: the printing, the cases that are stored for them and what is asked about a case, and the bytes
+// that they lend to a call.
 #![tactic(auto)]
 
 mod asked;

@@ -1,4 +1,5 @@
-// Printing. std's `println!` would do as well, but reads the number of an error besides, so that a program would assume one function of the C library more.
+// Printing. std's `println!` would do as well, but reads the number of an error besides, so that a program would assume one function of the
+// C library more.
 ghost use Rattle.std.specs.Prelude.{Some};
 ghost use Rattle.told.specs.Texts.{kept_text};
 
