@@ -83,10 +83,13 @@ module _ {f : Form} {d s : ℕ} (z : Sized f) where
 
 -- ---- cells for sums of 32 bits
 
-pub summands_copied : {n : ℕ} {table cells : List ℕ} → Summands (n * n) table cells → Copied (form32 n) n table cells
-summands_copied {n} q = record {
+pub summands_copied : {n : ℕ} {cells : List ℕ} (table : List ℕ) → n * n ≤ length table → Summands (length (take (n * n) table)) (take (n * n) table) cells →
+    Copied (form32 n) n table cells
+summands_copied {n} table long q = record {
   few = omega arith;
-  stands = λ x t hx ht. q.cell (x * n + t) (digits_lt hx ht);
+  stands = λ x t hx ht.
+      let h : x * n + t < n * n = digits_lt hx ht in
+      rw (get_or-take (n * n) table (x * n + t) 0 h) at (q.cell (x * n + t) (omega (arith, h, length-take-le (n * n) table long)));
   rest = λ x t hx ht o. ⊎_elim (λ h. absurd (omega arith)) (λ h. absurd (omega arith)) o;
 }
 

@@ -1,6 +1,6 @@
 // The arcs that cost what their cell says. In a right table no other arc shows a cell: an arc that costs more is not on a cheapest path, and
 // none costs less.
-ghost use Rattle.std.specs.Prelude.{◌≡◌, length, ◌*◌, ◌≤◌, ◌<◌};
+ghost use Rattle.std.specs.Prelude.{length, ◌*◌, ◌≤◌, ◌<◌};
 ghost use Rattle.metric.specs.Fit.{ColumnsWithin};
 ghost use Rattle.table.specs.Rows.{Over, ArcKept, ArcsKept};
 

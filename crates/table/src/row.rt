@@ -1,6 +1,6 @@
 // The test of the copy of a table, row by row, in sums of 16 bits. The sums of a row stay in the registers of the processor, and the loops over
 // columns have 64 turns for every network, so that they go over eight cells at once.
-ghost use Rattle.std.specs.Prelude.{◌≡◌, get_or, set, replicate, ◌≤◌, ◌<◌, min};
+ghost use Rattle.std.specs.Prelude.{◌≡◌, get_or, set, replicate, ◌≤◌, ◌<◌};
 ghost use Rattle.metric.specs.Area.{area_cell};
 ghost use Rattle.table.specs.Sums.{SameCells};
 ghost use Rattle.table.specs.Rows.{Little, LittleRow, SumsLowered, RowTested, RowsTested};

@@ -2,7 +2,7 @@
 //
 // The cells are first copied as summands, numbers that are small enough for the sums. Each arc then lowers one row of the sums. The loops
 // over cells have no branch, and read one array while they write another, so that they go over four cells at once.
-ghost use Rattle.std.specs.Prelude.{◌≡◌, length, get_or, replicate, ◌*◌, ◌≤◌, ◌<◌, min};
+ghost use Rattle.std.specs.Prelude.{◌≡◌, length, replicate, ◌*◌, ◌≤◌, ◌<◌};
 ghost use Rattle.metric.specs.Fit.{ColumnsWithin};
 ghost use Rattle.metric.specs.Columns.{arcs_in};
 ghost use Rattle.table.specs.Sums.{form32, Stands, Summands, Limited, Cleared, RowLowered, LeastSums, Tested};
@@ -30,12 +30,12 @@ fn summand_of(cell: u32) -> u32
     }
 }
 
-// Copies so many cells of the table, as summands.
-fn copy_summands(count: usize, table: &[u32], cells: &mut [u32; 4096])
-    requires { (count ≤ 4096) × (count ≤ length table.now) }
-    ensures { Summands count table.now cells.new }
+// Copies the cells of the table, as summands.
+fn copy_summands(table: &[u32], cells: &mut [u32; 4096])
+    requires { length table.now ≤ 4096 }
+    ensures { Summands (length table.now) table.now cells.new }
 {
-    for i in 0..count {
+    for i in 0..table.len() {
         cells[i] = summand_of(table[i]);
     }
 }
@@ -83,7 +83,7 @@ pub(crate) fn agrees(links: &Links, table: &[u32]) -> bool
 {
     let count = links.routers * links.routers;
     let mut cells = [0u32; 4096];
-    copy_summands(count, table, &mut cells);
+    copy_summands(&table[..count], &mut cells);
     let mut sums = [LIMIT; 4096];
     clear_diagonal(links.routers, &mut sums);
     lower_links(links, &cells, &mut sums);
