@@ -5,7 +5,6 @@
 
 ghost use Rattle.std.specs.Prelude.{◌≡◌, ℕ, ◌≤◌, ◌<◌, true, length};
 ghost use Rattle.lfa.specs.Distance.{towards, unreachable};
-ghost use Rattle.lfa.specs.Network.{router};
 ghost use Rattle.lfa.specs.Space.{set_of};
 ghost use Rattle.metric.specs.Fit.{SlotsWithin, cells_fit};
 ghost use Rattle.metric.specs.Area.{held};

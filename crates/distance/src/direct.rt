@@ -1,6 +1,6 @@
 // The cells before any router may be passed through: 0 from a router to itself, and from one router to another the cost of the
 // cheapest arc. Until the last pass over the cells, `LIMIT` stands for every larger number.
-ghost use Rattle.std.specs.Prelude.{◌≡◌, ◌++◌, ◌≤◌, ◌<◌, min, length};
+ghost use Rattle.std.specs.Prelude.{◌++◌, ◌≤◌, ◌<◌};
 ghost use Rattle.metric.specs.Fit.{ColumnsWithin};
 ghost use Rattle.metric.specs.Columns.{arcs_in};
 ghost use Rattle.distance.specs.Cells.{Cells, Limited, Lowered, self_loops, cheapest, CostsCapped};

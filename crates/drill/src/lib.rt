@@ -2,7 +2,7 @@
 // written by `writer`.
 #![tactic(auto)]
 
-ghost use Rattle.std.specs.Prelude.{◌≡◌, ◌+◌, ◌/◌, ◌%◌, ◌≤◌, ◌<◌};
+ghost use Rattle.std.specs.Prelude.{◌≡◌, ◌+◌, ◌%◌, ◌≤◌, ◌<◌};
 ghost use Rattle.lfa.specs.Ring.{next_on_ring};
 ghost use Rattle.lfa.specs.Drill.{replaced, upper_bits, drill_of, Drilled};
 ghost use Rattle.network_file.specs.Held.{network_held};

@@ -1,5 +1,5 @@
 // The links of an LSA.
-ghost use Rattle.std.specs.Prelude.{◌≡◌, ◌+◌, ◌*◌, ◌≤◌, ◌<◌, length};
+ghost use Rattle.std.specs.Prelude.{◌≡◌, ◌+◌, ◌*◌, ◌≤◌, length};
 ghost use Rattle.lfa.specs.Lists.{every_below};
 ghost use Rattle.ospf.specs.Lsa.{entry, sound_entry, router_field, entry_at, same_neighbour, entry_good, entry_new};
 
