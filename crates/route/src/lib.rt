@@ -2,7 +2,7 @@
 // The network and the refusals are known from the question's prologue, the pair and the distances from the search.
 #![tactic(auto)]
 
-ghost use Rattle.std.specs.Prelude.{◌≡◌, ℕ, ◌<◌, length, Ok};
+ghost use Rattle.std.specs.Prelude.{◌≡◌, ◌<◌, length, Ok};
 ghost use Rattle.lfa.specs.Question.{ask_route, ask_route_with};
 ghost use Rattle.lfa.specs.Contract.{Routed, RoutedWith};
 ghost use Rattle.search.specs.Calls.{protected_of};

@@ -1,5 +1,5 @@
 // The first hops of a repair, as numbers of arcs.
-ghost use Rattle.std.specs.Prelude.{◌≡◌, ◌||◌, ◌<◌, ◌≤◌, eqb, length};
+ghost use Rattle.std.specs.Prelude.{◌≡◌, ◌||◌, ◌<◌, ◌≤◌, eqb};
 ghost use Rattle.avoid.specs.Avoiding.{asked};
 ghost use Rattle.arcs.specs.Arcs.{leaves_near};
 ghost use Rattle.search.specs.Hops.{Put, Listed};

@@ -1,5 +1,5 @@
 // The three spaces, by the numbers that a table of distances holds.
-ghost use Rattle.std.specs.Prelude.{◌≡◌, List, [], ℕ, ◌≤◌, ◌<◌, length};
+ghost use Rattle.std.specs.Prelude.{◌≡◌, List, [], ℕ, length};
 ghost use Rattle.lfa.specs.Space.{q_space};
 ghost use Rattle.avoid.specs.Avoiding.{asked};
 ghost use Rattle.search.specs.Hops.{hops_in};

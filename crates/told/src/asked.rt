@@ -1,5 +1,5 @@
 // What is asked about a network: everything about a small one, and about a large one the questions of four links and of every 16th prefix.
-ghost use Rattle.std.specs.Prelude.{◌≡◌, ◌↔◌, ◌≤◌, ◌+◌, ◌*◌, Some, IsTrue};
+ghost use Rattle.std.specs.Prelude.{◌≡◌, ◌↔◌, Some, IsTrue};
 ghost use Rattle.told.specs.Texts.{end_text};
 ghost use Rattle.told.specs.Asked.{few, asked_links, asked_link, IsAsked};
 
