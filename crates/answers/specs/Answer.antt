@@ -5,8 +5,8 @@ use Rattle.lfa.specs.Answer.{Answer, done, untouched, unreached, set, repair}
 use Rattle.order.specs.Order.{told_in}
 use Rattle.question.specs.Turning.{refusal_answer}
 use Rattle.question.specs.declared.Refusal.{Refusal}
-use Rattle.answers.specs.declared.Repair.{Repair}
-use Rattle.answers.specs.declared.Repair.TheVariants.{Unreachable, Untouched, Pair}
+use Rattle.search.specs.declared.Repair.{Repair}
+use Rattle.search.specs.declared.Repair.TheVariants.{Unreachable, Untouched, Pair}
 
 unfoldable pub filled_answer : Result ⊤ Refusal → Answer
 filled_answer (Ok filled) = done

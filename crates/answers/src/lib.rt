@@ -9,15 +9,7 @@ ghost use Rattle.answers.specs.Answer.{repair_of};
 
 use order::Pair;
 use question::Refusal;
-use search::Found;
-
-// The answer of a repair call that nothing turns away.
-#[derive(Clone, Copy)]
-pub enum Repair {
-    Unreachable,
-    Untouched,
-    Pair(Pair),
-}
+pub use search::Repair;
 
 // The answer of a repair call for a link: row 14 where no pair serves.
 #[tactic(auto, unfolding(crate::specs::Answer::repair_of, question::specs::Turning::refusal_answer, question::specs::Turning::row_of, lfa::specs::Answer::refusal, lfa::specs::Answer::repair_answer))]
@@ -32,15 +24,10 @@ pub fn link_answer(found: Option<Pair>) -> Result<Repair, Refusal>
 
 // The answer of a repair call for a prefix: row 14 where nothing was found.
 #[tactic(auto, unfolding(crate::specs::Answer::repair_of, question::specs::Turning::refusal_answer, question::specs::Turning::row_of, lfa::specs::Answer::refusal, lfa::specs::Answer::repair_answer))]
-pub fn repair_answer(found: Option<Found>) -> Result<Repair, Refusal>
+pub fn repair_answer(found: Option<Repair>) -> Result<Repair, Refusal>
     ensures { repair_of result ≡ repair_answer (outcome_in found) }
 {
-    match found {
-        Some(Found::Unreachable) => Ok(Repair::Unreachable),
-        Some(Found::Untouched) => Ok(Repair::Untouched),
-        Some(Found::Pair(pair)) => Ok(Repair::Pair(pair)),
-        None => Err(Refusal::NoPair),
-    }
+    found.ok_or(Refusal::NoPair)
 }
 
 // The number of routers in a set.

@@ -17,8 +17,8 @@ use Rattle.question.specs.declared.Refusal.{Refusal}
 use Rattle.question.specs.Turning.{row_of, refusal_answer}
 use Rattle.answers.specs.Answer.{repair_of}
 use Rattle.order.specs.declared.Pair.{Pair}
-use Rattle.answers.specs.declared.Repair.{Repair}
-use Rattle.answers.specs.declared.Repair.TheVariants as answer
+use Rattle.search.specs.declared.Repair.{Repair}
+use Rattle.search.specs.declared.Repair.TheVariants as answer
 use Rattle.route.specs.Answer.{passed_on}
 
 -- ---- answers

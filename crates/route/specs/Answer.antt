@@ -4,8 +4,8 @@ use Rattle.std.specs.Prelude.{Result, Ok, Err}
 use Rattle.lfa.specs.Answer.{Answer, untouched, unreached, played}
 use Rattle.question.specs.declared.Refusal.{Refusal}
 use Rattle.question.specs.Turning.{refusal_answer}
-use Rattle.answers.specs.declared.Repair.{Repair}
-use Rattle.answers.specs.declared.Repair.TheVariants as repair
+use Rattle.search.specs.declared.Repair.{Repair}
+use Rattle.search.specs.declared.Repair.TheVariants as repair
 use Rattle.route.specs.declared.Played.{Played}
 use Rattle.route.specs.declared.Played.TheVariants.{Unreachable, Untouched, Written}
 

@@ -16,8 +16,8 @@ use Rattle.order.specs.declared.Ordered.{Ordered}
 use Rattle.order.specs.Order.{told_in, earlier_of, class_by}
 use Rattle.avoid.specs.Calls.{missing_from}
 use Rattle.steps.specs.declared.Onward.{Onward}
-use Rattle.search.specs.declared.Found.{Found}
-use Rattle.search.specs.declared.Found.TheVariants.{Unreachable, Untouched, Pair}
+use Rattle.search.specs.declared.Repair.{Repair}
+use Rattle.search.specs.declared.Repair.TheVariants.{Unreachable, Untouched, Pair}
 use Rattle.search.specs.Spaces.{avoided_from, space_for}
 
 -- ---- what is answered
@@ -33,7 +33,7 @@ outcome_of_pair None = none_serves
 outcome_of_pair (Some p) = serving (told_in p)
 
 -- the outcome of each case of what is found for a prefix
-abbrev pub outcome_in : code.Option Found → Outcome
+abbrev pub outcome_in : code.Option Repair → Outcome
 outcome_in None = none_serves
 outcome_in (Some Unreachable) = prefix_unreachable
 outcome_in (Some Untouched) = prefix_untouched

@@ -31,9 +31,9 @@ pub enum Which {
     Q,
 }
 
-// What a search for a prefix found: that it is unreachable or untouched, or the pair that repairs the traffic to it.
+// What a search for a prefix finds, and what a repair call answers: unreachable, untouched, or the pair that repairs the traffic.
 #[derive(Clone, Copy)]
-pub enum Found {
+pub enum Repair {
     Unreachable,
     Untouched,
     Pair(Pair),
@@ -84,7 +84,7 @@ pub fn prefix_pair(
     end: usize,
     prefix: usize,
     table: &[u32],
-) -> Option<Found>
+) -> Option<Repair>
     ensures { outcome_in result ≡ prefix_by network.now ranks.now link end prefix table.now }
 {
     if 128 <= prefix {

@@ -13,7 +13,7 @@ ghost use Rattle.search.specs.Spaces.{SetsOf};
 ghost use Rattle.search.specs.Choice.{outcome_in, outcome_of_pair, first_of, FirstEnd, KeysOf, KeyOf, ordered_at, may_end, hop_pairs, pairs_tried, first_serving};
 ghost use Rattle.search.specs.Calls.{searchable, pair_for, link_if, prefix_if, hops_of};
 
-use crate::Found;
+use crate::Repair;
 use crate::hops::{FirstHops, first_hops};
 use crate::space::{can_search, reached};
 use arcs::{Hop, hop_of};
@@ -259,7 +259,7 @@ pub(crate) fn prefix_found(
     area: &Area<'_>,
     target: &[u32; 64],
     ends: u64,
-) -> Option<Found>
+) -> Option<Repair>
     ensures { outcome_in result ≡ prefix_if ranks.now (searchable area.now.n links.now.links (asked protected) (length area.now.cells.now)) area.now.n
         (hops_of links.now) (asked protected) area.now.cells.now ends target.now
         (onward_by_steps links.now.routers links.now.links links.now.from links.now.to links.now.out links.now.back (asked protected) ends target.now) }
@@ -268,10 +268,10 @@ pub(crate) fn prefix_found(
         return None;
     }
     if Distance::UNREACHABLE <= target[protected.near] {
-        return Some(Found::Unreachable);
+        return Some(Repair::Unreachable);
     }
     if !steps_over(protected, ends, target) {
-        return Some(Found::Untouched);
+        return Some(Repair::Untouched);
     }
     let onward = onward_by_steps(links, protected, ends, target);
     let sought = Sought {
@@ -283,5 +283,5 @@ pub(crate) fn prefix_found(
         target,
     };
     let pair = sought.pair_found(onward)?;
-    Some(Found::Pair(pair))
+    Some(Repair::Pair(pair))
 }

@@ -4,8 +4,8 @@ use Rattle.std.specs.Prelude.{ℕ, List, ◌∷◌, ◌++◌, codes}
 use Rattle.std.specs.Fmt.{decimal}
 use Rattle.order.specs.declared.Pair.{Pair}
 use Rattle.refusal.specs.declared.Row.{Row}
-use Rattle.answers.specs.declared.Repair.{Repair}
-use Rattle.answers.specs.declared.Repair.TheVariants.{Unreachable, Untouched, Pair as Repaired}
+use Rattle.search.specs.declared.Repair.{Repair}
+use Rattle.search.specs.declared.Repair.TheVariants.{Unreachable, Untouched, Pair as Repaired}
 use Rattle.route.specs.declared.Played.{Played}
 use Rattle.route.specs.declared.Played.TheVariants.{Unreachable as Unreached, Untouched as Unaltered, Written}
 

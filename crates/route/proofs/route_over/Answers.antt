@@ -5,7 +5,7 @@ use Rattle.lfa.specs.Answer.{played}
 use Rattle.lfa.specs.Answer as lfa
 use Rattle.lfa.proofs.Laws.Asked.{answer_chosen}
 use Rattle.answers.specs.Answer.{repair_of}
-use Rattle.answers.specs.declared.Repair.{Repair}
+use Rattle.search.specs.declared.Repair.{Repair}
 use Rattle.question.proofs.QuestionLaws.{err_is}
 use Rattle.route.specs.Answer.{played_of, passed_on}
 use Rattle.route.specs.Put.{route_question}
