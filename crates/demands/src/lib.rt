@@ -14,7 +14,13 @@ use question::Refusal;
 
 // The link repair question, and what demand 3 says of its answer.
 #[tactic(auto, using(crate::specs::Demand::answer_meets))]
-pub fn link_demand(file: &[u8], work: &mut [u32], ranks: &[u8], link: usize, end: usize) -> Result<Repair, Refusal>
+pub fn link_demand(
+    file: &[u8],
+    work: &mut [u32],
+    ranks: &[u8],
+    link: usize,
+    end: usize,
+) -> Result<Repair, Refusal>
     ensures { MeetsDemand3 (ask_link file.now (length work.old) ranks.now link end) (repair_of result)
         × Answered (ask_link file.now (length work.old) ranks.now link end) (repair_of result) work.old work.new }
 {
@@ -23,7 +29,13 @@ pub fn link_demand(file: &[u8], work: &mut [u32], ranks: &[u8], link: usize, end
 
 // The same with a lent table of distances.
 #[tactic(auto, using(crate::specs::Demand::answer_meets))]
-pub fn link_demand_with(file: &[u8], table: &[u32], ranks: &[u8], link: usize, end: usize) -> Result<Repair, Refusal>
+pub fn link_demand_with(
+    file: &[u8],
+    table: &[u32],
+    ranks: &[u8],
+    link: usize,
+    end: usize,
+) -> Result<Repair, Refusal>
     ensures { MeetsDemand3 (ask_link_with file.now table.now ranks.now link end) (repair_of result)
         × (repair_of result ≡ answer_to (ask_link_with file.now table.now ranks.now link end)) }
 {

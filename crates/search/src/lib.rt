@@ -23,7 +23,7 @@ mod pair;
 mod protected;
 mod space;
 
-// One of the three spaces.
+// One of the three spaces: it names what is asked for.
 #[derive(Clone, Copy)]
 pub enum Which {
     P,
