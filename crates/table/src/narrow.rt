@@ -33,7 +33,7 @@ fn narrow_cell(cell: u32) -> u16
     (cut as i16) as u16
 }
 
-// Copies one row of the table.
+// Copies one row of the table. By places and not by parts of both: `RowCopied` says the cells before and after the row too.
 fn copy_row(n: usize, by: usize, at: usize, table: &[u32], cells: &mut [u16; 4096])
     requires { (by + n ≤ length table.now) × (at + n ≤ 4096) × ((t : ℕ) → t < n → get_or table.now (by + t) 0 ≤ 8191) }
     ensures { RowCopied n by at table.now cells.old cells.new }

@@ -50,7 +50,8 @@ fn clear_diagonal(n: usize, sums: &mut [u32; 4096])
     }
 }
 
-// Lowers row a of the sums to the cost of an arc from a to b plus row b of the cells.
+// Lowers row a of the sums to the cost of an arc from a to b plus row b of the cells. By places, as `RowLowered` says it, which tells of the other
+// rows too.
 fn lower(n: usize, a: usize, b: usize, cost: u16, cells: &[u32; 4096], sums: &mut [u32; 4096])
     requires { (a < n) × (b < n) × Limited (form32 n) cells.now × Limited (form32 n) sums.old }
     ensures { (cost ≤ 65535) × RowLowered (form32 n) a b cost n cells.now sums.old sums.new }
