@@ -7,7 +7,7 @@ use told::run_cases;
 
 mod asking;
 mod made;
-mod steps;
+mod mending;
 mod tables;
 
 fn main() {

@@ -1,7 +1,7 @@
 // What the second calls answer for a file. The route buffer holds 255 in every byte before a call.
 use super::asking::{print_end, print_lent, print_link, sum_end};
 use super::made::{length_of, make};
-use super::steps::print_steps;
+use super::mending::print_steps;
 use network_file::load;
 use network_file::network::Network;
 use told::{ASCENDING, Asked, End, cells_of, print};
