@@ -1,1 +1,3 @@
 pub mod FirstBad
+pub mod FirstOr
+pub mod Laws
