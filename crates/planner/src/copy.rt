@@ -8,6 +8,10 @@ pub(crate) fn copy_part(part: &[u8], entry: &mut [u8; 34]) -> usize
     ensures { (result ≡ length part.now) × (entry.new ≡ copied_to entry.old part.now) }
 {
     let n = part.len();
-    entry[..n].copy_from_slice(part);
+    // Byte by byte: an archive for C shall need no more of the C library than `memcpy` and `memset`, and `copy_from_slice` becomes a call of
+    // `memmove` here.
+    for i in 0..n {
+        entry[i] = part[i];
+    }
     n
 }
