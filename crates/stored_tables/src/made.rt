@@ -30,14 +30,11 @@ fn moved(cells: &[u32], i: usize, place: usize, number: u32) -> u32 {
     }
 }
 
-// The cell in the place of cell i when the rows and columns of n cells are exchanged.
+// The cell in the place of cell i when the rows and columns of n cells are exchanged. A place past the largest number has no cell.
 fn turned(cells: &[u32], i: usize, n: usize) -> u32
     requires { 0 < n }
 {
-    match cells.chunks(n).nth(i % n) {
-        Some(row) => at(row, i / n),
-        None => 0,
-    }
+    at(cells, (i % n).saturating_mul(n).saturating_add(i / n))
 }
 
 // Unreachable, but 0 from a router to itself, where row and column are the same.
