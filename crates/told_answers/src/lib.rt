@@ -1,7 +1,9 @@
 // The answers of the calls as texts, for the programs that print them, and as one number.
 #![tactic(auto)]
 
-ghost use Rattle.std.specs.Prelude.{Some};
+ghost use Rattle.std.specs.Prelude.{◌≡◌, ℕ, Some};
+ghost use Rattle.lfa.specs.Answer.{Answer};
+ghost use Rattle.told_answers.specs.Codes.{GivesCodes, code_of};
 ghost use Rattle.told_answers.specs.Texts.{row_text, pair_text, repair_text, set_text, played_text};
 
 use answers::Repair;
@@ -119,6 +121,7 @@ pub fn print_route(answer: Result<Played, Refusal>, buffer: &[u8]) {
 // A `usize` goes into a `u64` by `as`, since no `From` does that.
 pub fn code<F: FnOnce(Row) -> u64>(answer: Result<Repair, Refusal>, refusal_code: F) -> u64
     requires { F.IsAlwaysCallable refusal_code }
+    ensures { (told : Answer → ℕ) → GivesCodes (F.post refusal_code) told → result ≡ code_of told answer }
 {
     match answer {
         Err(refusal) => refusal_code(question_row(refusal)),
