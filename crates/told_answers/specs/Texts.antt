@@ -1,8 +1,11 @@
 -- The texts of answers, as bytes.
 -- Assumes nothing.
-use Rattle.std.specs.Prelude.{ℕ, List, ◌∷◌, ◌++◌, codes}
+use Rattle.std.specs.Prelude.{ℕ, List, [], ◌∷◌, ◌++◌, codes, Option, Some, Result, Ok, Err}
 use Rattle.std.specs.Fmt.{decimal}
+use Rattle.lfa.specs.Answer.{Answer, refused}
 use Rattle.order.specs.declared.Pair.{Pair}
+use Rattle.question.specs.Turning.{refusal_answer}
+use Rattle.question.specs.declared.Refusal.{Refusal}
 use Rattle.refusal.specs.declared.Row.{Row}
 use Rattle.search.specs.declared.Repair.{Repair}
 use Rattle.search.specs.declared.Repair.TheVariants.{Unreachable, Untouched, Pair as Repaired}
@@ -12,6 +15,16 @@ use Rattle.route.specs.declared.Played.TheVariants.{Unreachable as Unreached, Un
 -- a refusal: its number, and its value
 abbrev pub row_text : Row → List ℕ
 row_text row = codes "refused " ++ (decimal row.number ++ (32 ∷ decimal row.value))
+
+-- the same of an answer in document 01's numbers, where it is a refusal
+abbrev pub refused_text : Answer → List ℕ
+refused_text (refused number value) = codes "refused " ++ (decimal number ++ (32 ∷ decimal value))
+refused_text _ = []
+
+-- an answer: a refusal, or what is told, which has a text by `text`
+abbrev pub answer_text : {T : Type 0} → (T → Option (List ℕ)) → Result T Refusal → Option (List ℕ)
+answer_text text (Ok told) = text told
+answer_text text (Err refusal) = Some (refused_text (refusal_answer refusal))
 
 -- the fields of a pair
 abbrev pub pair_text : Pair → List ℕ

@@ -4,7 +4,7 @@
 ghost use Rattle.std.specs.Prelude.{◌≡◌, ℕ, Some};
 ghost use Rattle.lfa.specs.Answer.{Answer};
 ghost use Rattle.told_answers.specs.Codes.{GivesCodes, code_of};
-ghost use Rattle.told_answers.specs.Texts.{row_text, pair_text, repair_text, set_text, played_text};
+ghost use Rattle.told_answers.specs.Texts.{row_text, answer_text, pair_text, repair_text, set_text, played_text};
 
 use answers::Repair;
 use order::Pair;
@@ -93,15 +93,28 @@ impl Display for Route {
     }
 }
 
-// Prints an answer after a space: a refusal, or what is told.
-pub fn print_answer<T: Display + Drop>(answer: Result<T, Refusal>) {
-    match answer {
-        Ok(told) => print(format_args!(" {told}")),
-        Err(refusal) => {
-            let refused = Refused(question_row(refusal));
-            print(format_args!(" {refused}"));
+// An answer: a refusal, or what is told.
+#[derive(Clone, Copy, Drop)]
+pub struct Answered<T>(pub Result<T, Refusal>);
+
+impl<T: Display> Display for Answered<T> {
+    ghost output = { λ x. answer_text T.output x.0 };
+
+    fn fmt<W: Write>(&self, f: &mut fmt::Formatter<W>) -> fmt::Result {
+        match &self.0 {
+            Ok(told) => write!(f, "{told}"),
+            Err(refusal) => {
+                let refused = Refused(question_row(*refusal));
+                write!(f, "{refused}")
+            }
         }
     }
+}
+
+// Prints an answer after a space.
+pub fn print_answer<T: Display + Drop>(answer: Result<T, Refusal>) {
+    let answer = Answered(answer);
+    print(format_args!(" {answer}"));
 }
 
 // Prints the answer of a call for a route after a space, the routers that it wrote, and whether every later byte of the route buffer still holds 255.
