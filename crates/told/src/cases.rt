@@ -20,7 +20,8 @@ fn next_case(file: &mut [u8; 8192]) -> Option<usize>
     Some(io::read_full(0, &mut file[..length]))
 }
 
-// Prints the number of each case, and what `print_answers` prints of its file. There are at most a thousand.
+// Prints the number of each case, and what `print_answers` prints of its file. There are at most a thousand. What is read and printed no
+// clause can say.
 pub fn run_cases<F: Fn(&[u8])>(print_answers: F)
     requires { F.IsAlwaysCallable print_answers }
 {

@@ -17,13 +17,13 @@ impl fmt::Write for Output {
     }
 }
 
-// Prints a text.
+// Prints a text. That it is printed no clause can say; what its bytes are, the `output` of its type says.
 pub fn print<D: Display + Drop>(text: D) {
     let mut output = Output;
     let _ = output.write(text);
 }
 
-// Prints each item after a space.
+// Prints each item after a space. That they are printed no clause can say.
 pub fn print_each<T: Display>(items: &[T]) {
     for item in items {
         print(format_args!(" {item}"));

@@ -1,7 +1,8 @@
 -- The texts of answers, as bytes.
 -- Assumes nothing.
-use Rattle.std.specs.Prelude.{ℕ, List, [], ◌∷◌, ◌++◌, codes, Option, Some, Result, Ok, Err}
+use Rattle.std.specs.Prelude.{ℕ, List, [], ◌∷◌, ◌++◌, codes, flat_map, length, take, drop, min, ◌==◌, Option, Some, Result, Ok, Err}
 use Rattle.std.specs.Fmt.{decimal}
+use Rattle.std.specs.List.{list_all}
 use Rattle.lfa.specs.Answer.{Answer, refused}
 use Rattle.order.specs.declared.Pair.{Pair}
 use Rattle.question.specs.Turning.{refusal_answer}
@@ -11,6 +12,7 @@ use Rattle.search.specs.declared.Repair.{Repair}
 use Rattle.search.specs.declared.Repair.TheVariants.{Unreachable, Untouched, Pair as Repaired}
 use Rattle.route.specs.declared.Played.{Played}
 use Rattle.route.specs.declared.Played.TheVariants.{Unreachable as Unreached, Untouched as Unaltered, Written}
+use Rattle.told.specs.Texts.{kept_text}
 
 -- a refusal: its number, and its value
 abbrev pub row_text : Row → List ℕ
@@ -45,3 +47,22 @@ abbrev pub played_text : Played → List ℕ
 played_text Unreached = codes "unreachable"
 played_text Unaltered = codes "untouched"
 played_text (Written count) = codes "count " ++ (decimal count ++ codes " route")
+
+-- routers, each after a space
+abbrev pub routers_text : List ℕ → List ℕ
+routers_text routers = flat_map (λ r. 32 ∷ decimal r) routers
+
+-- how many of the bytes of a route buffer a call for a route wrote
+abbrev pub written_of : Result Played Refusal → List ℕ → ℕ
+written_of (Ok (Written count)) buffer = min count (length buffer)
+written_of _ buffer = 0
+
+-- an answer of a call for a route
+abbrev pub route_text : Result Played Refusal → List ℕ
+route_text (Ok played) = played_text played
+route_text (Err refusal) = refused_text (refusal_answer refusal)
+
+-- the same, the routers that were written, and whether every later byte of the route buffer still holds 255
+abbrev pub routed_text : Result Played Refusal → List ℕ → List ℕ
+routed_text answer buffer =
+    route_text answer ++ (routers_text (take (written_of answer buffer) buffer) ++ (32 ∷ kept_text (list_all (λ b. b == 255) (drop (written_of answer buffer) buffer))))

@@ -4,7 +4,7 @@
 ghost use Rattle.std.specs.Prelude.{◌≡◌, ℕ, Some};
 ghost use Rattle.lfa.specs.Answer.{Answer};
 ghost use Rattle.told_answers.specs.Codes.{GivesCodes, code_of};
-ghost use Rattle.told_answers.specs.Texts.{row_text, answer_text, pair_text, repair_text, set_text, played_text};
+ghost use Rattle.told_answers.specs.Texts.{row_text, answer_text, pair_text, repair_text, set_text, played_text, routers_text, routed_text};
 
 use answers::Repair;
 use order::Pair;
@@ -13,7 +13,7 @@ use refusal::{Row, question_row};
 use route::Played;
 use std::fmt;
 use std::fmt::{Display, Write};
-use told::{Kept, all_hold, print, print_each};
+use told::{Kept, all_hold, print};
 
 // A refusal: the number of the row that applies, and the value that it returns.
 #[derive(Clone, Copy, Drop)]
@@ -94,8 +94,8 @@ impl Display for Route {
 }
 
 // An answer: a refusal, or what is told.
-#[derive(Clone, Copy, Drop)]
-pub struct Answered<T>(pub Result<T, Refusal>);
+#[derive(Drop)]
+struct Answered<T>(Result<T, Refusal>);
 
 impl<T: Display> Display for Answered<T> {
     ghost output = { λ x. answer_text T.output x.0 };
@@ -111,23 +111,55 @@ impl<T: Display> Display for Answered<T> {
     }
 }
 
-// Prints an answer after a space.
+// Prints an answer after a space. That it is printed no clause can say; its text is that of `Answered`.
 pub fn print_answer<T: Display + Drop>(answer: Result<T, Refusal>) {
     let answer = Answered(answer);
     print(format_args!(" {answer}"));
 }
 
-// Prints the answer of a call for a route after a space, the routers that it wrote, and whether every later byte of the route buffer still holds 255.
+// Routers, each after a space.
+#[derive(Drop)]
+struct Routers<'a>(&'a [u8]);
+
+impl Display for Routers<'_> {
+    ghost output = { λ x. Some (routers_text x.0.now) };
+
+    fn fmt<W: Write>(&self, f: &mut fmt::Formatter<W>) -> fmt::Result {
+        for router in self.0 {
+            write!(f, " {router}")?;
+        }
+        Ok(())
+    }
+}
+
+// The answer of a call for a route and what it left in the route buffer: the routers that it wrote, and whether every later byte still holds 255.
+#[derive(Drop)]
+struct Routed<'a> {
+    answer: Result<Played, Refusal>,
+    buffer: &'a [u8],
+}
+
+impl Display for Routed<'_> {
+    ghost output = { λ x. Some (routed_text x.answer x.buffer.now) };
+
+    fn fmt<W: Write>(&self, f: &mut fmt::Formatter<W>) -> fmt::Result {
+        let count = match self.answer {
+            Ok(Played::Written(count)) => count.min(self.buffer.len()),
+            _ => 0,
+        };
+        let (routers, later) = self.buffer.split_at(count);
+        let answer = Answered(self.answer.map(Route));
+        let routers = Routers(routers);
+        let kept = Kept(all_hold(later, &255));
+        write!(f, "{answer}{routers} {kept}")
+    }
+}
+
+// Prints the answer of a call for a route and what it left in the route buffer, after a space. That it is printed no clause can say; its text is
+// that of `Routed`.
 pub fn print_route(answer: Result<Played, Refusal>, buffer: &[u8]) {
-    let count = match answer {
-        Ok(Played::Written(count)) => count.min(buffer.len()),
-        _ => 0,
-    };
-    print_answer(answer.map(Route));
-    let (routers, later) = buffer.split_at(count);
-    print_each(routers);
-    let kept = Kept(all_hold(later, &255));
-    print(format_args!(" {kept}"));
+    let routed = Routed { answer, buffer };
+    print(format_args!(" {routed}"));
 }
 
 // The answer of a call for a repair as one number, another one for another answer. The lowest two bits are 0 for a refusal, whose code is told.
